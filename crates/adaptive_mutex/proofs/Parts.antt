@@ -59,7 +59,7 @@ module _ (floor : Description) (p q : Pass Knowledge) (m : IsInRelease floor p) 
     mode = m.mode;
     at = s.to;
     call = s.call;
-    there = record { covered = m.there.covered; there = s.on.there };
+    there = s.there;
   }
 
   pub wakes_still : (t : ℕ) → WakesOne floor m.l m.mode m.at t p q → IsInRelease floor q
@@ -68,7 +68,7 @@ module _ (floor : Description) (p q : Pass Knowledge) (m : IsInRelease floor p) 
     mode = m.mode;
     at = Wakes;
     call = s.call;
-    there = record { covered = m.there.covered; there = s.there };
+    there = s.there;
   }
 
   pub release_goes_on : (next : Next) → (next ≡ Done → ⊥)

@@ -6,7 +6,7 @@ use Rattle.lock_model.specs.Config.{Config}
 use Rattle.lock_model.specs.Counts.{one, at_option, sum_below}
 use Rattle.lock_model.specs.Queues.{Mark}
 use Rattle.lock_model.specs.declared.plan.QueueName.{QueueName}
-use Rattle.lock_state.specs.State.{State, Wait, Running, Queued, Woken, is_finder}
+use Rattle.lock_state.specs.State.{State, Wait, Running, Queued, Woken, Phase, Awake, Asleep, Last, Halting, Aborting, SelfAborted, is_finder}
 use Rattle.lock_state.specs.Steps.LockWords.{is_woken}
 use Rattle.lock_state.specs.Steps.Counting.{IsFirst}
 use Rattle.lock_state.specs.Facts.{Lawful, StandsOnce, StandingIsQueued, Counted, TermsFitParking, CountedInIsNextMarked, RestingHasNoMarks, RestingStands, FinderIsAlone}
@@ -17,7 +17,7 @@ use Rattle.lock_laws.proofs.Kit.{sum_below-zero, is_queue_same, at_option_one}
 use Rattle.lock_laws.proofs.Standing.{marked_named}
 use Rattle.lock_laws.proofs.Sums.{sum_below-single, zero_unless}
 use Rattle.count_laws.specs.Standing.{StandsOnQueue}
-use Rattle.count_laws.proofs.Countings.{finder_rests}
+use Rattle.count_laws.proofs.Countings.{finder_rests, term, awake_sum}
 
 module _ (c : Config) (s : State) (l : Lawful c s) (h : Counted c s) (f : ℕ) (e : is_finder (s.phase f) ≡ true) where
   -- while there is a finder, nobody is in a marked list
@@ -112,3 +112,26 @@ module _ (c : Config) (s : State) (l : Lawful c s) (h : Counted c s) (t : ℕ) w
       s.wait s.counting t
   unfolding TermsFitParking
   term_is = h.terms_fit_parking t
+
+-- so no more than two for each thread are awake
+own_few : (p : Phase) → own_term p ≤ 1
+own_few Awake = omega arith
+own_few Asleep = omega arith
+own_few Last = omega arith
+own_few Halting = omega arith
+own_few Aborting = omega arith
+own_few SelfAborted = omega arith
+
+sum_below-few : (n : ℕ) (f : ℕ → ℕ) → ((t : ℕ) → f t ≤ 2) → sum_below n f ≤ n + n
+unfolding sum_below
+sum_below-few zero f few = omega arith
+sum_below-few (suc n) f few = omega (arith, sum_below-few n f few, few n)
+
+pub few_awake : (c : Config) (s : State) → Lawful c s → Counted c s → s.awake ≤ c.threads + c.threads
+few_awake c s l h =
+    omega (
+      arith,
+      awake_sum c s h,
+      sum_below-few c.threads (term c s h)
+          (λ t. omega (arith, own_few (s.phase t), one_wake c s l h t)),
+    )

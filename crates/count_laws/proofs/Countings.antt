@@ -89,7 +89,7 @@ module _ (c : Config) (s : State) (t : ℕ) (g : MayCountOut c s t)
   abbrev n : State
   n = after_count_out s t
 
-  some_awake : 1 ≤ s.awake
+  pub some_awake : 1 ≤ s.awake
   some_awake =
       let a = sum_below-at c.threads (term c s h) t g.thread in
       omega (arith, awake_sum c s h, own_term_of c s t g)

@@ -53,13 +53,13 @@ not_let_yet Shared found e = go (is_drop (word_of found)) e
 -- at its end it holds nothing
 holds_none : (floor : Description) (l : LockNo) (mode : Mode) (at : ReleaseAt) (old new : Knowledge) → l ≡ the_mutex
     → ReleaseEnd floor l mode at old new → HoldsIt at old → new.share.held ≡ []
-holds_none floor l mode at old new is_m (puts_down seen shared freed step) was =
+holds_none floor l mode at old new is_m (puts_down seen freed step) was =
     freed ∙ ap (λ (k : LockNo). without_lock k.0 old.share.held) is_m ∙ was.alone
 holds_none floor l mode at old new is_m (nobody_left nobody) was = was.gone refl
 
 holds_on : (floor : Description) (l : LockNo) (mode : Mode) (at to : ReleaseAt) (old new : Knowledge) → l ≡ the_mutex
     → ReleaseLeg floor l mode at to old new → HoldsIt at old → HoldsIt to new
-holds_on floor l mode at to old new is_m (misses seen found other shared same saw step) was = record {
+holds_on floor l mode at to old new is_m (misses seen found other same saw step) was = record {
   alone = ap (without_lock 0) same ∙ was.alone;
   gone = λ e. absurd (not_let_yet mode found e);
 }
@@ -220,7 +220,7 @@ module _ (f : Floor Description) (p q : Pass Knowledge) (own : IsOf f q) where
           mode = m.mode;
           at = s.to;
           call = s.call;
-          there = record { covered = m.there.covered; there = s.on.there };
+          there = s.there;
         };
         lock = was.lock;
         alone = holds.alone;
@@ -233,10 +233,10 @@ module _ (f : Floor Description) (p q : Pass Knowledge) (own : IsOf f q) where
       → Knows f (behind next Releases Rests) q
   release_goes_on Done was went =
       let m = was.under_way in
-      let end = (went m.l m.mode m.at m.call).released in
+      let end = went m.l m.mode m.at m.call in
       record {
         ready = record { own = own; rest = end.rest };
-        unheld = holds_none f.description m.l m.mode m.at p.view q.view was.lock end.end
+        unheld = holds_none f.description m.l m.mode m.at p.view q.view was.lock end.released.end
             (record { alone = was.alone; gone = was.gone });
       }
   release_goes_on Again was went =
@@ -247,7 +247,7 @@ module _ (f : Floor Description) (p q : Pass Knowledge) (own : IsOf f q) where
       let m = was.under_way in
       let one = went m.l m.mode m.at m.call in
       let none : q.view.share.held ≡ [] =
-      ap (λ (k : Knowledge). k.share.held) one.wakes.view ∙ was.gone one.at_end in
+      ap (λ (k : Knowledge). k.share.held) one.woken.wakes.view ∙ was.gone one.woken.at_end in
       record {
         own = own;
         under_way = record {
@@ -255,7 +255,7 @@ module _ (f : Floor Description) (p q : Pass Knowledge) (own : IsOf f q) where
           mode = m.mode;
           at = Wakes;
           call = one.call;
-          there = record { covered = m.there.covered; there = one.there };
+          there = one.there;
         };
         lock = was.lock;
         alone = ap (without_lock 0) none;

@@ -2,4 +2,6 @@ pub mod Operating
 pub mod Cutting
 pub mod Merging
 pub mod Running
+pub mod Ordered
+pub mod Histories
 pub mod Crossing

@@ -1,6 +1,5 @@
 -- What a run leaves, by what its workers leave.
-use Rattle.std.proofs.Common.{◌≡◌, ◌≢◌, ℕ, zero, suc, ◌+◌, ◌<◌, ◌≤◌, true, false, ◌||◌, eqb, List, [], ◌∷◌, ◌++◌, length, map, get_or, take, drop, reverse, slice_get, None, option_map, refl, sym, ap, subst, ◌∙◌, arith, inl, inr}
-use Rattle.std.specs.Prelude.{unwrap_or}
+use Rattle.std.proofs.Common.{◌≡◌, ◌≢◌, ℕ, zero, suc, ◌+◌, ◌<◌, ◌≤◌, true, false, ◌||◌, eqb, List, [], ◌∷◌, ◌++◌, length, map, get_or, take, drop, reverse, refl, sym, ap, subst, ◌∙◌, arith, inl, inr}
 use Rattle.std.specs.FinMap.{entries}
 use Rattle.std.specs.List.{range_with_len, list_any}
 use Rattle.std.specs.declared.alloc.Global.{Global}
@@ -9,10 +8,12 @@ use Rattle.std.proofs.lemmas.Bool.{cases_lt, ne_eqb}
 use Rattle.std.proofs.lemmas.List.{append-nil, take_all, drop_all, reverse-reverse, get_or-map, length-map, map-id}
 use Rattle.std.proofs.lemmas.List.FromFn.{length-map-range_with_len, get_or-map-range_with_len}
 use Rattle.std.proofs.lemmas.List.Sorted.{IsPermutation-reverse, list_any-IsPermutation}
-use Rattle.std.proofs.lemmas.Option.{slice_get-map}
+use Rattle.lock_model.specs.BusyWords.{BusyIsExplained}
 use Rattle.lock_model.specs.Counts.{one, times}
+use Rattle.lock_model.specs.Halts.{HaltsAreHonest}
 use Rattle.lock_model.specs.History.{base_in, entries_of, tables_of}
-use Rattle.lock_model.specs.Law.{LeadsTo, Before, is_halt, IsLegalSoFar, IsLegal, FollowsOperations, EntriesFollowOperations}
+use Rattle.lock_model.specs.Law.{LeadsTo, Before, is_halt, FollowsOperations, EntriesFollowOperations}
+use Rattle.lock_model.specs.Legal.{IsLegalSoFar, IsLegal}
 use Rattle.lock_model.specs.Law as law
 use Rattle.lock_model.specs.Plans.{config_of, operations_of}
 use Rattle.lock_model.specs.Takes.{OrdersAreLegal, is_reversal, has_reversal}
@@ -20,11 +21,11 @@ use Rattle.lock_model.specs.Text as text
 use Rattle.lock_model.specs.declared.event.Entry.{Entry}
 use Rattle.lock_model.specs.declared.plan.Op.{Op}
 use Rattle.lock_model.specs.declared.plan.Plan.{Plan}
-use Rattle.lock_model.specs.declared.plan.ThreadDecl.{ThreadDecl}
 use Rattle.lock_history.specs.Endings.{ending_of, numbers_of}
 use Rattle.lock_history.specs.Outcomes.{outcome_seen, line_seen}
 use Rattle.lock_history.specs.declared.outcome.Outcome.{Outcome}
 use Rattle.lock_state.specs.Run.{threads_of}
+use Rattle.ordered_plan_laws.proofs.Unhalted.{no_operations}
 use Rattle.thread_records.specs.declared.record.ThreadRec.{ThreadRec}
 use Rattle.floor_table.specs.Descriptions.{config_in, thread_part, description_of}
 use Rattle.floor_table.specs.declared.description.Description.{Description}
@@ -47,15 +48,6 @@ absent_from a zero t le = refl
 absent_from a (suc n) t le =
     let first : one (eqb t a) ≡ 0 = ap one (ne_eqb t a (λ e. absurd (omega arith))) in
     omega (arith, first, absent_from (a + 1) n t (omega arith))
-
-none_at : {A : Type 0} (xs : List A) (i : ℕ) → length xs ≤ i → slice_get xs i ≡ None
-none_at [] i le = refl
-none_at (x ∷ xs) zero le = absurd (omega arith)
-none_at (x ∷ xs) (suc i) le = none_at xs i (omega arith)
-
--- and has no operations
-no_operations : (plan : Plan) (t : ℕ) → length plan.threads ≤ t → operations_of plan t ≡ []
-no_operations plan t le = ap (λ x. unwrap_or x []) (slice_get-map (λ d. d.ops) plan.threads t ∙ ap (option_map (λ (d : ThreadDecl). d.ops)) (none_at plan.threads t le))
 
 none_of : (es : List Entry) → ((es ≢ []) → ⊥) → es ≡ []
 none_of [] h = refl
@@ -147,6 +139,8 @@ module _ (plan : Plan) (chains : ℕ) (x : Closing)
         so_far = subst (λ c. IsLegalSoFar c true history) same_plan closing.legal;
         entries_follow_operations = follows logs same whole;
         orders_are_legal = λ e. subst (λ c. OrdersAreLegal c history) same_plan closing.orders_are_legal;
+        halts_are_honest = subst (λ c. HaltsAreHonest c history) same_plan closing.halts_are_honest;
+        busies_are_explained = λ e. subst (λ c. BusyIsExplained c history) same_plan closing.busies_are_explained;
       }
 
   -- 3. What is printed

@@ -3,7 +3,8 @@ use Rattle.std.specs.Prelude.{◌≡◌, ℕ, Bool, true, false, if◌then◌els
 use Rattle.std.specs.FinMap.{entries}
 use Rattle.std.specs.List.{list_any}
 use Rattle.lock_model.specs.History.{base_in, tables_of}
-use Rattle.lock_model.specs.Law.{IsLegal, is_halt}
+use Rattle.lock_model.specs.Law.{is_halt}
+use Rattle.lock_model.specs.Legal.{IsLegal}
 use Rattle.lock_model.specs.Plans.{config_of}
 use Rattle.lock_model.specs.Text.{Outcome, Ending, IsStuck}
 use Rattle.lock_model.specs.declared.event.Entry.{Entry}

@@ -1,7 +1,9 @@
 //! Running all threads of a plan.
 ghost use Rattle.std.specs.Prelude.{◌≡◌, ℕ, ◌≤◌, ◌<◌, ◌++◌, length, map, reverse, slice_index_or, IfOk};
 ghost use Rattle.lock_model.specs.Operations.{IsProper};
+ghost use Rattle.lock_model.specs.OrderedPlans.{IsOrdered};
 ghost use Rattle.lock_model.specs.Takes.{has_reversal};
+ghost use Rattle.lock_model.specs.Text as text;
 ghost use Rattle.lock_history.specs.Endings.{numbers_of, ending_of};
 ghost use Rattle.lock_history.specs.Outcomes.{outcome_seen};
 ghost use Rattle.lock_state.specs.Run.{threads_of};
@@ -29,6 +31,8 @@ use thread_records::ThreadRec;
 /// The plan is one that some script gives, with locks of any kind, and without condition variables and channels. The
 /// floor has so many chains of each sort: one, as `lock_calls::take_or_halt` asks it. Where no thread can be started,
 /// the workers run one after another, and the call may then not return where the gate holds one for another.
+///
+/// Where the plan is ordered, no take of it is refused and nobody is halted: the run is done.
 pub fn run_plan<R: Threads + Wait + Sync, G: Gate>(
     rt: &R,
     alloc: Global,
@@ -39,7 +43,8 @@ pub fn run_plan<R: Threads + Wait + Sync, G: Gate>(
     requires proper { IsProper plan.now }
     requires channels { HasNoChannels plan.now }
     requires one_chain { chains ≡ 1 }
-    ensures { IfOk result (λ r. IsRunOf plan.now chains (outcome_seen r.0) r.1) }
+    ensures run { IfOk result (λ r. IsRunOf plan.now chains (outcome_seen r.0) r.1) }
+    ensures ordered { IfOk result (λ r. IsOrdered plan.now → (outcome_seen r.0).ending ≡ text.IsDone) }
 {
     let (floor, mut keeper, mut passes) = Floor::make(alloc, plan, chains)?;
     work_all(rt, &floor, passes.as_mut_slice(), plan, gate);

@@ -83,6 +83,7 @@ fn give_back<R: Wait>(rt: &R, floor: &Floor, pass: &mut Pass, plan: &Plan)
 
 // Makes an operation that the plan has for the pass's thread, and answers which is its next. `None` comes where its
 // take was refused or halted: then the thread is cut short.
+#[inline(always)]
 fn operate<R: Wait>(
     rt: &R,
     floor: &Floor,

@@ -9,6 +9,7 @@ pub mod Poses
 pub mod Known
 pub mod Stepped
 pub mod Sound
+pub mod Halted
 pub mod Seen
 pub mod Made
 pub mod PlanKeys

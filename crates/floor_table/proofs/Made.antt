@@ -1,6 +1,6 @@
 -- A step of a thread, on whatever table its seat is at: what is asked of the step on a table that represents a sound
 -- state, and what it tells then.
-use Rattle.std.proofs.Common.{◌≡◌, ◌≢◌, ℕ, suc, ◌<◌, eqb, Option, Some, None, List, [], ◌∷◌, length, set, refl, sym, ap, ◌∙◌, subst, inl, inr, arith, length-set, get_or-set_same}
+use Rattle.std.proofs.Common.{◌≡◌, ◌≢◌, ℕ, suc, ◌<◌, Bool, eqb, Option, Some, None, List, [], ◌∷◌, length, set, refl, sym, ap, ◌∙◌, subst, inl, inr, arith, length-set, get_or-set_same}
 use Rattle.std.proofs.lemmas.Bool.{cases_lt}
 use Rattle.std.proofs.lemmas.List.{set-get_or}
 use Rattle.std.proofs.lemmas.List.Elements.{All-nil}
@@ -11,6 +11,7 @@ use lib.ListN.{get_elem?}
 use prog.Atomic.{either}
 use Rattle.atomic_table.specs.Table.{Me, Act, keeps, takes, gives, put_back, homes_after, Valid, Allows, stepped, carried_after}
 use Rattle.atomic_table.proofs.Lists.{exchanged}
+use Rattle.lock_model.specs.Counts.{one}
 use Rattle.lock_model.specs.Words.{Word, word_of}
 use Rattle.lock_state.specs.State.{State, Wait, put}
 use Rattle.lock_state.specs.Steps.Items.{Item, item_with}
@@ -21,11 +22,11 @@ use Rattle.floor_table.specs.Descriptions.{config_in}
 use Rattle.floor_table.specs.declared.description.Description.{Description}
 use Rattle.floor_table.specs.declared.slot.Slot.{Slot}
 use Rattle.floor_table.specs.Views.{OfThread, OfNobody, Pose, Knowledge, nothing, seeing}
-use Rattle.floor_table.specs.Places.{spot, lock_line, wait_line, ticket_line, latch_line, word_at, lock_word, latch_word, slots_for, slot_of, home_at}
+use Rattle.floor_table.specs.Places.{spot, lock_line, wait_line, ticket_line, awake_line, ended_line, halt_line, latch_line, word_at, lock_word, latch_word, slots_for, slot_of, home_at}
 use Rattle.floor_table.specs.Shares.{share_in}
 use Rattle.floor_table.specs.Shelves.{found, Shelves}
 use Rattle.floor_table.specs.Past.{past_with, IsSeenBy, AreSeen}
-use Rattle.floor_table.specs.Represents.{Board, words_in, wait_number, RepresentsLatches, RepresentsObjects, objects_in, IsSeatOf, IsPosed, Represents, keeper_in, thread_in}
+use Rattle.floor_table.specs.Represents.{Board, WordColumns, words_in, wait_number, RepresentsWords, RepresentsLatches, RepresentsObjects, objects_in, IsSeatOf, IsPosed, Represents, keeper_in, thread_in}
 use Rattle.floor_table.specs.Steps.{IsSound, FitAll, Fits, Makes}
 use Rattle.floor_table.specs.Rule.{FloorHolds}
 use Rattle.floor_table.proofs.Lists.{inside, at_or, or_at, or_past, field_set}
@@ -34,7 +35,8 @@ use Rattle.floor_table.proofs.Seen.{AreOf, seen_on, seen_stepped}
 use Rattle.floor_table.proofs.Sound.{sound_kept}
 use Rattle.floor_table.proofs.Items.{place_low, latches_changed}
 use Rattle.floor_table.proofs.Shelved.{put_twice, found_first, shelf_taken, shelf_given, shelf_changed}
-use Rattle.floor_table.proofs.Stepped.{lock_stepped, wait_stepped, ticket_stepped, latch_stepped, seat_stepped}
+use Rattle.floor_table.proofs.Stepped.{lock_stepped, wait_stepped, ticket_stepped, count_stepped, latch_stepped, seat_stepped}
+use Rattle.floor_table.proofs.Words.{awake_written, ended_written, halt_written}
 
 -- 1. What a step owes
 
@@ -235,6 +237,47 @@ module _ (floor : Description) (steps : List Step) (b : Board) (v w : Knowledge)
       made floor steps b behind v w h was may own refl
       (ticket_stepped floor b s n h.represents v.thread v w h.there was own.role own.seat own.others own.pose
       own.other_poses cs x content more columns items spares shelves objects)
+
+  -- a count of threads, or the halt word, changes, and none of the values that are out
+  count_made : (line x : ℕ) (y : WordColumns) → line < 128 → y.next ≡ s.next
+      → RepresentsWords floor (set b.words (spot line) x) y → words_in n ≡ y → SameRest s n → w.spare ≡ v.spare
+      → w.out ≡ v.out → FloorHolds floor (stepped b (spot line) x (suc v.thread) cs w keeps) × Makes floor steps v w
+  count_made line x y low same says columns rest spares out =
+      let r = h.represents in
+      let behind : Board = stepped b (spot line) x (suc v.thread) cs w keeps in
+      made floor steps b behind v w h was may own refl
+      (count_stepped floor b s n r v.thread v w h.there was own.role own.seat own.others own.pose own.other_poses cs
+      line x y r.content low same says columns rest.items spares
+      (subst (λ o. Shelves (slots_for floor) (latch_word b.words) (home_at b.homes) o r.content) (outs_stay out)
+      r.shelves)
+      (subst (RepresentsObjects floor r.content) (sym rest.objects) r.objects))
+
+  -- how many threads are awake,
+  pub awake_made : (x : ℕ) → words_in n ≡ record (words_in s) { awake = x } → SameRest s n → w.spare ≡ v.spare
+      → w.out ≡ v.out
+      → FloorHolds floor (stepped b (spot awake_line) x (suc v.thread) cs w keeps) × Makes floor steps v w
+  awake_made x columns =
+      let z = h.represents.sizes in
+      count_made awake_line x (record (words_in s) { awake = x }) (omega arith) refl
+      (awake_written floor z.sized b.words (words_in s) h.represents.words x (omega (arith, z.words))) columns
+
+  -- how many have ended,
+  pub ended_made : (x : ℕ) → words_in n ≡ record (words_in s) { ended = x } → SameRest s n → w.spare ≡ v.spare
+      → w.out ≡ v.out
+      → FloorHolds floor (stepped b (spot ended_line) x (suc v.thread) cs w keeps) × Makes floor steps v w
+  ended_made x columns =
+      let z = h.represents.sizes in
+      count_made ended_line x (record (words_in s) { ended = x }) (omega arith) refl
+      (ended_written floor z.sized b.words (words_in s) h.represents.words x (omega (arith, z.words))) columns
+
+  -- and whether a finder halts others
+  pub halt_made : (x : Bool) → words_in n ≡ record (words_in s) { halted = x } → SameRest s n → w.spare ≡ v.spare
+      → w.out ≡ v.out
+      → FloorHolds floor (stepped b (spot halt_line) (one x) (suc v.thread) cs w keeps) × Makes floor steps v w
+  halt_made x columns =
+      let z = h.represents.sizes in
+      count_made halt_line (one x) (record (words_in s) { halted = x }) (omega arith) refl
+      (halt_written floor z.sized b.words (words_in s) h.represents.words x (omega (arith, z.words))) columns
 
   -- a latch is read, and with it values that are out change
   pub latch_seen_with : (j : ℕ) (content : ℕ → Slot) → j < slots_for floor → words_in n ≡ words_in s

@@ -10,8 +10,10 @@ use Rattle.order_laws.proofs.OrderFacts as order_facts
 use Rattle.order_laws.proofs.OrderFacts.Steps as orders
 use Rattle.order_laws.proofs.TakeFacts as take_facts
 use Rattle.order_laws.proofs.TakeFacts.Steps as takes
-use Rattle.order_laws.proofs.WantFacts as want_facts
-use Rattle.order_laws.proofs.WantFacts.Steps as wants
+use Rattle.count_laws.proofs.Started as first_counts
+use Rattle.count_laws.proofs.Keeping as counts
+use Rattle.count_laws.proofs.Explaining as causes
+use Rattle.busy_laws.proofs.Keeping as busy
 use Rattle.sleep_laws.proofs.SleepFacts as sleep_facts
 use Rattle.sleep_laws.proofs.SleepFacts.Floor as sleepers
 use Rattle.floor_table.specs.Descriptions.{config_in}
@@ -30,7 +32,9 @@ sound_begins floor =
       turnstiles = signals.begins c;
       ordered = order_facts.begins c;
       taken = take_facts.begins c;
-      wants = want_facts.begins c;
+      counted = first_counts.counted c;
+      explained = causes.begins c;
+      busy_words = busy.begins c;
     }
 
 one_keeps : (floor : Description) {past : List Step} (s : State) (step : Step) → IsAllowed floor s step
@@ -46,7 +50,10 @@ one_keeps floor s step may h =
       turnstiles = signals.keeps floor.chains c s (after c s step) made h.turnstiles;
       ordered = orders.keeps c s step may.fits.may may.keeps_order h.facts.lawful h.ordered;
       taken = takes.keeps c s step may.fits.may may.keeps_order h.facts.lawful h.taken;
-      wants = wants.keeps floor.chains c s step may.fits may.keeps_order h.facts.lawful h.ordered h.wants;
+      counted = counts.keeps floor.chains c s step may.fits may.keeps_count h.facts h.counted;
+      explained = causes.keeps c s h.facts h.counted h.ordered h.sleepers h.explained floor.chains step may.fits
+          may.keeps_order;
+      busy_words = busy.keeps c s h.facts.lawful h.busy_words step may.fits.may;
     }
 
 pub sound_kept : (floor : Description) {past : List Step} (s : State) (steps : List Step) → FitAll floor s steps

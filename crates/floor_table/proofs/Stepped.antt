@@ -133,7 +133,20 @@ module _ (floor : Description) (b : Board) (s n : State) (r : Represents floor b
       (ticket_written floor r.sizes.sized b.words (words_in s) r.words x fits))
       (omega (arith, next, spares)) items shelves objects
 
-  -- 5. A latch, by which a value goes out or comes home
+  -- 5. A count of threads, or the halt word: what the words say then is asked
+
+  pub count_stepped : (line x : ℕ) (y : WordColumns) (content : ℕ → Slot) → line < 128 → y.next ≡ s.next
+      → RepresentsWords floor (set b.words (spot line) x) y → words_in n ≡ y → item_with n ≡ item_with s
+      → w.spare ≡ v.spare
+      → Shelves (slots_for floor) (latch_word b.words) (home_at b.homes) (put outs t w.out) content
+      → RepresentsObjects floor content (objects_in n)
+      → Represents floor (stepped b (spot line) x (suc t) cs w keeps) n
+  count_stepped line x y content low same says columns items spares shelves objects =
+      let next = ap (λ (k : WordColumns). k.next) columns in
+      below_turns line x content low (subst (RepresentsWords floor (set b.words (spot line) x)) (sym columns) says)
+      (omega (arith, next, same, spares)) items shelves objects
+
+  -- 6. A latch, by which a value goes out or comes home
 
   pub latch_stepped : (j x : ℕ) (act : Act Slot) (content : ℕ → Slot) → j < slots_for floor
       → length (homes_after b.homes cs act) ≡ length b.homes → words_in n ≡ words_in s → w.spare ≡ v.spare
@@ -155,7 +168,7 @@ module _ (floor : Description) (b : Board) (s n : State) (r : Represents floor b
       content) (sym latches) shelves)
       objects
 
--- 6. No word: a seat has seen more, and its share, what it has out, its room for entries and where it is stay
+-- 7. No word: a seat has seen more, and its share, what it has out, its room for entries and where it is stay
 
 module _ (floor : Description) (b : Board) (s : State) (r : Represents floor b s) (t : ℕ) (v w : Knowledge)
     (at : get_elem? b.views (suc t) ≡ some v) (was : v.role ≡ OfThread) (is : w.role ≡ OfThread) (mine : IsSeatOf w s t)

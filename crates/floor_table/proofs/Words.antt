@@ -1,6 +1,7 @@
 -- What a change of one word makes of the words and of what they say.
-use Rattle.std.proofs.Common.{◌≡◌, ◌≢◌, ℕ, ◌<◌, List, length, set, sym, ap, ◌∙◌, subst, inl, inr, arith, get_or-set_same, get_or-set_other}
+use Rattle.std.proofs.Common.{◌≡◌, ◌≢◌, ℕ, ◌<◌, ◌≤◌, Bool, List, length, set, refl, sym, ap, ◌∙◌, subst, inl, inr, arith, get_or-set_same, get_or-set_other}
 use Rattle.std.proofs.lemmas.Bool.{cases_eq}
+use Rattle.lock_model.specs.Counts.{one}
 use Rattle.lock_model.specs.Words.{Word, word_of}
 use Rattle.lock_state.specs.State.{Wait, put}
 use Rattle.lock_laws.proofs.Kit.{put_same, put_other}
@@ -70,19 +71,63 @@ module _ (floor : Description) (sized : IsSized floor) (ws : List ℕ) (x : Word
       halted = word_there ws (wait_line t) n halt_line (λ e. omega (arith, e, low, sized.threads)) ∙ h.halted;
     }
 
+    -- A word of which there is one: those of locks and of waiting threads stay. What the four say then is asked.
+    single_written : (line n : ℕ) (y : WordColumns) → 96 ≤ line → y.word ≡ x.word → y.wait ≡ x.wait
+        → word_at (set ws (spot line) n) ticket_line ≡ y.next → word_at (set ws (spot line) n) awake_line ≡ y.awake
+        → word_at (set ws (spot line) n) ended_line ≡ y.ended
+        → word_at (set ws (spot line) n) halt_line ≡ one y.halted
+        → RepresentsWords floor (set ws (spot line) n) y
+    single_written line n y behind words waits ticket awake ended halted = record {
+      locks = λ l low. ap word_of
+          (word_there ws line n (lock_line l) (λ e. omega (arith, e, low, sized.locks, behind)))
+          ∙ h.locks l low ∙ ap (λ (f : ℕ → Word). f l) (sym words);
+      waits = λ t low. word_there ws line n (wait_line t) (λ e. omega (arith, e, low, sized.threads, behind))
+          ∙ h.waits t low ∙ ap (λ (f : ℕ → Wait). wait_number (f t)) (sym waits);
+      ticket = ticket;
+      awake = awake;
+      ended = ended;
+      halted = halted;
+    }
+
     -- the ticket word
     pub ticket_written : (n : ℕ) → spot ticket_line < length ws
         → RepresentsWords floor (set ws (spot ticket_line) n) (record x { next = n })
-    ticket_written n fits = record {
-      locks = λ l low. ap word_of (word_there ws ticket_line n (lock_line l) (λ e. omega (arith, e, low, sized.locks)))
-          ∙ h.locks l low;
-      waits = λ t low. word_there ws ticket_line n (wait_line t) (λ e. omega (arith, e, low, sized.threads))
-          ∙ h.waits t low;
-      ticket = word_here ws ticket_line n fits;
-      awake = word_there ws ticket_line n awake_line (λ e. omega (arith, e)) ∙ h.awake;
-      ended = word_there ws ticket_line n ended_line (λ e. omega (arith, e)) ∙ h.ended;
-      halted = word_there ws ticket_line n halt_line (λ e. omega (arith, e)) ∙ h.halted;
-    }
+    ticket_written n fits =
+        single_written ticket_line n (record x { next = n }) (omega arith) refl refl
+        (word_here ws ticket_line n fits)
+        (word_there ws ticket_line n awake_line (λ e. omega (arith, e)) ∙ h.awake)
+        (word_there ws ticket_line n ended_line (λ e. omega (arith, e)) ∙ h.ended)
+        (word_there ws ticket_line n halt_line (λ e. omega (arith, e)) ∙ h.halted)
+
+    -- how many threads are awake
+    pub awake_written : (n : ℕ) → spot awake_line < length ws
+        → RepresentsWords floor (set ws (spot awake_line) n) (record x { awake = n })
+    awake_written n fits =
+        single_written awake_line n (record x { awake = n }) (omega arith) refl refl
+        (word_there ws awake_line n ticket_line (λ e. omega (arith, e)) ∙ h.ticket)
+        (word_here ws awake_line n fits)
+        (word_there ws awake_line n ended_line (λ e. omega (arith, e)) ∙ h.ended)
+        (word_there ws awake_line n halt_line (λ e. omega (arith, e)) ∙ h.halted)
+
+    -- how many have ended
+    pub ended_written : (n : ℕ) → spot ended_line < length ws
+        → RepresentsWords floor (set ws (spot ended_line) n) (record x { ended = n })
+    ended_written n fits =
+        single_written ended_line n (record x { ended = n }) (omega arith) refl refl
+        (word_there ws ended_line n ticket_line (λ e. omega (arith, e)) ∙ h.ticket)
+        (word_there ws ended_line n awake_line (λ e. omega (arith, e)) ∙ h.awake)
+        (word_here ws ended_line n fits)
+        (word_there ws ended_line n halt_line (λ e. omega (arith, e)) ∙ h.halted)
+
+    -- the halt word
+    pub halt_written : (b : Bool) → spot halt_line < length ws
+        → RepresentsWords floor (set ws (spot halt_line) (one b)) (record x { halted = b })
+    halt_written b fits =
+        single_written halt_line (one b) (record x { halted = b }) (omega arith) refl refl
+        (word_there ws halt_line (one b) ticket_line (λ e. omega (arith, e)) ∙ h.ticket)
+        (word_there ws halt_line (one b) awake_line (λ e. omega (arith, e)) ∙ h.awake)
+        (word_there ws halt_line (one b) ended_line (λ e. omega (arith, e)) ∙ h.ended)
+        (word_here ws halt_line (one b) fits)
 
 -- 2. The latches, where none of them changes,
 pub latches_stay : (ws : List ℕ) (n x : ℕ) → n < 128 → latch_word (set ws (spot n) x) ≡ latch_word ws

@@ -2,17 +2,18 @@
 use Rattle.std.specs.Prelude.{◌≡◌, ◌≢◌, ℕ, ◌≤◌, List, [], ◌∷◌, ◌++◌}
 use Rattle.std.specs.List.{All}
 use Rattle.lock_state.specs.State.{State, start_state}
-use Rattle.lock_state.specs.Steps.{Step, after, FitsFloor, KeepsToOrder, maker}
+use Rattle.lock_state.specs.Steps.{Step, after, FitsFloor, KeepsToOrder, KeepsCount, maker}
 use Rattle.floor_table.specs.Descriptions.{config_in}
 use Rattle.floor_table.specs.declared.description.Description.{Description}
 use Rattle.floor_table.specs.Represents.{keeper_in, thread_in}
 use Rattle.floor_table.specs.Views.{Knowledge, OfThread}
 
 -- what a floor asks of a step that one of its threads makes: what each running floor asks, and that the step keeps to
--- the order that was admitted
+-- the order that was admitted and keeps the count of those that are awake
 pub record IsAllowed (floor : Description) (s : State) (step : Step) : Type 0 where
   pub fits : FitsFloor floor.chains (config_in floor) s step
   pub keeps_order : KeepsToOrder (config_in floor) s step
+  pub keeps_count : KeepsCount s step
 
 -- The steps of threads of a floor that lead from the start to a state, the newest first. Each might be made where it
 -- came.

@@ -5,12 +5,13 @@ use mathlib.Core.Option.{some}
 use Rattle.floor_table.specs.Descriptions.{config_in, IsSized}
 use Rattle.floor_table.specs.declared.description.Description.{Description}
 use Rattle.lock_state.specs.State.{State}
-use Rattle.lock_state.specs.Facts.{LawfulFloor, Ordered, Taken, WantsFitTakes}
+use Rattle.lock_state.specs.Facts.{LawfulFloor, Ordered, Taken, Counted, Explained}
 use Rattle.lock_state.specs.Steps.{Step, EachStep, after_all, maker}
 use Rattle.lock_state.specs.Steps.Items.{Item, item_with}
 use Rattle.lock_laws.specs.Rounds.{LawfulRounds}
 use Rattle.lock_laws.specs.Signals.{TurnstilesSignal}
 use Rattle.sleep_laws.specs.Sleepers.{SleepersFit, by_chain}
+use Rattle.busy_laws.specs.Holders.{BusyWordsFit}
 use Rattle.floor_table.specs.declared.slot.Slot.{Slot}
 use Rattle.floor_table.specs.Past.{LeadsTo, IsAllowed, IsSeenBy, past_with}
 use Rattle.floor_table.specs.Places.{slot_of}
@@ -27,7 +28,9 @@ pub record IsSound (floor : Description) (past : List Step) (s : State) : Type 0
   pub turnstiles : TurnstilesSignal (config_in floor) s
   pub ordered : Ordered (config_in floor) s
   pub taken : Taken (config_in floor) s
-  pub wants : WantsFitTakes s
+  pub counted : Counted (config_in floor) s
+  pub explained : Explained (config_in floor) s
+  pub busy_words : BusyWordsFit (config_in floor) s
 
 -- each of the steps may be made by a thread of a floor, where it comes
 abbrev pub FitAll : Description → State → List Step → Type 0

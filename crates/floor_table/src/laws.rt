@@ -1,6 +1,8 @@
 //! What follows from the definitions alone.
-ghost use Rattle.std.specs.Prelude.{◌≡◌, ℕ, ◌≤◌, ◌<◌, ◌↔◌, List, [], length, Option, IsTrue, IsSome, Some, None, true};
+ghost use Rattle.std.specs.Prelude.{◌≡◌, ℕ, ◌≤◌, ◌<◌, ◌↔◌, List, [], length, Option, IsTrue, IsSome, Some, None, true, false};
 ghost use Rattle.std.specs.List.{Contains};
+ghost use Rattle.count_laws.specs.Standing.{StandsOnQueue};
+ghost use Rattle.lock_model.specs.Halts.{HaltsAreHonest};
 ghost use Rattle.lock_model.specs.Keys.{plan_names};
 ghost use Rattle.lock_model.specs.Operations.{IsProper};
 ghost use Rattle.lock_model.specs.Plans.{config_of, operations_of};
@@ -8,7 +10,7 @@ ghost use Rattle.lock_model.specs.Queues.{lock_queue};
 ghost use Rattle.lock_model.specs.declared.plan.Plan.{Plan};
 ghost use Rattle.lock_model.specs.declared.plan.QueueName.{QueueName};
 ghost use Rattle.lock_state.specs.Best.{best_behind, HasCycle, NobodyWalks};
-ghost use Rattle.lock_state.specs.State.{State, Wait, SleepHalted};
+ghost use Rattle.lock_state.specs.State.{State, Wait, SleepHalted, is_finder};
 ghost use Rattle.lock_state.specs.Steps.{Step};
 ghost use Rattle.lock_state.specs.Steps.Items.{TurnstileChain, SleepChain, item_with};
 ghost use Rattle.floor_table.specs.Descriptions.{config_in, room_for, IsSized, room_of, description_of};
@@ -76,6 +78,20 @@ pub fn nobody_waits_in_a_cycle()
     ensures best { (floor : Description) (past : List Step) (s : State) (t : ℕ)
         → IsSound floor past s → NobodyWalks (config_in floor) s → t < length floor.threads
         → s.effective t ≡ best_behind (config_in floor) s t }
+{}
+
+/// Between any two steps of a floor's threads, while a thread is left whose counting out left nobody awake, each thread
+/// that hasn't ended stands on a queue: nobody is awake, woken, or in a marked list.
+pub fn finders_are_alone()
+    ensures { (floor : Description) (past : List Step) (s : State) (f t : ℕ) → IsSound floor past s
+        → is_finder (s.phase f) ≡ true → t < length floor.threads → s.has_ended t ≡ false
+        → StandsOnQueue s t }
+{}
+
+/// And the history keeps the part of the law that speaks of the causes of halts.
+pub fn halts_are_honest()
+    ensures { (floor : Description) (past : List Step) (s : State) → IsSound floor past s
+        → HaltsAreHonest (config_in floor) s.history }
 {}
 
 /// Between any two steps of a floor's threads who wants a lock takes it, and who has the halt of a take to note wants

@@ -29,7 +29,9 @@ mod view;
 
 pub use board::{Board, FloorSeat, Law};
 pub use description::{Description, LockPart, ThreadPart};
-pub use places::{awake_spot, latch_spot, lock_spot, ticket_spot, wait_spot, words_for};
+pub use places::{
+    awake_spot, ended_spot, halt_spot, latch_spot, lock_spot, ticket_spot, wait_spot, words_for,
+};
 pub use slot::Slot;
 pub use told::{Tells, Told, add, exchange, keep_bits, load, store};
 pub use view::View;

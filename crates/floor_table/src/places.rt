@@ -1,6 +1,6 @@
 //! Where the words of a floor's table are.
 ghost use Rattle.std.specs.Prelude.{◌≡◌, ◌<◌, ◌^◌};
-ghost use Rattle.floor_table.specs.Places.{spot, lock_line, wait_line, ticket_line, awake_line, latch_line, words_for};
+ghost use Rattle.floor_table.specs.Places.{spot, lock_line, wait_line, ticket_line, awake_line, ended_line, halt_line, latch_line, words_for};
 
 use lock_model::{LockNo, ThreadNo};
 
@@ -15,6 +15,12 @@ const TICKET: usize = 96;
 
 // The line of the word that counts the threads which are awake.
 const AWAKE: usize = 97;
+
+// The line of the word that counts those that have ended.
+const ENDED: usize = 98;
+
+// The line of the halt word.
+const HALT: usize = 99;
 
 // The line of the first latch.
 const LATCHES: usize = 128;
@@ -45,6 +51,20 @@ pub fn awake_spot() -> usize
     ensures { result ≡ spot awake_line }
 {
     LINE * AWAKE
+}
+
+/// Where the word is that counts the threads which have ended.
+pub fn ended_spot() -> usize
+    ensures { result ≡ spot ended_line }
+{
+    LINE * ENDED
+}
+
+/// Where the halt word is.
+pub fn halt_spot() -> usize
+    ensures { result ≡ spot halt_line }
+{
+    LINE * HALT
 }
 
 /// Where the latch of a value is.

@@ -1,6 +1,6 @@
 -- Histories of runs of a plan.
 use Rattle.std.specs.Prelude.{Bool, List, reverse}
-use Rattle.lock_model.specs.Law.{IsLegal}
+use Rattle.lock_model.specs.Legal.{IsLegal}
 use Rattle.lock_model.specs.declared.event.Entry.{Entry}
 use Rattle.lock_model.specs.declared.plan.Plan.{Plan}
 

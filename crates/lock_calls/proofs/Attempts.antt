@@ -27,7 +27,7 @@ use Rattle.lock_calls.specs.declared.courses.Course.{Course}
 use Rattle.lock_calls.specs.declared.courses.Course.TheVariants.{Plainly, ByClaim, MustWait}
 use Rattle.lock_calls.specs.Steps.{IsCovered, FirstMisses, most_missed, as_taken}
 use Rattle.lock_calls.specs.Takes.{LooksOn, looks_alone, tries_too}
-use Rattle.lock_calls.specs.Waiting.{kept_of, IsCalling, MayGain, IsChecking, IsSeeking, HasMissed, HasSeen, HasSpun, SpinsThenGains, IsGaining, HasGained, with_looks_counted}
+use Rattle.lock_calls.specs.Waiting.{Kept, kept_of, IsCalling, CanAcquire, MayGain, IsChecking, IsSeeking, HasMissed, HasSeen, HasSpun, SpinsThenGains, IsGaining, HasGained, with_looks_counted}
 use Rattle.lock_floor.specs.Passes.{IsAtRest}
 use Rattle.lock_calls.proofs.Looks.{each_append, last_step, rest_looks}
 use Rattle.lock_calls.proofs.Words.{other_word}
@@ -178,7 +178,7 @@ module _ (floor : Description) (l : ℕ) (b : Knowledge) (m : IsSeeking l b) whe
   may_gain_there mode word low admitted plain =
       may_gain floor b l mode false word low admitted plain m.unheld
       (inl m.wants) (subst (λ r. FitsRound r l false) (sym m.round) (refl, refl)) (λ none. absurd (not_outside none))
-      (λ k e. same_Some k l (sym e ∙ m.takes)) (λ e. m.takes) (λ e. inl m.wants) (unhalted b m.unnoted) m.runs
+      (λ k e. same_Some k l (sym e ∙ m.takes)) (λ e. m.takes) (λ e. inl m.wants) m.unhalted m.runs
       m.nothing_out m.going
 
   -- one look
@@ -248,7 +248,7 @@ module _ (floor : Description) (l n : ℕ) (a b : Knowledge) (x : HasSpun floor 
     few = m.few;
     wants = m.wants;
     takes = m.takes;
-    unnoted = m.unnoted;
+    unhalted = m.unhalted;
     round = m.round;
     no_walk = m.no_walk;
     runs = m.runs;
@@ -329,4 +329,16 @@ calling_at_rest floor v mine r = record {
   no_wait = r.no_wait;
   sections = r.sections;
   begun = r.begun;
+}
+
+-- who makes such a call may acquire the lock
+pub can_acquire : (floor : Description) (k : Kept) → IsCalling floor k → CanAcquire floor k
+can_acquire floor k c = record {
+  description = c.description;
+  going = c.going;
+  unmarked = c.unmarked;
+  uncounted = c.uncounted;
+  sections = c.sections;
+  unhalted = λ l e. let z : None ≡ Some (SleepHalted (lock_queue l)) = sym c.unnoted ∙ e in cc;
+  awake = λ back unwoken unhalted. let z : true ≡ false = sym back ∙ c.no_wait in cc;
 }

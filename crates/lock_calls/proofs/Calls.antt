@@ -4,12 +4,11 @@ use Rattle.lock_model.specs.declared.numbers.LockNo.{LockNo}
 use Rattle.lock_model.specs.declared.plan.Mode.{Mode}
 use Rattle.floor_table.specs.declared.description.Description.{Description}
 use Rattle.floor_table.specs.Views.{Knowledge}
-use Rattle.prio_lending.specs.declared.walk.Walk.TheVariants as walk
 use Rattle.lock_floor.specs.declared.calls.Call.{Call}
 use Rattle.lock_floor.specs.declared.calls.Call.TheVariants as calls
 use Rattle.lock_floor.specs.declared.calls.ReleaseAt.{ReleaseAt}
 use Rattle.lock_floor.specs.declared.calls.TakeAt.{TakeAt}
-use Rattle.lock_floor.specs.declared.calls.TakeAt.TheVariants.{Checks, Spins, ComesIn, Contends, Walks, Hops}
+use Rattle.lock_floor.specs.declared.calls.TakeAt.TheVariants.{Checks, Spins, ComesIn, Contends, Walks, Hops, Sleeps}
 use Rattle.lock_floor.specs.Floors.{Floor, Pass}
 use Rattle.lock_floor.specs.Passes.{IsOf}
 use Rattle.lock_calls.specs.declared.answers.Next.{Next}
@@ -75,10 +74,9 @@ stands_next Checks = inl refl
 stands_next (Spins left) = inl refl
 stands_next ComesIn = inl refl
 stands_next (Contends seen) = inl refl
-stands_next (Walks walk.None) = inr refl
-stands_next (Walks (walk.AtLock l)) = inl refl
-stands_next (Walks (walk.AtThread o)) = inl refl
+stands_next (Walks there) = inl refl
 stands_next (Hops there) = inl refl
+stands_next Sleeps = inr refl
 
 no_other_next : (to : TakeAt) (next : Next) → next ≡ next_at to → (next ≡ Again → ⊥) → (next ≡ Sleep → ⊥) → ⊥
 no_other_next to next is again sleep = elim (stands_next to) [ inl e ↦ again (is ∙ e) | inr e ↦ sleep (is ∙ e) ]

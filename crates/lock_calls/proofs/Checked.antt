@@ -2,11 +2,10 @@
 -- is over. A thread that holds nothing is never refused.
 use Rattle.std.proofs.Common.{◌≡◌, ◌≢◌, ℕ, suc, ◌<◌, length, true, false, cond, [], ◌∷◌, Some, None, refl, sym, ap, ◌∙◌, subst, inl, arith}
 use Rattle.lock_model.specs.Words.{Word, word_of}
-use Rattle.lock_model.specs.declared.event.Event.TheVariants.{Locked}
 use Rattle.lock_model.specs.declared.numbers.LockNo.{LockNo}
 use Rattle.lock_model.specs.declared.plan.Mode.{Mode}
 use Rattle.lock_state.specs.State.{Look}
-use Rattle.lock_state.specs.Steps.{Seeks, Looks, Gains, Stamps}
+use Rattle.lock_state.specs.Steps.{Seeks, Looks, Gains}
 use Rattle.lock_state.specs.Steps.Items.{ClassGraph}
 use Rattle.lock_state.specs.Steps.LockWords.{round_of, taking_from}
 use Rattle.floor_table.specs.Descriptions.{config_in}
@@ -96,7 +95,7 @@ module _ (floor : Description) (l : ℕ) (v : Knowledge) (m : MaySeek l v) where
     few = m.few;
     wants = m.wants;
     takes = refl;
-    unnoted = m.unnoted;
+    unhalted = unhalted v m.unnoted;
     round = refl;
     no_walk = m.no_walk;
     runs = m.runs;
@@ -181,14 +180,12 @@ module _ (floor : Description) (l : LockNo) (mode : Mode) (old mid : Knowledge) 
       view = g.view;
     }
 
-    pub ends_checked : (new : Knowledge) → Makes floor (Stamps old.thread (Locked l mode) ∷ []) v new
-        → TakeEnd floor l mode Checks old new
-    ends_checked new notes =
+    pub ends_checked : TakeEnd floor l mode Checks old v
+    ends_checked =
         let gains : Makes floor (gains_at_once old.thread l.0 mode) mid v =
         subst (λ t. Makes floor (gains_at_once t l.0 mode) mid v) same_thread g.step in
-        at_check (each_append floor (checks old.thread l.0 None)
-        (gains_at_once old.thread l.0 mode ∷ (Stamps old.thread (Locked l mode) ∷ []) ∷ []) old mid new checked.steps
-        (v, gains, (new, notes, refl)))
+        at_check (each_append floor (checks old.thread l.0 None) (gains_at_once old.thread l.0 mode ∷ []) old mid v
+        checked.steps (v, gains, refl))
 
   -- or it begins with a look
   pub spins_checked : (new : Knowledge) → HasBegun floor l.0 mid new → TakesOn floor l mode Checks (Spins 48) old new

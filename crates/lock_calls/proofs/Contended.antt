@@ -3,12 +3,11 @@
 use Rattle.std.proofs.Common.{◌≡◌, ℕ, ◌<◌, ◌≤◌, Bool, true, false, Option, Some, None, [], ◌∷◌, length, refl, sym, ap, ◌∙◌, subst}
 use Rattle.lock_model.specs.Queues.{lock_queue}
 use Rattle.lock_model.specs.Words.{is_turnstile}
-use Rattle.lock_model.specs.declared.event.Event.TheVariants.{Locked}
 use Rattle.lock_model.specs.declared.event.Held.{Held}
 use Rattle.lock_model.specs.declared.numbers.LockNo.{LockNo}
 use Rattle.lock_model.specs.declared.plan.Mode.{Mode}
 use Rattle.lock_objects.specs.Represents.{walk_of}
-use Rattle.lock_state.specs.Steps.{Looks, Unreadies, Stamps}
+use Rattle.lock_state.specs.Steps.{Looks, Unreadies}
 use Rattle.lock_state.specs.Steps.Items.{is_bound}
 use Rattle.lock_state.specs.Steps.LockWords.{is_taking_back}
 use Rattle.lock_state.specs.Steps.Turnstiles.{walk_up}
@@ -27,13 +26,12 @@ use Rattle.lock_floor.proofs.MayWait as wait
 use Rattle.lock_calls.specs.Sections.{HasRecordAndChain}
 use Rattle.lock_calls.specs.Steps.{IsCovered, as_taken, gives_both}
 use Rattle.lock_calls.specs.Takes.{IsStanding, TakesOn, TakeEnd, in_section, enters, looks_there}
-use Rattle.lock_calls.specs.Waiting.{kept_of, IsCalling, IsThere, GainsStep, EntersStep, MissesThere, HasGained, with_none_out}
-use Rattle.lock_calls.proofs.Looks.{each_append}
+use Rattle.lock_calls.specs.Waiting.{kept_of, CanAcquire, IsThere, GainsStep, EntersStep, MissesThere, HasGained, with_none_out}
 use Rattle.lock_calls.proofs.There.{quiet_there, contends}
 
 -- 1. It gained the lock
 
-module _ (floor : Description) (l : LockNo) (mode : Mode) (a b : Knowledge) (calls : IsCalling floor (kept_of a))
+module _ (floor : Description) (l : LockNo) (mode : Mode) (a b : Knowledge) (calls : CanAcquire floor (kept_of a))
     (there : IsThere floor l.0 a) (g : GainsStep floor l mode a b) where
   abbrev hold : Held
   hold = as_taken l mode
@@ -52,9 +50,9 @@ module _ (floor : Description) (l : LockNo) (mode : Mode) (a b : Knowledge) (cal
   may_run_on =
       wait.may_unready floor b (lock_queue l.0) (Record g.both.box) g.both.chain g.both.out
       (ap (λ (k : Knowledge). k.pose) g.view ∙ there.ready) gained_going
-      (λ back e f h.
-      let z : true ≡ false = sym back ∙ ap (λ (k : Knowledge). is_taking_back k.share.log) g.view ∙ calls.no_wait in
-      cc)
+      (λ back e f h. calls.awake (sym (ap (λ (k : Knowledge). is_taking_back k.share.log) g.view) ∙ back)
+      (sym (ap (λ (k : Knowledge). k.share.doing.woken_from) g.view) ∙ f)
+      (λ d x. h d (ap (λ (k : Knowledge). k.share.doing.noted) g.view ∙ x)))
 
   module _ (w : Knowledge) (view : w ≡ seeing w.seen (readied false b)) where
     ran_is : w ≡ seeing w.seen (readied false (record (gained a hold) { out = g.out }))
@@ -92,24 +90,14 @@ module _ (floor : Description) (l : LockNo) (mode : Mode) (a b : Knowledge) (cal
         view = given ∙ ap (λ (k : Knowledge). seeing z.seen (with_none_out k)) ran_is;
       }
 
-      pub ends_there : (seen : ℕ) (new : Knowledge) → Makes floor (Unreadies b.thread (lock_queue l.0) ∷ []) b w
-          → MakesEach floor (gives_both floor w.thread l.0) w z
-          → Makes floor (Stamps a.thread (Locked l mode) ∷ []) z new → TakeEnd floor l mode (Contends seen) a new
-      ends_there seen new runs gives notes =
+      pub ends_there : (seen : ℕ) → Makes floor (Unreadies b.thread (lock_queue l.0) ∷ []) b w
+          → MakesEach floor (gives_both floor w.thread l.0) w z → TakeEnd floor l mode (Contends seen) a z
+      ends_there seen runs gives =
           let run_step : Makes floor (Unreadies a.thread (lock_queue l.0) ∷ []) b w =
           subst (λ t. Makes floor (Unreadies t (lock_queue l.0) ∷ []) b w) its_gained runs in
           let give_steps : MakesEach floor (gives_both floor a.thread l.0) w z =
           subst (λ t. MakesEach floor (gives_both floor t l.0) w z) (ap (λ (k : Knowledge). k.thread) ran_is) gives in
-          in_section seen g.gain g.is_gain (
-            b,
-            g.step,
-            (
-              w,
-              run_step,
-              each_append floor (gives_both floor a.thread l.0) ((Stamps a.thread (Locked l mode) ∷ []) ∷ []) w z new
-                  give_steps (new, notes, refl),
-            ),
-          )
+          in_section seen g.gain g.is_gain (b, g.step, (w, run_step, give_steps))
 
 -- 2. It stands on the lock's queue
 
@@ -124,7 +112,7 @@ on_floor floor l low (Some t) ownerless = (low, go (is_turnstile ((config_in flo
     go false e = absurd (let z : Some t ≡ None = ownerless e in cc)
 
 module _ (floor : Description) (l : LockNo) (mode : Mode) (covered : IsCovered floor l.0 mode)
-    (one_chain : floor.chains ≡ 1) (a b : Knowledge) (calls : IsCalling floor (kept_of a)) (there : IsThere floor l.0 a)
+    (one_chain : floor.chains ≡ 1) (a b : Knowledge) (calls : CanAcquire floor (kept_of a)) (there : IsThere floor l.0 a)
     (to : run_time.Walk) (e : EntersStep floor l.0 mode (walk_of to) a b) where
   abbrev stands : Knowledge
   stands = entered a l.0 e.owner e.out

@@ -1,5 +1,5 @@
 -- A take and a release that wait, part after part.
-use Rattle.std.proofs.Common.{◌≡◌, ◌⊎◌, inl, inr, ◌<◌, length, refl, ap, ◌∙◌, subst, arith}
+use Rattle.std.proofs.Common.{◌≡◌, ◌⊎◌, inl, inr, ◌<◌, false, [], ◌∷◌, length, refl, ap, ◌∙◌, subst, arith}
 use Rattle.lock_model.specs.declared.event.Event.{Event}
 use Rattle.lock_model.specs.declared.event.Reversal.{Reversal}
 use Rattle.lock_model.specs.declared.numbers.LockNo.{LockNo}
@@ -8,7 +8,8 @@ use Rattle.lock_model.specs.declared.plan.Mode.{Mode}
 use Rattle.lock_model.specs.declared.plan.Mode.TheVariants.{Excl, Shared}
 use Rattle.lock_model.specs.Operations.{without_lock}
 use Rattle.floor_table.specs.declared.description.Description.{Description}
-use Rattle.floor_table.specs.Steps.{MakesEach}
+use Rattle.lock_state.specs.Steps.{Stamps}
+use Rattle.floor_table.specs.Steps.{Makes, MakesEach}
 use Rattle.floor_table.specs.Views.{Knowledge}
 use Rattle.lock_floor.specs.declared.calls.Call.TheVariants as calls
 use Rattle.lock_floor.specs.declared.calls.ReleaseAt.{ReleaseAt}
@@ -20,13 +21,13 @@ use Rattle.lock_floor.specs.Passes.{IsAtRest, MakesEntry}
 use Rattle.lock_calls.specs.declared.answers.Next.{Next}
 use Rattle.lock_calls.specs.declared.answers.Next.TheVariants.{Done, Again, Sleep, Wake, Reversed, Halted}
 use Rattle.lock_calls.specs.Releases as released
-use Rattle.lock_calls.specs.Releases.{IsUnderRelease, HasBegunRelease, StandsInRelease, ReleasesAtOnce, EndsRelease, WakesOne, GoesOnReleasing, noted_of}
+use Rattle.lock_calls.specs.Releases.{IsUnderRelease, HasBegunRelease, StandsInRelease, ReleasesAtOnce, EndsRelease, WakesOne, GoesOnReleasing}
 use Rattle.lock_calls.specs.Choices.{outside}
 use Rattle.lock_calls.specs.Steps.{Locks, Release, ByDrop, IsReleaseIn, unlocks, at_once}
-use Rattle.lock_calls.specs.Takes.{IsUnderTake, HasTaken, IsRefused, HasBegunTake, TakesAtOnce, BeginsTake, StandsInTake, EndsRefused, EndsHalted, WasHalted, GoesOnTaking}
+use Rattle.lock_calls.specs.Takes.{IsUnderTake, HasTaken, IsRefused, HasBegunTake, TakesAtOnce, BeginsTake, StandsInTake, EndsRefused, EndsHalted, WasHalted, GoesOnTaking, kept_at}
 use Rattle.lock_calls.specs.Waiting.{Kept, kept_of}
 use Rattle.lock_calls.proofs.Let as let_go
-use Rattle.lock_calls.proofs.Let.{HasNoted}
+use Rattle.lock_calls.proofs.Let.{HasNoted, Noted, noted_of}
 use Rattle.lock_calls.proofs.Taken as taken
 use Rattle.lock_calls.proofs.Taken.{begins_at, goes_on, ends, halts, entry_since, refused_since, under_take_on}
 
@@ -41,7 +42,7 @@ pub record HasLocked (floor : Description) (l : LockNo) (mode : Mode) (begun new
 abbrev pub StandsSince : Description → LockNo → Mode → Knowledge → Pass Knowledge → Type 0
 StandsSince floor l mode begun p =
     (at : TakeAt) × (p.call ≡ calls.Take l mode at) × IsUnderTake floor l mode at p.view
-    × (kept_of p.view ≡ kept_of begun) × taken.IsAt floor l.0 mode begun at p.view
+    × (kept_at at p.view ≡ kept_of begun) × taken.IsAt floor l.0 mode false begun at p.view
 
 module _ (floor : Description) (l : LockNo) (mode : Mode) (next : Next) (p q : Pass Knowledge)
     (b : HasBegunTake floor l mode next p q) where
@@ -50,7 +51,7 @@ module _ (floor : Description) (l : LockNo) (mode : Mode) (next : Next) (p q : P
       let d : TakesAtOnce floor l mode p q = subst (λ n. HasBegunTake floor l mode n p q) is b in
       record {
         taken = d.taken;
-        locks = record { gained = d.gained; gains = at_once d.bare d.gains; notes = d.notes };
+        locks = record { gained = d.gained; gains = at_once refl d.bare d.gains; notes = d.notes };
       }
 
   pub stands_begun : next ≡ Again → StandsSince floor l mode p.view q
@@ -82,9 +83,13 @@ module _ (floor : Description) (l : LockNo) (mode : Mode) (begun : Knowledge) (p
       record {
         taken = record {
           rest = d.1.rest;
-          entry = entry_since floor l mode begun p.view q.view s.3 d.1.entry;
+          entry = entry_since floor l mode s.0 begun p.view q.view s.3 d.1.entry;
         };
-        locks = ends floor l mode begun p.view q.view its (d.1.entry.thread ∙ its) s.0 s.4 d.2;
+        locks = record {
+          gained = d.2.gained;
+          gains = ends floor l mode false begun p.view d.2.gained its s.0 s.4 d.2.gains;
+          notes = subst (λ t. Makes floor (Stamps t (Event.Locked l mode) ∷ []) d.2.gained q.view) its d.2.notes;
+        };
       }
 
   stands : (n : Next) → StandsInTake floor l mode s.0 n p q → StandsSince floor l mode begun q
@@ -93,8 +98,8 @@ module _ (floor : Description) (l : LockNo) (mode : Mode) (begun : Knowledge) (p
     d.call,
     under_take_on floor l mode s.0 d.to p.view q.view s.2 d.on,
     d.on.kept ∙ s.3,
-    goes_on floor l mode begun p.view q.view its (ap (λ (k : Kept). k.thread) d.on.kept ∙ its) s.0 d.to s.2.there s.4
-        d.on.leg,
+    goes_on floor l mode false begun p.view q.view its (ap (λ (k : Kept). k.thread) d.on.kept ∙ its) s.0 d.to
+        s.2.calling.no_wait s.2.there s.4 d.on.leg,
   )
 
   pub stands_on : next ≡ Again → StandsSince floor l mode begun q
@@ -109,13 +114,13 @@ module _ (floor : Description) (l : LockNo) (mode : Mode) (begun : Knowledge) (p
   pub was_refused : (r : Reversal) → next ≡ Reversed r → IsRefused floor l r begun q.view
   was_refused r is =
       let d : EndsRefused floor l s.0 r p q = subst (λ n. GoesOnTaking floor l mode s.0 n p q) is w in
-      refused_since floor l mode begun p.view q.view r s.3
-      (subst (λ a. taken.IsAt floor l.0 mode begun a p.view) d.at_check s.4) d.refused
+      refused_since floor l mode s.0 begun p.view q.view r s.3
+      (subst (λ a. taken.IsAt floor l.0 mode false begun a p.view) d.at_check s.4) d.refused
 
   pub was_halted : next ≡ Halted → WasHalted floor l mode begun q.view
   was_halted is =
       let d : EndsHalted floor l s.0 p q = subst (λ n. GoesOnTaking floor l mode s.0 n p q) is w in
-      halts floor l mode begun p.view q.view its (d.halted.entry.thread ∙ its) s.0 s.4 s.3 d.halted
+      halts floor l mode begun p.view q.view its s.0 s.4 s.3 d.halted
 
 -- 2. A release
 
@@ -132,18 +137,20 @@ at_once_so : (mode : Mode) → IsReleaseIn mode (ByDrop 0)
 at_once_so Excl = refl
 at_once_so Shared = tt
 
--- where it stands
+-- where it stands, and what it has made since it was noted
 pub record ReleasesSince (floor : Description) (l : LockNo) (mode : Mode) (begun : Knowledge) (p : Pass Knowledge) :
     Type 0 where
   pub at : ReleaseAt
   pub call : p.call ≡ calls.Release l mode at
   pub under : IsUnderRelease floor l mode at p.view
   pub noted : HasNoted floor l mode begun p.view
-  pub is_at : let_go.IsAt floor l mode begun at p.view
+  pub behind : Knowledge
+  pub notes : Makes floor (Stamps begun.thread (Event.Unlocked l mode) ∷ []) begun behind
+  pub is_at : let_go.IsAt floor l mode 1 begun.thread begun.share.held behind at p.view
 
 noted_thread : (floor : Description) (l : LockNo) (mode : Mode) (begun now : Knowledge)
     → HasNoted floor l mode begun now → now.thread ≡ begun.thread
-noted_thread floor l mode begun now n = ap (λ (k : released.Noted). k.thread) n.still ∙ n.entry.thread
+noted_thread floor l mode begun now n = ap (λ (k : Noted). k.thread) n.still ∙ n.entry.thread
 
 module _ (floor : Description) (l : LockNo) (mode : Mode) (next : Next) (p q : Pass Knowledge)
     (b : HasBegunRelease floor l mode next p q) where
@@ -160,8 +167,10 @@ module _ (floor : Description) (l : LockNo) (mode : Mode) (next : Next) (p q : P
         call = d.call;
         under = d.there;
         noted = record { first = q.view; entry = d.entry; still = refl };
-        is_at = let_go.at_outside floor l mode p.view q.view d.found
-            (record { k = 1; some = omega arith; once = λ e. refl; each = d.steps }) d.entry.held;
+        behind = d.steps.0;
+        notes = d.steps.1;
+        is_at = let_go.at_outside floor l mode 1 p.view.thread p.view.share.held d.steps.0 q.view d.found
+            (record { k = 1; some = omega arith; few = λ e. omega arith; each = d.steps.2 }) d.entry.held;
       }
 
   pub release_begins_on : (next ≡ Sleep)
@@ -180,14 +189,15 @@ module _ (floor : Description) (l : LockNo) (mode : Mode) (begun : Knowledge) (p
   pub unlocked : next ≡ Done → HasUnlocked floor l mode begun q.view
   unlocked is =
       let d : EndsRelease floor l mode s.at p q = subst (λ n. GoesOnReleasing floor l mode s.at n p q) is w in
-      let end = let_go.ends_at floor l mode begun p.view q.view s.at its_own s.is_at d.released.end in
+      let end = let_go.ends_at floor l mode 1 begun.thread begun.share.held s.behind p.view q.view s.at its_own s.is_at
+      d.released.end in
       record {
-        rest = d.released.rest;
+        rest = d.rest;
         entry = let_go.entry_since floor l mode begun s.noted.first q.view s.noted.entry
-            (d.released.noted ∙ s.noted.still) end.held;
+            (ap noted_of d.released.kept ∙ s.noted.still) end.held;
         how = end.how;
-        is_so = end.is_so;
-        steps = end.steps;
+        is_so = let_go.release_in mode end.how end.is_so;
+        steps = (s.behind, s.notes, end.steps);
       }
 
   pub releases_on : next ≡ Again → ReleasesSince floor l mode begun q
@@ -196,9 +206,16 @@ module _ (floor : Description) (l : LockNo) (mode : Mode) (begun : Knowledge) (p
       record {
         at = d.to;
         call = d.call;
-        under = record { covered = s.under.covered; there = d.on.there };
-        noted = record { first = s.noted.first; entry = s.noted.entry; still = d.on.noted ∙ s.noted.still };
-        is_at = let_go.goes_on floor l mode begun p.view q.view its_own s.at d.to s.is_at d.on.leg;
+        under = d.there;
+        noted = record {
+          first = s.noted.first;
+          entry = s.noted.entry;
+          still = ap noted_of d.on.kept ∙ s.noted.still;
+        };
+        behind = s.behind;
+        notes = s.notes;
+        is_at = let_go.goes_on floor l mode 1 begun.thread begun.share.held s.behind p.view q.view its_own s.at d.to
+            s.is_at d.on.leg;
       }
 
   pub releases_awake : (next ≡ Sleep) ⊎ (((r : Reversal) × (next ≡ Reversed r)) ⊎ (next ≡ Halted)) → ⊥
@@ -211,20 +228,24 @@ module _ (floor : Description) (l : LockNo) (mode : Mode) (begun : Knowledge) (p
     one = subst (λ n. GoesOnReleasing floor l mode s.at n p q) is w
 
     pub wakes_low : t.0 < length floor.threads
-    wakes_low = one.of_floor
+    wakes_low = one.woken.of_floor
 
     pub releases_waking : ReleasesSince floor l mode begun q
     releases_waking =
-        let h : let_go.IsAt floor l mode begun Wakes p.view =
-        subst (λ a. let_go.IsAt floor l mode begun a p.view) one.at_end s.is_at in
+        let x = one.woken in
+        let h : let_go.IsAt floor l mode 1 begun.thread begun.share.held s.behind Wakes p.view =
+        subst (λ a. let_go.IsAt floor l mode 1 begun.thread begun.share.held s.behind a p.view) x.at_end s.is_at in
         record {
           at = Wakes;
           call = one.call;
-          under = record { covered = s.under.covered; there = one.there };
+          under = one.there;
           noted = record {
             first = s.noted.first;
             entry = s.noted.entry;
-            still = ap noted_of one.wakes.view ∙ s.noted.still;
+            still = ap noted_of x.wakes.view ∙ s.noted.still;
           };
-          is_at = let_go.wakes_on floor l mode begun p.view q.view its_own t.0 h one.wakes;
+          behind = s.behind;
+          notes = s.notes;
+          is_at = let_go.wakes_on floor l mode 1 begun.thread begun.share.held s.behind p.view q.view its_own t.0 h
+              x.wakes;
         }

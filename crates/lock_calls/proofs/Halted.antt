@@ -14,21 +14,19 @@ use Rattle.lock_state.specs.State.{State, Awake}
 use Rattle.lock_state.specs.Steps.{Stamps, Resumes, HasOutForEntry}
 use Rattle.lock_state.specs.Steps.LockWords.{Asks}
 use Rattle.lock_state.specs.Steps.Turnstiles.{called_after, wanted_after, noted_after, taking_by, woken_from_by, round_for}
-use Rattle.prio_lending.specs.declared.walk.Walk.TheVariants as walk
 use Rattle.floor_table.specs.Descriptions.{config_in}
 use Rattle.floor_table.specs.declared.description.Description.{Description}
 use Rattle.floor_table.specs.Shares.{Doing}
 use Rattle.floor_table.specs.Steps.{Fits, Makes, MayMake}
 use Rattle.floor_table.specs.Views.{Runs, StandsOn, Knowledge, seeing}
-use Rattle.lock_floor.specs.declared.calls.TakeAt.TheVariants.{Walks}
+use Rattle.lock_floor.specs.declared.calls.TakeAt.TheVariants.{Sleeps}
 use Rattle.lock_floor.specs.Passes.{IsAtRest}
 use Rattle.lock_floor.specs.Resumes.{cause_of, resumed, RunsAgain}
 use Rattle.lock_floor.specs.Views.{entry_by, stamped}
-use Rattle.lock_floor.specs.Walks.{CanWalk}
 use Rattle.lock_floor.proofs.May.{doing_it, holds_it, may_stamp_end}
 use Rattle.lock_floor.proofs.Resting.{rest_noted, rest_seeing}
-use Rattle.lock_calls.specs.Takes.{IsStanding, IsHalted}
-use Rattle.lock_calls.specs.Waiting.{kept_of, IsCalling}
+use Rattle.lock_calls.specs.Takes.{IsParked, IsHalted, kept_at}
+use Rattle.lock_calls.specs.Waiting.{IsCalling}
 use Rattle.lock_calls.proofs.Standing.{by_signal}
 
 -- at the moment of such an entry the halt word is 1
@@ -42,8 +40,8 @@ halt_is_set floor l t v w m = go m.state.halted refl
     go false e = absurd
         (m.sound.sleepers.no_sleep_is_halted e t (lock_queue l.0) m.may.0.fits.may.asks.0)
 
-module _ (floor : Description) (l : LockNo) (z : Knowledge) (m : IsStanding l.0 walk.None z) (can : CanWalk floor z)
-    (calls : IsCalling floor (kept_of z)) (w : Knowledge) (aborted : Bool) (is : aborted ≡ true)
+module _ (floor : Description) (l : LockNo) (z : Knowledge) (m : IsParked l.0 z)
+    (calls : IsCalling floor (kept_at Sleeps z)) (w : Knowledge) (aborted : Bool) (is : aborted ≡ true)
     (r : RunsAgain floor (cause_of aborted) z w) where
   abbrev c : Config
   c = config_in floor
@@ -55,7 +53,7 @@ module _ (floor : Description) (l : LockNo) (z : Knowledge) (m : IsStanding l.0 
   e = HaltedLock l
 
   its_queue : r.queue ≡ q
-  its_queue = let same : StandsOn r.queue ≡ StandsOn q = sym r.stands ∙ m.stands in cc
+  its_queue = let same : StandsOn r.queue ≡ StandsOn q = sym r.stands ∙ m.standing.stands in cc
 
   its_cause : cause_of aborted ≡ ByAbort
   its_cause = ap cause_of is
@@ -104,14 +102,14 @@ module _ (floor : Description) (l : LockNo) (z : Knowledge) (m : IsStanding l.0 
   v = seeing w.seen (aborted_in false)
 
   asks : (s : State) → Fits floor v s → Asks c s z.thread e × HasOutForEntry floor.chains s z.thread e
-  asks s f = ((doing_it floor v s f (λ d. d.noted), holds_it floor v s f l.0 ∙ m.unheld), tt)
+  asks s f = ((doing_it floor v s f (λ d. d.noted), holds_it floor v s f l.0 ∙ m.standing.unheld), tt)
 
   pub may_note_halt : MayMake floor w (λ s. Unit {0}) (Stamps w.thread e ∷ [])
   may_note_halt =
       subst (λ (x : Knowledge). MayMake floor x (λ s. Unit {0}) (Stamps x.thread e ∷ [])) (sym ran)
       (may_stamp_end floor v e asks tt (λ back. absurd (let y : false ≡ true = sym calls.no_wait ∙ back in cc)) refl
       (record { awake = refl; unended = calls.going.unended; stamped = calls.going.stamped })
-      (λ k takes. (same_Some l.0 k (sym m.takes ∙ takes), calls.no_wait)))
+      (λ k takes. (same_Some l.0 k (sym m.standing.takes ∙ takes), calls.no_wait)))
 
   pub room_for_halt : 1 ≤ z.spare → 1 ≤ w.spare
   room_for_halt room = subst (λ (x : Knowledge). 1 ≤ x.spare) (sym ran) room
@@ -120,8 +118,8 @@ module _ (floor : Description) (l : LockNo) (z : Knowledge) (m : IsStanding l.0 
   rests ticket =
       rest_noted floor forgotten ticket e refl (record {
         runs = refl;
-        nothing_out = can.nothing_out;
-        no_walk = sym m.walk_is;
+        nothing_out = m.nothing_out;
+        no_walk = sym m.standing.walk_is;
         unmarked = calls.unmarked;
         uncounted = calls.uncounted;
         wants_nothing = refl;
@@ -135,7 +133,7 @@ module _ (floor : Description) (l : LockNo) (z : Knowledge) (m : IsStanding l.0 
 
   pub is_halted : 1 ≤ z.spare → (new : Knowledge) (ticket : ℕ)
       → new ≡ seeing new.seen (stamped c w (entry_by w.thread ticket e))
-      → Makes floor (Stamps w.thread e ∷ []) w new → IsHalted floor l (Walks walk.None) z new
+      → Makes floor (Stamps w.thread e ∷ []) w new → IsHalted floor l Sleeps z new
   is_halted room new ticket says step =
       let halted : new ≡ seeing new.seen (stamped c (aborted_in false) (entry_by z.thread ticket e)) =
       says ∙ ap (λ (x : Knowledge). seeing new.seen (stamped c x (entry_by x.thread ticket e))) ran in
@@ -143,7 +141,7 @@ module _ (floor : Description) (l : LockNo) (z : Knowledge) (m : IsStanding l.0 
       subst (λ t. Makes floor (Stamps t e ∷ []) w new) its step in
       record {
         sleeps = sleeps;
-        stood = refl;
+        slept = refl;
         rest = subst (IsAtRest floor) (sym halted)
             (rest_seeing floor (stamped c (aborted_in false) (entry_by z.thread ticket e)) new.seen (rests ticket));
         entry = record {

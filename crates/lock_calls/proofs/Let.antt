@@ -6,13 +6,14 @@ use Rattle.std.proofs.lemmas.List.{replicate-append-replicate}
 use Rattle.lock_model.specs.Operations.{without_lock}
 use Rattle.lock_model.specs.Queues.{Mark, lock_queue}
 use Rattle.lock_model.specs.Words.{word_of, is_drop}
+use Rattle.lock_model.specs.declared.event.Entry.{Entry}
 use Rattle.lock_model.specs.declared.event.Event.{Event}
 use Rattle.lock_model.specs.declared.event.Held.{Held}
 use Rattle.lock_model.specs.declared.numbers.LockNo.{LockNo}
 use Rattle.lock_model.specs.declared.plan.Kind.{Kind}
 use Rattle.lock_model.specs.declared.plan.Mode.{Mode}
 use Rattle.lock_model.specs.declared.plan.Mode.TheVariants.{Excl, Shared}
-use Rattle.lock_state.specs.Steps.{Step, Looks, Drops, Stamps, TakesItem, GivesItem, Marks}
+use Rattle.lock_state.specs.Steps.{Step, Looks, Drops, TakesItem, GivesItem, CountsIn, Marks}
 use Rattle.lock_state.specs.Steps.Items.{Item, RecordOf}
 use Rattle.floor_table.specs.Descriptions.{config_in}
 use Rattle.floor_table.specs.declared.description.Description.{Description}
@@ -26,53 +27,75 @@ use Rattle.lock_floor.specs.Passes.{MakesEntry}
 use Rattle.lock_floor.specs.Waits.{its_chain}
 use Rattle.lock_floor.proofs.Taking.{HasWaited, waits_none, waits_on}
 use Rattle.lock_calls.specs.Choices.{outside}
-use Rattle.lock_calls.specs.Releases.{Noted, noted_of, AwaitsInRelease, ReleaseLeg, misses, takes_chain, comes_in, looks, makes_free, finds_out, ReleaseEnd, puts_down, nobody_left}
-use Rattle.lock_calls.specs.Steps.{Release, ByDrop, InSection, IsReleaseIn, frees, gives_both, unlocks}
+use Rattle.lock_calls.specs.Releases.{AwaitsInRelease, ReleaseLeg, misses, takes_chain, comes_in, looks, makes_free, finds_out, ReleaseEnd, puts_down, nobody_left}
+use Rattle.lock_calls.specs.Steps.{Release, ByDrop, InSection, IsReleaseIn, frees, gives_both, releases_by}
 use Rattle.lock_calls.proofs.Looks.{each_append}
 use Rattle.lock_calls.proofs.Waited.{makes_sooner, each_sooner}
 
 -- 1. So far
 
--- the release is noted, and behind that so many exchanges missed
-abbrev pub begins_release : ℕ → LockNo → Mode → ℕ → List (List Step)
-begins_release t l mode k = (Stamps t (Event.Unlocked l mode) ∷ []) ∷ replicate k (Looks t l.0 false ∷ [])
+-- what stays of the entry of a release
+pub record Noted : Type 0 where
+  pub thread : ℕ
+  pub spare : ℕ
+  pub log : List Entry
 
--- one at least did, and of a lock that is held exclusively no more
-pub record HasMissed (floor : Description) (l : LockNo) (mode : Mode) (begun now : Knowledge) : Type 0 where
-  pub k : ℕ
-  pub some : 1 ≤ k
-  pub once : mode ≡ Excl → k ≡ 1
-  pub each : MakesEach floor (begins_release begun.thread l mode k) begun now
+abbrev pub noted_of : Knowledge → Noted
+noted_of v = record { thread = v.thread; spare = v.spare; log = v.share.log }
+
+-- What a thread t has made of a release since a moment, behind its entry where it has one, at which it held these locks.
+-- Outside the section of the lock's chain it looked or made exchanges that missed, which were looks: one at least, and
+-- of a lock that is held exclusively so many at most
+pub record HasMissed (floor : Description) (l : LockNo) (mode : Mode) (most t : ℕ) (begun now : Knowledge) : Type 0
+  where
+    pub k : ℕ
+    pub some : 1 ≤ k
+    pub few : mode ≡ Excl → k ≤ most
+    pub each : MakesEach floor (replicate k (Looks t l.0 false ∷ [])) begun now
 
 -- then it took the lock's chain
-pub record HasTakenChain (floor : Description) (l : LockNo) (mode : Mode) (begun now : Knowledge) : Type 0 where
-  pub missed : Knowledge
-  pub begins : HasMissed floor l mode begun missed
-  pub took : Makes floor (TakesItem begun.thread (its_chain floor (lock_queue l.0)) ∷ []) missed now
+pub record HasTakenChain (floor : Description) (l : LockNo) (mode : Mode) (most t : ℕ) (begun now : Knowledge) : Type 0
+  where
+    pub missed : Knowledge
+    pub begins : HasMissed floor l mode most t begun missed
+    pub took : Makes floor (TakesItem t (its_chain floor (lock_queue l.0)) ∷ []) missed now
 
 -- and its own record, and looked so often
-pub record HasComeIn (floor : Description) (l : LockNo) (mode : Mode) (begun now : Knowledge) : Type 0 where
+pub record HasComeIn (floor : Description) (l : LockNo) (mode : Mode) (most t : ℕ) (begun now : Knowledge) : Type 0 where
   pub chain : Knowledge
-  pub has_chain : HasTakenChain floor l mode begun chain
+  pub has_chain : HasTakenChain floor l mode most t begun chain
   pub there : Knowledge
-  pub took : Makes floor (TakesItem begun.thread (RecordOf begun.thread) ∷ []) chain there
+  pub took : Makes floor (TakesItem t (RecordOf t) ∷ []) chain there
   pub n : ℕ
-  pub each : MakesEach floor (replicate n (Looks begun.thread l.0 false ∷ [])) there now
+  pub each : MakesEach floor (replicate n (Looks t l.0 false ∷ [])) there now
+
+-- so often it looked or missed outside the section, of a lock that is held exclusively
+abbrev pub IsSoOften : ℕ → Mode → Release → Type 0
+IsSoOften most mode (ByDrop k) = (1 ≤ k) × (mode ≡ Excl → k + 1 ≤ most)
+IsSoOften most mode (InSection k n opens ms) = (1 ≤ k) × (mode ≡ Excl → k ≤ most)
+
+-- where one exchange is made at most it is a release of its mode
+pub release_in : (mode : Mode) (how : Release) → IsSoOften 1 mode how → IsReleaseIn mode how
+release_in Excl (ByDrop k) often = omega (arith, often.0, often.1 refl)
+release_in Excl (InSection k n opens ms) often = omega (arith, often.0, often.1 refl)
+release_in Shared (ByDrop k) often = tt
+release_in Shared (InSection k n opens ms) often = often.0
 
 -- the lock is free, and once it has woken those who are left it has made a whole release
-pub record HasFreed (floor : Description) (l : LockNo) (mode : Mode) (begun now : Knowledge) : Type 0 where
+pub record HasFreed (floor : Description) (l : LockNo) (mode : Mode) (most t : ℕ) (begun now : Knowledge) : Type 0 where
   pub how : Release
-  pub is_so : IsReleaseIn mode how
-  pub whole : (z : Knowledge) → MakesEach floor (marking begun.thread now.share.doing.marked) now z
-      → MakesEach floor (unlocks floor begun.thread l mode how) begun z
+  pub is_so : IsSoOften most mode how
+  pub whole : (z : Knowledge) → MakesEach floor (marking t now.share.doing.marked) now z
+      → MakesEach floor (releases_by floor t l.0 mode how) begun z
 
 -- so at each place
-abbrev pub HasLet : Description → LockNo → Mode → Knowledge → ReleaseAt → Knowledge → Type 0
-HasLet floor l mode begun (places.Drops seen) now = HasMissed floor l mode begun now
-HasLet floor l mode begun ComesTo now = HasMissed floor l mode begun now
-HasLet floor l mode begun ComesIn now = HasTakenChain floor l mode begun now
-HasLet floor l mode begun (Frees seen) now = HasComeIn floor l mode begun now
-HasLet floor l mode begun Wakes now = HasFreed floor l mode begun now
+abbrev pub HasLet : Description → LockNo → Mode → ℕ → ℕ → Knowledge → ReleaseAt → Knowledge → Type 0
+HasLet floor l mode most t begun (places.Drops seen) now =
+    (m : HasMissed floor l mode most t begun now) × (mode ≡ Excl → m.k + 1 ≤ most)
+HasLet floor l mode most t begun ComesTo now = HasMissed floor l mode most t begun now
+HasLet floor l mode most t begun ComesIn now = HasTakenChain floor l mode most t begun now
+HasLet floor l mode most t begun (Frees seen) now = HasComeIn floor l mode most t begun now
+HasLet floor l mode most t begun Wakes now = HasFreed floor l mode most t begun now
 
 -- the locks that it holds then
 abbrev pub held_at : LockNo → List Held → ReleaseAt → List Held
@@ -83,13 +106,13 @@ held_at l hs (Frees seen) = hs
 held_at l hs Wakes = without_lock l.0 hs
 
 -- and it may have found out since what it needs
-pub record IsAt (floor : Description) (l : LockNo) (mode : Mode) (begun : Knowledge) (at : ReleaseAt)
-    (now : Knowledge) :
+pub record IsAt (floor : Description) (l : LockNo) (mode : Mode) (most t : ℕ) (hs : List Held) (begun : Knowledge)
+    (at : ReleaseAt) (now : Knowledge) :
     Type 0 where
   pub came : Knowledge
-  pub has_let : HasLet floor l mode begun at came
+  pub has_let : HasLet floor l mode most t begun at came
   pub waited : HasWaited came now
-  pub held : now.share.held ≡ held_at l begun.share.held at
+  pub held : now.share.held ≡ held_at l hs at
   pub settled : at ≡ Wakes → now.share.doing.marked ≡ [] → now ≡ came
 
 -- who found out what it needs to wake somebody has somebody to wake
@@ -104,43 +127,40 @@ nobody_waits floor l Wakes i old new needs view is nobody =
     sym needs.2 ∙ sym (ap (λ (k : Knowledge). k.share.doing.marked) view) ∙ nobody in
     cc
 
--- a release in the section is one of its mode
-in_section_so : (mode : Mode) (k n : ℕ) (opens : Bool) (ms : List Mark) → 1 ≤ k → (mode ≡ Excl → k ≡ 1)
-    → IsReleaseIn mode (InSection k n opens ms)
-in_section_so Excl k n opens ms some once = once refl
-in_section_so Shared k n opens ms some once = some
-
 -- where it stands behind an exchange that missed
-pub at_outside : (floor : Description) (l : LockNo) (mode : Mode) (begun new : Knowledge) (found : ℕ)
-    → HasMissed floor l mode begun new → new.share.held ≡ begun.share.held
-    → IsAt floor l mode begun (outside mode found) new
-at_outside floor l Excl begun new found h held = record {
+pub at_outside : (floor : Description) (l : LockNo) (mode : Mode) (most t : ℕ) (hs : List Held) (begun new : Knowledge)
+    (found : ℕ) → HasMissed floor l mode most t begun new → new.share.held ≡ hs
+    → IsAt floor l mode most t hs begun (outside mode found) new
+at_outside floor l Excl most t hs begun new found h held = record {
   came = new;
   has_let = h;
   waited = waits_none new;
   held = held;
   settled = λ e nobody. refl;
 }
-at_outside floor l Shared begun new found h held = go (is_drop (word_of found))
+at_outside floor l Shared most t hs begun new found h held = go (is_drop (word_of found))
   where
-    go : (b : Bool) → IsAt floor l Shared begun (if b then places.Drops found else ComesTo) new
-    go true = record { came = new; has_let = h; waited = waits_none new; held = held; settled = λ e nobody. refl }
+    go : (b : Bool) → IsAt floor l Shared most t hs begun (if b then places.Drops found else ComesTo) new
+    go true = record {
+      came = new;
+      has_let = (h, λ e. absurd (let z : Shared ≡ Excl = e in cc));
+      waited = waits_none new;
+      held = held;
+      settled = λ e nobody. refl;
+    }
     go false = record { came = new; has_let = h; waited = waits_none new; held = held; settled = λ e nobody. refl }
 
 -- 2. From one place to the next
 
-module _ (floor : Description) (l : LockNo) (mode : Mode) (begun : Knowledge) where
-  abbrev t : ℕ
-  t = begun.thread
-
+module _ (floor : Description) (l : LockNo) (mode : Mode) (most t : ℕ) (hs : List Held) (begun : Knowledge) where
   abbrev kind : Kind
   kind = (config_in floor).kind l.0
 
   abbrev look : List Step
-  look = Looks begun.thread l.0 false ∷ []
+  look = Looks t l.0 false ∷ []
 
-  more_looks : (now w : Knowledge) → HasComeIn floor l mode begun now → Makes floor look now w
-      → HasComeIn floor l mode begun w
+  more_looks : (now w : Knowledge) → HasComeIn floor l mode most t begun now → Makes floor look now w
+      → HasComeIn floor l mode most t begun w
   more_looks now w h step = record {
     chain = h.chain;
     has_chain = h.has_chain;
@@ -151,28 +171,23 @@ module _ (floor : Description) (l : LockNo) (mode : Mode) (begun : Knowledge) wh
         (each_append floor (replicate h.n look) (replicate 1 look) h.there now w h.each (w, step, refl));
   }
 
-  module _ (now new : Knowledge) (its : now.thread ≡ begun.thread) where
-    pub goes_on : (at to : ReleaseAt) → IsAt floor l mode begun at now → ReleaseLeg floor l mode at to now new
-        → IsAt floor l mode begun to new
-    goes_on at to h (misses seen found other shared held saw step) =
-        let m = h.has_let in
-        let e = m.each in
-        at_outside floor l mode begun new found
+  module _ (now new : Knowledge) (its : now.thread ≡ t) where
+    pub goes_on : (at to : ReleaseAt) → IsAt floor l mode most t hs begun at now → ReleaseLeg floor l mode at to now new
+        → IsAt floor l mode most t hs begun to new
+    goes_on at to h (misses seen found other held saw step) =
+        let m = h.has_let.0 in
+        at_outside floor l mode most t hs begun new found
         (record {
           k = m.k + 1;
           some = omega arith;
-          once = λ exclusive. absurd (let z : Shared ≡ Excl = sym shared ∙ exclusive in cc);
-          each = (
-            e.0,
-            e.1,
-            subst (λ xs. MakesEach floor xs e.0 new) (replicate-append-replicate m.k 1 look)
-                (each_append floor (replicate m.k look) (replicate 1 look) e.0 h.came new e.2 (
-                  new,
-                  makes_sooner floor look h.came now new h.waited
-                      (subst (λ u. Makes floor (Looks u l.0 false ∷ []) now new) its step),
-                  refl,
-                )),
-          );
+          few = h.has_let.1;
+          each = subst (λ xs. MakesEach floor xs begun new) (replicate-append-replicate m.k 1 look)
+              (each_append floor (replicate m.k look) (replicate 1 look) begun h.came new m.each (
+                new,
+                makes_sooner floor look h.came now new h.waited
+                    (subst (λ u. Makes floor (Looks u l.0 false ∷ []) now new) its step),
+                refl,
+              ));
         })
         (held ∙ h.held)
     goes_on at to h (takes_chain held step) = record {
@@ -227,9 +242,9 @@ module _ (floor : Description) (l : LockNo) (mode : Mode) (begun : Knowledge) wh
           came = new;
           has_let = record {
             how = InSection k.begins.k c.n opens marks;
-            is_so = in_section_so mode k.begins.k c.n opens marks k.begins.some k.begins.once;
+            is_so = (k.begins.some, k.begins.few);
             whole = λ z woken.
-                each_append floor (begins_release t l mode k.begins.k)
+                each_append floor (replicate k.begins.k look)
                 ((TakesItem t (its_chain floor (lock_queue l.0)) ∷ []) ∷ (TakesItem t (RecordOf t) ∷ [])
                 ∷ ((replicate c.n look ++ (frees kind t l.0 mode opens ∷ []) ∷ [])
                 ++ (gives_both floor t l.0 ++ marking t marks))) begun k.missed z k.begins.each (
@@ -260,15 +275,16 @@ module _ (floor : Description) (l : LockNo) (mode : Mode) (begun : Knowledge) wh
     }
 
     -- one more was woken
-    pub wakes_on : (u : ℕ) → IsAt floor l mode begun Wakes now → WakesFirst floor u now new
-        → IsAt floor l mode begun Wakes new
+    pub wakes_on : (u : ℕ) → IsAt floor l mode most t hs begun Wakes now → WakesFirst floor u now new
+        → IsAt floor l mode most t hs begun Wakes new
     wakes_on u h x =
         let left : new.share.doing.marked ≡ x.others = ap (λ (k : Knowledge). k.share.doing.marked) x.view in
         let all : h.came.share.doing.marked ≡ x.mark ∷ x.others =
         sym (ap (λ (k : Knowledge). k.share.doing.marked) h.waited.view) ∙ x.marked in
         let made : MakesEach floor (wakes t x.mark x.others) h.came new =
         each_sooner floor (TakesItem t (RecordOf x.mark.thread) ∷ [])
-        ((Marks t x.mark x.others ∷ []) ∷ (GivesItem t (RecordOf x.mark.thread) ∷ []) ∷ []) h.came now new h.waited
+        ((CountsIn t x.mark.thread ∷ []) ∷ (Marks t x.mark x.others ∷ [])
+        ∷ (GivesItem t (RecordOf x.mark.thread) ∷ []) ∷ []) h.came now new h.waited
         (subst (λ n. MakesEach floor (wakes n x.mark x.others) now new) its x.steps) in
         record {
           came = new;
@@ -287,48 +303,47 @@ module _ (floor : Description) (l : LockNo) (mode : Mode) (begun : Knowledge) wh
 
 -- 3. The end
 
-module _ (floor : Description) (l : LockNo) (mode : Mode) (begun now : Knowledge)
-    (h : IsAt floor l mode begun Wakes now)
-    (nobody : now.share.doing.marked ≡ []) where
-  none_left : h.came.share.doing.marked ≡ []
-  none_left = sym (ap (λ (k : Knowledge). k.share.doing.marked) h.waited.view) ∙ nobody
-
-  ends : MakesEach floor (unlocks floor begun.thread l mode h.has_let.how) begun now
-  ends = subst (λ k. MakesEach floor (unlocks floor begun.thread l mode h.has_let.how) begun k)
-      (sym (h.settled refl nobody))
-      (h.has_let.whole h.came
-      (subst (λ ms. MakesEach floor (marking begun.thread ms) h.came h.came) (sym none_left) refl))
-
 -- what it has made at its end, and which locks the thread holds then
-pub record HasEnded (floor : Description) (l : LockNo) (mode : Mode) (begun new : Knowledge) : Type 0 where
-  pub held : new.share.held ≡ without_lock l.0 begun.share.held
+pub record HasEnded (floor : Description) (l : LockNo) (mode : Mode) (most t : ℕ) (hs : List Held)
+    (begun new : Knowledge) : Type 0 where
+  pub held : new.share.held ≡ without_lock l.0 hs
   pub how : Release
-  pub is_so : IsReleaseIn mode how
-  pub steps : MakesEach floor (unlocks floor begun.thread l mode how) begun new
+  pub is_so : IsSoOften most mode how
+  pub steps : MakesEach floor (releases_by floor t l.0 mode how) begun new
 
-pub ends_at : (floor : Description) (l : LockNo) (mode : Mode) (begun now new : Knowledge) (at : ReleaseAt)
-    → now.thread ≡ begun.thread → IsAt floor l mode begun at now → ReleaseEnd floor l mode at now new
-    → HasEnded floor l mode begun new
-ends_at floor l mode begun now new at its h (puts_down seen is_shared held step) =
-    let drop : List Step = Drops begun.thread l.0 mode ∷ [] in
-    let k = h.has_let.k in
-    record {
-      held = held ∙ ap (without_lock l.0) h.held;
-      how = ByDrop k;
-      is_so = subst (λ m. IsReleaseIn m (ByDrop k)) (sym is_shared) tt;
-      steps = each_append floor (begins_release begun.thread l mode k) (drop ∷ []) begun h.came new h.has_let.each (
-        new,
-        makes_sooner floor drop h.came now new h.waited
-            (subst (λ u. Makes floor (Drops u l.0 mode ∷ []) now new) its step),
-        refl,
-      );
-    }
-ends_at floor l mode begun now new at its h (nobody_left nobody) = record {
-  held = h.held;
-  how = h.has_let.how;
-  is_so = h.has_let.is_so;
-  steps = ends floor l mode begun now h nobody;
-}
+module _ (floor : Description) (l : LockNo) (mode : Mode) (most t : ℕ) (hs : List Held) (begun now : Knowledge) where
+  module _ (h : IsAt floor l mode most t hs begun Wakes now) (nobody : now.share.doing.marked ≡ []) where
+    none_left : h.came.share.doing.marked ≡ []
+    none_left = sym (ap (λ (k : Knowledge). k.share.doing.marked) h.waited.view) ∙ nobody
+
+    ends : MakesEach floor (releases_by floor t l.0 mode h.has_let.how) begun now
+    ends = subst (λ k. MakesEach floor (releases_by floor t l.0 mode h.has_let.how) begun k)
+        (sym (h.settled refl nobody))
+        (h.has_let.whole h.came
+        (subst (λ ms. MakesEach floor (marking t ms) h.came h.came) (sym none_left) refl))
+
+  pub ends_at : (new : Knowledge) (at : ReleaseAt) → now.thread ≡ t → IsAt floor l mode most t hs begun at now
+      → ReleaseEnd floor l mode at now new → HasEnded floor l mode most t hs begun new
+  ends_at new at its h (puts_down seen held step) =
+      let drop : List Step = Drops t l.0 mode ∷ [] in
+      let m = h.has_let.0 in
+      record {
+        held = held ∙ ap (without_lock l.0) h.held;
+        how = ByDrop m.k;
+        is_so = (m.some, h.has_let.1);
+        steps = each_append floor (replicate m.k (Looks t l.0 false ∷ [])) (drop ∷ []) begun h.came new m.each (
+          new,
+          makes_sooner floor drop h.came now new h.waited
+              (subst (λ u. Makes floor (Drops u l.0 mode ∷ []) now new) its step),
+          refl,
+        );
+      }
+  ends_at new at its h (nobody_left nobody) = record {
+    held = h.held;
+    how = h.has_let.how;
+    is_so = h.has_let.is_so;
+    steps = ends h nobody;
+  }
 
 -- the release is noted since then
 pub record HasNoted (floor : Description) (l : LockNo) (mode : Mode) (begun now : Knowledge) : Type 0 where

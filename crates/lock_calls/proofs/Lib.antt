@@ -20,7 +20,9 @@ pub mod Leaving
 pub mod Outside
 pub mod Released
 pub mod Taken
+pub mod TakenBack
 pub mod Let
+pub mod GivenUp
 pub mod Calls
 pub mod Begun
 pub mod Woken

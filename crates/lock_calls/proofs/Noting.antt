@@ -10,14 +10,22 @@ use Rattle.floor_table.specs.Descriptions.{config_in}
 use Rattle.floor_table.specs.declared.description.Description.{Description}
 use Rattle.floor_table.specs.Steps.{Makes, MayMake}
 use Rattle.floor_table.specs.Views.{Knowledge, seeing}
+use Rattle.lock_floor.specs.declared.calls.TakeAt.{TakeAt}
 use Rattle.lock_floor.specs.Passes.{IsAtRest}
 use Rattle.lock_floor.specs.Views.{gained, entry_by, stamped}
 use Rattle.lock_floor.proofs.Calling as floor_calling
 use Rattle.lock_floor.proofs.Calling.{may_note_locked, rest_locked}
 use Rattle.lock_floor.proofs.Resting.{rest_seeing}
 use Rattle.lock_calls.specs.Steps.{as_taken}
-use Rattle.lock_calls.specs.Takes.{HasTaken}
+use Rattle.lock_calls.specs.Takes.{HasTaken, TakeEnd, at_check, in_round, in_section, kept_at}
 use Rattle.lock_calls.specs.Waiting.{Kept, kept_of, IsCalling, HasGained}
+
+-- where a take gains, it isn't asleep
+pub calling_at_end : (floor : Description) (l : LockNo) (mode : Mode) (at : TakeAt) (old new : Knowledge)
+    → TakeEnd floor l mode at old new → IsCalling floor (kept_at at old) → IsCalling floor (kept_of old)
+calling_at_end floor l mode at old new (at_check each) k = k
+calling_at_end floor l mode at old new (in_round left some each) k = k
+calling_at_end floor l mode at old new (in_section seen gain is each) k = k
 
 module _ (floor : Description) (l : LockNo) (mode : Mode) (old v : Knowledge) (k : IsCalling floor (kept_of old))
     (room : 1 ≤ old.spare) (g : HasGained l mode old v) where

@@ -1,14 +1,14 @@
 -- A release in the section of the lock's chain: what allows its steps there, and what each leaves.
-use Rattle.std.proofs.Common.{◌≡◌, ◌≢◌, ℕ, ◌<◌, ◌≤◌, arith, Bool, true, false, Some, List, [], ◌∷◌, map, refl, sym, ap, ◌∙◌, subst, inl, inr}
+use Rattle.std.proofs.Common.{◌≡◌, ◌≢◌, ℕ, ◌<◌, ◌≤◌, arith, Bool, true, false, Some, List, [], ◌∷◌, length, map, refl, sym, ap, ◌∙◌, subst, inl, inr}
 use Rattle.std.proofs.lemmas.Bool.{cases_eq, ne_eqb}
 use Rattle.lock_model.specs.Holds.{Hold, NotHeld, Holds, is_exclusive}
 use Rattle.lock_model.specs.Operations.{hold_in}
-use Rattle.lock_model.specs.Queues.{lock_queue}
+use Rattle.lock_model.specs.Queues.{lock_queue, chan_queue}
 use Rattle.lock_model.specs.Words.{Word, word_of, IsWellFormed, is_turnstile, Holder, Free, HeldBy, SharedBy, is_free, is_drop, sharers}
 use Rattle.lock_model.specs.declared.plan.Mode.{Mode}
 use Rattle.lock_model.specs.declared.plan.Mode.TheVariants.{Excl, Shared}
 use Rattle.chain_table.specs.Chains.{head_of}
-use Rattle.lock_objects.specs.Opens.{record_opened, chain_opened}
+use Rattle.lock_objects.specs.Opens.{record_opened, chain_opened, woken_of}
 use Rattle.lock_objects.specs.Represents.{mark_of}
 use Rattle.lock_objects.specs.Sleeps.{chain_woken}
 use Rattle.lock_laws.proofs.Kit.{sum_below-at, put_at_same}
@@ -26,19 +26,19 @@ use Rattle.floor_table.specs.Represents.{IsSeatOf, RepresentsShare, thread_in}
 use Rattle.floor_table.specs.Shares.{ShareColumns}
 use Rattle.floor_table.specs.Steps.{IsSound, Makes, MayMake}
 use Rattle.floor_table.specs.Views.{Knowledge, seeing}
+use Rattle.lock_floor.specs.Passes.{IsOffTheWay}
+use Rattle.lock_floor.specs.Relocks.{MayGiveUp}
 use Rattle.lock_floor.specs.Opens.{HasBothOut, MayOpenUp, OpensUp, out_opened, marks_opened}
 use Rattle.lock_floor.specs.SleepLocks.{MayOpenSleepers, OpensSleepers, sleepers_opened}
 use Rattle.lock_floor.specs.Sleeps.{HasSleeperOut, sleeper_out}
 use Rattle.lock_floor.specs.Views.{counts, looked, put_down}
 use Rattle.lock_floor.proofs.Finding.{finds_word, share_behind}
 use Rattle.lock_floor.proofs.Gaining.{dropped_unheld, opened_unheld}
-use Rattle.lock_floor.proofs.May.{may_drop}
+use Rattle.lock_floor.proofs.May.{may_drop_settled}
 use Rattle.lock_floor.proofs.MayWait as wait
-use Rattle.lock_floor.proofs.MayWait.{IsNoSleeper}
-use Rattle.lock_floor.proofs.MayWake.{may_open_up, may_open_sleepers}
+use Rattle.lock_floor.proofs.MayWake.{may_open_up_settled, may_open_sleepers}
 use Rattle.lock_floor.proofs.Opened.{last_shown}
 use Rattle.lock_calls.specs.Sections.{HasRecordAndChain}
-use Rattle.lock_calls.specs.Steps.{IsCovered}
 use Rattle.lock_calls.specs.Waiting.{MayLetGo, IsOwn, LetsGo, MissesOwn}
 use Rattle.lock_calls.proofs.Sections.{as_both, as_sleeper, from_both, from_sleeper, opens_turnstile, opens_asleep}
 use Rattle.lock_calls.proofs.Words.{look_at, word_seen}
@@ -128,15 +128,17 @@ asleep_unheld floor v w l mode m =
 
 -- 2. What is out in the section
 
-no_sleeper : (floor : Description) (l : ℕ) (mode : Mode) (v : Knowledge) → MayLetGo floor l mode v → IsNoSleeper v
-no_sleeper floor l mode v m = λ back e f g. let z : true ≡ false = sym back ∙ m.no_wait in cc
+-- it isn't on its way to a queue
+pub off_the_way : (v : Knowledge) → MayGiveUp v → IsOffTheWay v.pose
+off_the_way v (inl runs) = inl runs
+off_the_way v (inr (d, stands)) = inr (chan_queue d, stands)
 
-module _ (floor : Description) (l : ℕ) (mode : Mode) (v : Knowledge) (covered : IsCovered floor l mode)
+module _ (floor : Description) (l : ℕ) (mode : Mode) (v : Knowledge) (low : l < length floor.locks)
     (m : MayLetGo floor l mode v) where
   pub may_look_own : v.description ≡ floor → MayMake floor v (λ s. Unit {0}) (Looks v.thread l (counts v l) ∷ [])
   may_look_own mine =
-      wait.may_look_held floor v l (Record m.both.box) m.both.chain m.both.out covered.lock m.going
-      (no_sleeper floor l mode v m) mine m.no_round
+      wait.may_look_held_settled floor v l (Record m.both.box) m.both.chain m.both.out low m.going
+      (off_the_way v m.there) mine m.no_round
       (λ q. let z : Holds mode ≡ NotHeld = sym m.held ∙ q in cc) m.takes_nothing
 
   module _ (seen : ℕ) (own : IsOwn v.thread mode seen) where
@@ -146,21 +148,22 @@ module _ (floor : Description) (l : ℕ) (mode : Mode) (v : Knowledge) (covered 
     pub may_drop_there : is_drop (word_of seen) ≡ true
         → MayMake floor v (λ s. s.word l ≡ word_of seen) (Drops v.thread l mode ∷ [])
     may_drop_there stays =
-        may_drop floor v l mode (word_of seen) covered.lock m.held stays m.closed m.begun m.takes_nothing m.runs m.going
+        may_drop_settled floor v l mode (word_of seen) low m.held stays m.closed m.begun m.takes_nothing
+        (off_the_way v m.there) m.going
 
     pub may_open_there : is_turnstile ((config_in floor).kind l) ≡ true → is_drop (word_of seen) ≡ false
         → MayOpenUp floor l (word_of seen) v
     may_open_there turnstile opens =
         let w = last_shown (word_of seen) opens in
-        may_open_up floor v l mode (word_of seen) covered.lock turnstile m.held w.0 w.1 m.unmarked
-        m.takes_nothing m.closed m.begun m.runs m.going (as_both floor l turnstile v m.both)
+        may_open_up_settled floor v l mode (word_of seen) low m.held w.0 w.1 m.unmarked m.closed m.begun turnstile
+        m.takes_nothing m.there m.going (as_both floor l turnstile v m.both)
 
     pub may_open_asleep : is_turnstile ((config_in floor).kind l) ≡ false → is_drop (word_of seen) ≡ false
         → MayOpenSleepers floor l (word_of seen) v
     may_open_asleep sleeps opens =
         let w = last_shown (word_of seen) opens in
-        may_open_sleepers floor v l mode (word_of seen) covered.lock m.held w.0 w.1 m.unmarked m.closed m.begun sleeps
-        m.takes_nothing (inl m.runs) m.going (as_sleeper floor l sleeps v m.both)
+        may_open_sleepers floor v l mode (word_of seen) low m.held w.0 w.1 m.unmarked m.closed m.begun sleeps
+        m.takes_nothing (off_the_way v m.there) m.going (as_sleeper floor l sleeps v m.both)
 
   -- 3. The lock is let go
 
@@ -169,6 +172,8 @@ module _ (floor : Description) (l : ℕ) (mode : Mode) (v : Knowledge) (covered 
   dropped_there new view step = record {
     opens = false;
     marks = v.share.doing.marked;
+    places = [];
+    of_queue = m.unmarked;
     out = v.out;
     view = view;
     both = subst (HasRecordAndChain floor l) (sym view)
@@ -190,6 +195,8 @@ module _ (floor : Description) (l : ℕ) (mode : Mode) (v : Knowledge) (covered 
       record {
         opens = true;
         marks = marks_opened l o.side o.both.box o.turnstile;
+        places = woken_of l o.side o.both.box.value o.turnstile.contents;
+        of_queue = refl;
         out = out_opened floor v.thread l o.side o.both.box o.both.chain o.turnstile;
         view = o.view;
         both = from_both floor l turnstile new
@@ -220,6 +227,8 @@ module _ (floor : Description) (l : ℕ) (mode : Mode) (v : Knowledge) (covered 
       record {
         opens = true;
         marks = map (mark_of (lock_queue l)) (sleepers_opened floor l o.side v o.both);
+        places = sleepers_opened floor l o.side v o.both;
+        of_queue = refl;
         out = sleeper_out floor v.thread (lock_queue l) o.both.box left;
         view = o.view;
         both = from_sleeper floor l sleeps new

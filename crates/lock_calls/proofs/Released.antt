@@ -1,6 +1,6 @@
 -- A release is noted, and then it makes one exchange: each step may be made. Where the exchange hits, the thread is at
 -- rest again; where it misses, the release is under way.
-use Rattle.std.proofs.Common.{◌≡◌, ◌≢◌, ℕ, ◌+◌, ◌<◌, ◌≤◌, Bool, true, false, [], ◌∷◌, length, refl, sym, ap, ◌∙◌, subst, arith}
+use Rattle.std.proofs.Common.{◌≡◌, ◌≢◌, ℕ, ◌+◌, ◌<◌, ◌≤◌, Bool, true, false, [], ◌∷◌, length, inl, refl, sym, ap, ◌∙◌, subst, arith}
 use Rattle.lock_model.specs.Holds.{NotHeld, Holds}
 use Rattle.lock_model.specs.Operations.{hold_in, without_lock}
 use Rattle.lock_model.specs.Words.{Word, word_of, IsWellFormed, gained, is_drop}
@@ -17,21 +17,21 @@ use Rattle.floor_table.specs.declared.description.Description.{Description}
 use Rattle.floor_table.specs.Steps.{Fits, Makes, MakesEach, MayMake}
 use Rattle.floor_table.specs.Views.{Knowledge, seeing}
 use Rattle.lock_floor.specs.declared.calls.Call.TheVariants as calls
+use Rattle.lock_floor.specs.declared.calls.ReleaseAt.TheVariants.{ComesTo}
 use Rattle.lock_floor.specs.Floors.{Pass}
 use Rattle.lock_floor.specs.Passes.{IsAtRest, MakesEntry}
 use Rattle.lock_floor.specs.Views.{counts, looked, entry_by, stamped, put_down}
 use Rattle.lock_floor.proofs.Gaining.{dropped_unheld}
-use Rattle.lock_floor.proofs.May.{own_log, counts_not, may_drop, may_stamp}
+use Rattle.lock_floor.proofs.May.{own_log, counts_not, may_drop_settled, may_stamp}
 use Rattle.lock_floor.proofs.Resting.{leaves, rest_left, rest_seeing}
 use Rattle.lock_words.specs.Views.{IsHeldIn}
 use Rattle.lock_calls.specs.Choices.{outside}
-use Rattle.lock_calls.specs.Releases.{IsLeaving, IsReleasing, BeginsRelease, ReleasesAtOnce}
+use Rattle.lock_calls.specs.Releases.{IsReleasing, BeginsRelease, ReleasesAtOnce, held_once, once_released}
 use Rattle.lock_calls.specs.Steps.{MayRelease}
 use Rattle.lock_calls.specs.Waiting.{IsOwn, MayPutDown}
 use Rattle.lock_calls.proofs.Calls.{call_noted, view_noted}
-use Rattle.lock_calls.proofs.Leaving.{leaving_behind, stands_outside}
-use Rattle.lock_calls.proofs.Owned.{saw_own}
-use Rattle.lock_calls.proofs.Looks.{may_look_on}
+use Rattle.lock_calls.proofs.Leaving.{leaving_behind, stands_outside, looks_on, holds_outside}
+use Rattle.lock_calls.proofs.Owned.{off_the_way, saw_own}
 use Rattle.lock_calls.proofs.Words.{other_word}
 
 -- 1. The entry
@@ -60,14 +60,11 @@ module _ (floor : Description) (v : Knowledge) (l : LockNo) (mode : Mode) (r : I
         begun = r.begun l.0 (λ q. absurd (let z : Holds mode ≡ NotHeld = sym held ∙ q in cc));
         unmarked = r.unmarked;
         uncounted = r.uncounted;
-        no_wait = refl;
-        looks = record {
-          runs = r.runs;
-          nothing_out = r.nothing_out;
-          takes_nothing = r.takes_nothing;
-          no_round = r.no_round;
-          going = r.going;
-        };
+        there = inl r.runs;
+        nothing_out = r.nothing_out;
+        takes_nothing = r.takes_nothing;
+        no_round = r.no_round;
+        going = r.going;
       }
 
 -- the thread's number is one of the floor's, which are few
@@ -78,13 +75,6 @@ few_threads floor l mode v w ticket is m =
     omega (arith, ap (λ (k : Knowledge). k.thread) is, m.may.0.fits.may.thread, m.represents.sizes.sized.threads)
 
 -- 2. The exchange
-
--- where it misses, that is a look at a lock that the thread holds
-pub may_look_held : (floor : Description) (v : Knowledge) (l : ℕ) (mode : Mode) → v.description ≡ floor
-    → l < length floor.locks → MayPutDown floor l mode v
-    → MayMake floor v (λ s. Unit {0}) (Looks v.thread l (counts v l) ∷ [])
-may_look_held floor v l mode mine low m =
-    may_look_on floor v l mine low m.looks (λ u. absurd (let z : Holds mode ≡ NotHeld = sym m.held ∙ u in cc))
 
 -- the word of a lock that the thread alone holds, and for which nobody is shown
 pub own_drops : (own t : ℕ) (mode : Mode) → word_of own ≡ gained (word_of 0) t mode → is_drop (word_of own) ≡ true
@@ -100,8 +90,8 @@ pub may_drop_own : (floor : Description) (l : ℕ) (mode : Mode) (own t : ℕ) (
     → word_of own ≡ gained (word_of 0) t mode → MayPutDown floor l mode v
     → MayMake floor v (λ s. s.word l ≡ word_of own) (Drops v.thread l mode ∷ [])
 may_drop_own floor l mode own t v low is m =
-    may_drop floor v l mode (word_of own) low m.held (own_drops own t mode is) m.closed m.begun m.looks.takes_nothing
-    m.looks.runs m.looks.going
+    may_drop_settled floor v l mode (word_of own) low m.held (own_drops own t mode is) m.closed m.begun m.takes_nothing
+    (off_the_way v m.there) m.going
 
 -- another word is another than that one
 pub other_own : (found own t s : ℕ) (mode : Mode) → found ≢ own → word_of own ≡ gained (word_of 0) t mode → t ≡ s
@@ -123,12 +113,34 @@ module _ (floor : Description) (l : LockNo) (mode : Mode) (ticket : ℕ) (old v 
     its : v.thread ≡ old.thread
     its = ap (λ (k : Knowledge). k.thread) says
 
-    pub leaving_noted : IsLeaving floor l.0 mode v
-    leaving_noted = record {
-      may = may_put_down floor old l mode r held ticket v says;
-      rest_then = subst (λ k. hold_in (without_lock l.0 k.share.held) l.0 ≡ NotHeld → IsAtRest floor (put_down k l.0))
-          (sym says) (rest_left floor l.0 mode noted (leaves floor old l mode ticket r held) v.seen);
-    }
+    pub leaving_noted : MayPutDown floor l.0 mode v
+    leaving_noted = may_put_down floor old l mode r held ticket v says
+
+    -- it is at rest once it has put the lock down
+    rest_then : hold_in (without_lock l.0 v.share.held) l.0 ≡ NotHeld → IsAtRest floor (put_down v l.0)
+    rest_then = subst (λ k. hold_in (without_lock l.0 k.share.held) l.0 ≡ NotHeld → IsAtRest floor (put_down k l.0))
+        (sym says) (rest_left floor l.0 mode noted (leaves floor old l mode ticket r held) v.seen)
+
+    pub rest_once : hold_in (without_lock l.0 v.share.held) l.0 ≡ NotHeld → IsAtRest floor (once_released l.0 ComesTo v)
+    rest_once unheld =
+        let k : IsAtRest floor (put_down v l.0) = rest_then unheld in
+        record {
+          runs = k.runs;
+          nothing_out = refl;
+          no_walk = k.no_walk;
+          unmarked = refl;
+          uncounted = k.uncounted;
+          wants_nothing = k.wants_nothing;
+          takes_nothing = k.takes_nothing;
+          no_round = k.no_round;
+          no_looks = k.no_looks;
+          no_last_look = refl;
+          unnoted = k.unnoted;
+          going = record { awake = k.going.awake; unended = k.going.unended; stamped = k.going.stamped };
+          no_wait = k.no_wait;
+          sections = k.sections;
+          begun = k.begun;
+        }
 
     -- it put the lock down
     pub at_once : Makes floor (Stamps old.thread e ∷ []) old v → new ≡ seeing new.seen (put_down v l.0)
@@ -141,7 +153,7 @@ module _ (floor : Description) (l : LockNo) (mode : Mode) (ticket : ℕ) (old v 
         (dropped_unheld floor v new l.0 mode drops) in
         record {
           rest = subst (IsAtRest floor) (sym view)
-              (rest_seeing floor (put_down v l.0) new.seen (leaving_noted.rest_then unheld));
+              (rest_seeing floor (put_down v l.0) new.seen (rest_then unheld));
           entry = record {
             ticket = ticket;
             log = ap (λ (k : Knowledge). k.share.log) is;
@@ -184,7 +196,7 @@ module _ (floor : Description) (l : LockNo) (mode : Mode) (ticket : ℕ) (old v 
           → MakesEach floor ((Stamps old.thread e ∷ []) ∷ (Looks old.thread l.0 false ∷ []) ∷ []) old new
       begin_steps step look =
           let quiet : counts v l.0 ≡ false =
-          counts_not floor v l.0 mode leaving_noted.may.looks.no_round leaving_noted.may.held in (
+          counts_not floor v l.0 mode leaving_noted.no_round leaving_noted.held in (
             v,
             step,
             (
@@ -212,7 +224,12 @@ begins floor l mode ticket old v r held room p u q may is says step found formed
             (stands_outside floor l.0 mode found u.view
             (leaving_behind floor l.0 mode v u.view (word_of found) view leaving)
             (subst (λ t. IsOwn t mode found) (sym (ap (λ (k : Knowledge). k.thread) view))
-            (saw_own floor l.0 mode found (counts v l.0) v u.view leaving.may.held formed view look)));
+            (saw_own floor l.0 mode found (counts v l.0) v u.view leaving.held formed view look)));
+        rest_then = subst (λ k. hold_in (held_once l.0 (outside mode found) k.share.held) l.0 ≡ NotHeld
+            → IsAtRest floor (once_released l.0 (outside mode found) k)) same
+            (λ unheld. subst (IsAtRest floor) (sym kept)
+            (rest_once floor l mode ticket old v u.view r held room says
+            (sym (ap (λ (k : Knowledge). hold_in k.share.held l.0) kept) ∙ unheld)));
       };
       saw = ap (λ (k : Knowledge). k.share.doing.last_look) (sym same ∙ view);
       other = other;
@@ -227,5 +244,10 @@ begins floor l mode ticket old v r held room p u q may is says step found formed
     same : u.view ≡ q.view
     same = sym (view_noted u q (calls.Release l mode (outside mode found)) noted)
 
-    leaving : IsLeaving floor l.0 mode v
+    leaving : MayPutDown floor l.0 mode v
     leaving = leaving_noted floor l mode ticket old v u.view r held room says
+
+    kept : once_released l.0 (outside mode found) u.view ≡ once_released l.0 ComesTo v
+    kept = holds_outside l.0 mode found u.view
+        ∙ ap (once_released l.0 ComesTo)
+        (looks_on floor l.0 mode v u.view (word_of found) view leaving.no_round leaving.held)

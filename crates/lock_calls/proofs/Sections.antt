@@ -68,32 +68,40 @@ module _ (floor : Description) (l : ℕ) where
   chain_out old new k empty = ap (λ (v : Knowledge). v.out) k.view
       ∙ (λ i. (chain_place floor (lock_queue l), k.value) ∷ empty i)
 
+  boxed : (t : ℕ) (y : Slot) → IsOfKind (RecordOf t) y → (b : Box ThreadRec Global) × (y ≡ Record b)
+  boxed t (Record b) is = (b, refl)
+  boxed t (Cell value) is = absurd is
+  boxed t (Turnstiles c) is = absurd is
+  boxed t (SleepQueues c) is = absurd is
+  boxed t (Graph g) is = absurd is
+
+  pub both_out : (old new : Knowledge) (chain : Slot) → IsItsChain floor l chain
+      → Takes floor (RecordOf old.thread) old.thread old new
+      → old.out ≡ (chain_place floor (lock_queue l), chain) ∷ [] → HasRecordAndChain floor l new
+  both_out old new chain of_lock k out =
+      let b = boxed old.thread k.value k.kind in
+      record {
+        box = b.0;
+        chain = chain;
+        of_lock = of_lock;
+        out = ap (λ (v : Knowledge). v.out) k.view ∙ (λ i. (old.thread, b.1 i) ∷ out i)
+            ∙ ap (λ t. section_out floor t l b.0 chain) (sym (ap (λ (v : Knowledge). v.thread) k.view));
+      }
+
+  -- and where the thread stands on no queue its objects are there
   pub record_out : (old new : Knowledge) (chain : Slot) → IsItsChain floor l chain
       → Takes floor (RecordOf old.thread) old.thread old new → is_off_queues old.pose ≡ true
       → old.out ≡ (chain_place floor (lock_queue l), chain) ∷ []
       → (both : HasRecordAndChain floor l new) × HasItsObjects both.box
+  unfolding both_out
   record_out old new chain of_lock k off out =
-      let b = boxed k.value k.kind in
+      let b = boxed old.thread k.value k.kind in
       let x = filled b.0.value.turnstile (own_turnstile floor old new b.0 k b.1 off) in
-      let y = filled b.0.value.sleep_queue (own_sleep_queue floor old new b.0 k b.1 off) in
-      let its : new.thread ≡ old.thread = ap (λ (v : Knowledge). v.thread) k.view in (
-        record {
-          box = b.0;
-          chain = chain;
-          of_lock = of_lock;
-          out = ap (λ (v : Knowledge). v.out) k.view ∙ (λ i. (old.thread, b.1 i) ∷ out i)
-              ∙ ap (λ t. section_out floor t l b.0 chain) (sym its);
-        },
+      let y = filled b.0.value.sleep_queue (own_sleep_queue floor old new b.0 k b.1 off) in (
+        both_out old new chain of_lock k out,
         record { turnstile = x.0; lent = x.1; sleep_queue = y.0; home = y.1 },
       )
     where
-      boxed : (y : Slot) → IsOfKind (RecordOf old.thread) y → (b : Box ThreadRec Global) × (y ≡ Record b)
-      boxed (Record b) is = (b, refl)
-      boxed (Cell value) is = absurd is
-      boxed (Turnstiles c) is = absurd is
-      boxed (SleepQueues c) is = absurd is
-      boxed (Graph g) is = absurd is
-
       filled : (o : Option ℕ) → IsSome o → (x : ℕ) × (o ≡ Some x)
       filled (Some x) some = (x, refl)
       filled None some = absurd (let z : false ≡ true = some in cc)

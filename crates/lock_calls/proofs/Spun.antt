@@ -3,10 +3,9 @@ use Rattle.std.proofs.Common.{◌≡◌, ℕ, ◌+◌, ◌<◌, ◌≤◌, Bool,
 use Rattle.lock_model.specs.Queues.{lock_queue}
 use Rattle.lock_model.specs.Words.{Word, word_of}
 use Rattle.lock_model.specs.declared.plan.Kind.{Kind}
-use Rattle.lock_model.specs.declared.event.Event.TheVariants.{Locked}
 use Rattle.lock_model.specs.declared.numbers.LockNo.{LockNo}
 use Rattle.lock_model.specs.declared.plan.Mode.{Mode}
-use Rattle.lock_state.specs.Steps.{Looks, Gains, Readies, Stamps}
+use Rattle.lock_state.specs.Steps.{Looks, Gains, Readies}
 use Rattle.lock_state.specs.Steps.Items.{RecordOf}
 use Rattle.floor_table.specs.Descriptions.{config_in}
 use Rattle.floor_table.specs.declared.description.Description.{Description}
@@ -86,14 +85,12 @@ spins_on floor l mode left n rest word some old seen new m room on x leaves =
     }
 
 -- the gain
-pub spun_end : (floor : Description) (l : LockNo) (mode : Mode) (left : ℕ) → 1 ≤ left → (old v new : Knowledge)
-    → SpinsThenGains floor (as_taken l mode) 1 old v → Makes floor (Stamps old.thread (Locked l mode) ∷ []) v new
-    → TakeEnd floor l mode (Spins left) old new
-spun_end floor l mode left some old v new s notes =
+pub spun_end : (floor : Description) (l : LockNo) (mode : Mode) (left : ℕ) → 1 ≤ left → (old v : Knowledge)
+    → SpinsThenGains floor (as_taken l mode) 1 old v → TakeEnd floor l mode (Spins left) old v
+spun_end floor l mode left some old v s =
     in_round left some
-    (each_append floor (replicate 1 (Looks old.thread l.0 true ∷ []))
-    ((Gains old.thread l.0 mode false ∷ []) ∷ (Stamps old.thread (Locked l mode) ∷ []) ∷ []) old s.between new
-    s.spun.steps (v, s.step, (new, notes, refl)))
+    (each_append floor (replicate 1 (Looks old.thread l.0 true ∷ [])) ((Gains old.thread l.0 mode false ∷ []) ∷ []) old
+    s.between v s.spun.steps (v, s.step, refl))
 
 -- 2. The chain
 

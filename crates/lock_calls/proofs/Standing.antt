@@ -1,31 +1,37 @@
--- A take whose thread stands on the lock's queue: it makes hop after hop of its walk, and runs again where it was
--- woken.
-use Rattle.std.proofs.Common.{◌≡◌, ◌≢◌, ℕ, ◌<◌, ◌≤◌, Bool, true, false, [], ◌∷◌, length, refl, sym, ap, ◌∙◌, subst, arith}
+-- A take whose thread stands on the lock's queue: it makes hop after hop of its walk, counts itself out, and runs again
+-- where it was woken.
+use Rattle.std.proofs.Common.{◌≡◌, ◌≢◌, ℕ, ◌<◌, ◌≤◌, Bool, true, false, Option, Some, [], ◌∷◌, length, refl, sym, ap, ◌∙◌, subst, inl, arith}
+use Rattle.std.specs.Prelude.{◌==◌, if◌then◌else◌}
 use Rattle.lock_model.specs.Operations.{hold_in}
-use Rattle.lock_model.specs.Queues.{Cause, BySignal, lock_queue}
+use Rattle.lock_model.specs.Queues.{Cause, BySignal, ByAbort, lock_queue}
 use Rattle.lock_model.specs.Words.{is_turnstile}
 use Rattle.lock_model.specs.declared.numbers.LockNo.{LockNo}
 use Rattle.lock_model.specs.declared.plan.Mode.{Mode}
 use Rattle.lock_model.specs.declared.plan.QueueName.{QueueName}
 use Rattle.lock_objects.specs.Represents.{walk_of}
-use Rattle.lock_state.specs.State.{Woken, NoWalk, AtLock, AtThread}
-use Rattle.lock_state.specs.Steps.{Resumes}
+use Rattle.lock_state.specs.State.{Woken, NoWalk, AtLock, AtThread, Awake, Asleep, Last, is_parked}
+use Rattle.lock_state.specs.Steps.{CountsOut, Resumes}
+use Rattle.lock_state.specs.Steps.Counting.{phase_out}
 use Rattle.lock_state.specs.Steps.Items.{RecordOf}
-use Rattle.lock_state.specs.Steps.Turnstiles.{round_for}
+use Rattle.lock_state.specs.Steps.LockWords.{is_taking_back}
+use Rattle.lock_state.specs.Steps.Turnstiles.{called_after, wanted_after, noted_after, taking_by, woken_from_by, round_for}
 use Rattle.lock_laws.specs.Signals.{WakesFitQueues}
 use Rattle.prio_lending.specs.declared.walk.Walk as run_time
 use Rattle.prio_lending.specs.declared.walk.Walk.TheVariants as walk
 use Rattle.floor_table.specs.Descriptions.{config_in}
 use Rattle.floor_table.specs.declared.description.Description.{Description}
-use Rattle.floor_table.specs.Steps.{Makes}
-use Rattle.floor_table.specs.Views.{StandsOn, Knowledge, seeing}
-use Rattle.lock_floor.specs.declared.calls.TakeAt.TheVariants.{Spins, Walks, Hops}
+use Rattle.floor_table.specs.Steps.{Makes, MayMake}
+use Rattle.floor_table.specs.Shares.{Doing}
+use Rattle.floor_table.specs.Views.{Runs, StandsOn, Knowledge, seeing}
+use Rattle.lock_floor.specs.declared.calls.TakeAt.TheVariants.{Spins, Walks, Hops, Sleeps}
+use Rattle.lock_floor.specs.declared.counts.Count.TheVariants.{Out}
+use Rattle.lock_floor.specs.Counts.{counted}
 use Rattle.lock_floor.specs.Latches.{FindsOut, Takes}
 use Rattle.lock_floor.specs.Resumes.{cause_of, resumed, FindsQueued, MayRunAgain, RunsAgain}
 use Rattle.lock_floor.specs.Walks.{CanWalk, HasTurnstilesOut, HopsOn, NeedsRecord, turnstiles, turnstiles_place}
-use Rattle.lock_floor.proofs.MayWake.{may_run_again}
-use Rattle.lock_calls.specs.Takes.{IsStanding, TakesOn, takes_turnstiles, hops, resumes, finds_out, is_queued}
-use Rattle.lock_calls.specs.Waiting.{kept_of, IsCalling}
+use Rattle.lock_floor.proofs.MayWake.{may_count_out, may_run_again}
+use Rattle.lock_calls.specs.Takes.{IsStanding, IsParked, TakesOn, kept_at, takes_turnstiles, hops, counts_out, resumes, finds_out, is_queued}
+use Rattle.lock_calls.specs.Waiting.{kept_of, CanAcquire}
 
 -- 1. What stays
 
@@ -38,6 +44,13 @@ standing_still l there v w view m = subst (IsStanding l there) (sym view) record
   takes = m.takes;
   stands = m.stands;
   walk_is = m.walk_is;
+}
+
+parked_still : (l : ℕ) (v w : Knowledge) → w ≡ seeing w.seen v → IsParked l v → IsParked l w
+parked_still l v w view m = subst (IsParked l) (sym view) record {
+  standing = standing_still l walk.None v (seeing w.seen v) refl m.standing;
+  nothing_out = m.nothing_out;
+  parked = m.parked;
 }
 
 pub walk_still : (floor : Description) (v w : Knowledge) → w ≡ seeing w.seen v → CanWalk floor v → CanWalk floor w
@@ -134,7 +147,42 @@ module _ (floor : Description) (l : LockNo) (mode : Mode) (there : run_time.Walk
     leg = finds_out (Hops there) (RecordOf finds.0) (finds.0, finds.1, refl) view finds.2;
   }
 
--- 3. It runs again
+-- 3. It counts itself out
+
+-- so it is parked, whoever else is awake
+parked_out : (awake : ℕ) → is_parked (phase_out awake) ≡ true
+parked_out awake = go (awake == 1)
+  where
+    go : (b : Bool) → is_parked (if b then Last else Asleep) ≡ true
+    go true = refl
+    go false = refl
+
+module _ (floor : Description) (l : LockNo) (mode : Mode) (z : Knowledge) (m : IsStanding l.0 walk.None z)
+    (can : CanWalk floor z) (calls : CanAcquire floor (kept_of z)) where
+  pub may_park : MayMake floor z (λ s. Unit {0}) (CountsOut z.thread ∷ [])
+  may_park =
+      may_count_out floor z (lock_queue l.0) m.stands can.nothing_out (sym m.walk_is) calls.unmarked can.going tt
+
+  pub goes_to_sleep : (new : Knowledge) (found : ℕ) → new ≡ seeing new.seen (counted Out found z)
+      → Makes floor (CountsOut z.thread ∷ []) z new → TakesOn floor l mode (Walks walk.None) Sleeps z new
+  goes_to_sleep new found view step = record {
+    there = subst (IsParked l.0) (sym view) record {
+      standing = record {
+        unheld = m.unheld;
+        few = m.few;
+        wants = m.wants;
+        takes = m.takes;
+        stands = m.stands;
+        walk_is = m.walk_is;
+      };
+      nothing_out = can.nothing_out;
+      parked = parked_out found;
+    };
+    kept = ap (kept_at Sleeps) view ∙ (λ i. record (kept_of z) { phase = sym calls.going.awake i });
+    leg = counts_out step;
+  }
+
+-- 4. It runs again
 
 -- who stands on a lock's turnstile is woken by a signal
 pub by_signal : (floor : Description) (l : ℕ) → is_turnstile ((config_in floor).kind l) ≡ true
@@ -145,58 +193,109 @@ by_signal floor l turnstile old new q cause is m =
     m.sound.turnstiles.wakes_fit_queues old.thread (lock_queue l) cause
     (subst (λ r. m.state.wait old.thread ≡ Woken r cause) is m.may.0.fits.may.woken) turnstile
 
-module _ (floor : Description) (l : LockNo) (mode : Mode) (z : Knowledge)
-    (m : IsStanding l.0 walk.None z) (can : CanWalk floor z) (calls : IsCalling floor (kept_of z)) where
+module _ (floor : Description) (l : LockNo) (mode : Mode) (z : Knowledge) (p : IsParked l.0 z)
+    (calls : CanAcquire floor (kept_at Sleeps z)) where
+  abbrev m : IsStanding l.0 walk.None z
+  m = p.standing
+
   pub may_wake_up : MayRunAgain floor z
-  may_wake_up = may_run_again floor z (lock_queue l.0) m.stands can.nothing_out (sym m.walk_is) calls.going.stamped tt
+  may_wake_up =
+      may_run_again floor z (lock_queue l.0) m.stands p.nothing_out (sym m.walk_is) calls.going.stamped (inl p.parked)
+      tt
 
   pub sleeps_on : (new : Knowledge) → new ≡ seeing new.seen z → FindsQueued floor z new
-      → TakesOn floor l mode (Walks walk.None) (Walks walk.None) z new
+      → TakesOn floor l mode Sleeps Sleeps z new
   sleeps_on new view queued = record {
-    there = (standing_still l.0 walk.None z new view m, walk_still floor z new view can);
-    kept = ap kept_of view;
+    there = parked_still l.0 z new view p;
+    kept = ap (kept_at Sleeps) view;
     leg = is_queued view queued;
   }
 
-  module _ (new : Knowledge) (aborted : Bool) (is : aborted ≡ false) (r : RunsAgain floor (cause_of aborted) z new)
-    where
-      its_queue : r.queue ≡ lock_queue l.0
-      its_queue = let same : StandsOn r.queue ≡ StandsOn (lock_queue l.0) = sym r.stands ∙ m.stands in cc
+  -- what it knows then, in a wait or not
+  abbrev ran_by : Cause → Bool → Knowledge
+  ran_by cause back =
+      let x : Doing = z.share.doing in
+      let q : QueueName = lock_queue l.0 in
+      let after : Doing = record x {
+        called = called_after q cause x.called;
+        wanted = wanted_after (config_in floor) q cause back x.wanted;
+        noted = noted_after q cause back x.noted;
+        taking = taking_by (config_in floor) q x.taking;
+        woken_from = woken_from_by q cause x.woken_from;
+        looks = 0;
+        round = round_for (wanted_after (config_in floor) q cause back x.wanted);
+        phase = Awake;
+      } in
+      record z { share = record z.share { doing = after }; pose = Runs }
 
-      its_cause : cause_of aborted ≡ BySignal
-      its_cause = ap cause_of is
+  -- it wants the lock still, in a round of it
+  abbrev running : Option ℕ → Knowledge
+  running called =
+      let after : Doing = record z.share.doing {
+        called = called;
+        looks = 0;
+        round = round_for z.share.doing.wanted;
+        phase = Awake;
+      } in
+      record z { share = record z.share { doing = after }; pose = Runs }
 
-      resumed_is : new ≡ seeing new.seen (resumed (config_in floor) z (lock_queue l.0) BySignal)
-      resumed_is = r.view ∙ (λ i. seeing new.seen (resumed (config_in floor) z (its_queue i) (its_cause i)))
+  module _ (new : Knowledge) (called : Option ℕ) (is : new ≡ seeing new.seen (running called)) where
+    no_looks : new.share.doing.looks ≡ 0
+    no_looks = ap (λ (k : Knowledge). k.share.doing.looks) is
 
-      resume_step : Makes floor (Resumes z.thread (lock_queue l.0) BySignal ∷ []) z new
-      resume_step = subst (λ (p : QueueName × Cause). Makes floor (Resumes z.thread p.0 p.1 ∷ []) z new)
-          (λ i. (its_queue i, its_cause i)) r.step
+    runs_on : (left : ℕ) (cause : Cause) → left ≤ 48 → (cause ≡ ByAbort → is_taking_back z.share.log ≡ true)
+        → Makes floor (Resumes z.thread (lock_queue l.0) cause ∷ []) z new → TakesOn floor l mode Sleeps (Spins left) z new
+    runs_on left cause few again step = record {
+      there = (
+        record {
+          unheld = ap (λ (k : Knowledge). hold_in k.share.held l.0) is ∙ m.unheld;
+          few = subst (λ hs. length hs < 8) (sym (ap (λ (k : Knowledge). k.share.held) is)) m.few;
+          wants = ap (λ (k : Knowledge). k.share.doing.wanted) is ∙ m.wants;
+          takes = ap (λ (k : Knowledge). k.share.doing.taking) is ∙ m.takes;
+          unhalted = λ k e. calls.unhalted k (sym (ap (λ (x : Knowledge). x.share.doing.noted) is) ∙ e);
+          round = ap (λ (k : Knowledge). k.share.doing.round) is ∙ ap round_for m.wants;
+          no_walk = ap (λ (k : Knowledge). k.share.doing.walk) is ∙ sym m.walk_is;
+          runs = ap (λ (k : Knowledge). k.pose) is;
+          nothing_out = ap (λ (k : Knowledge). k.out) is ∙ p.nothing_out;
+          going = record {
+            awake = ap (λ (k : Knowledge). k.share.doing.phase) is;
+            unended = ap (λ (k : Knowledge). k.share.doing.has_ended) is ∙ calls.going.unended;
+            stamped = ap (λ (k : Knowledge). k.share.doing.unstamped) is ∙ calls.going.stamped;
+          };
+        },
+        omega (arith, few, no_looks),
+      );
+      kept = ap kept_of is;
+      leg = resumes left cause few again step;
+    }
 
-      no_looks : new.share.doing.looks ≡ 0
-      no_looks = ap (λ (k : Knowledge). k.share.doing.looks) resumed_is
+  module _ (new : Knowledge) (aborted : Bool) (r : RunsAgain floor (cause_of aborted) z new) where
+    its_queue : r.queue ≡ lock_queue l.0
+    its_queue = let same : StandsOn r.queue ≡ StandsOn (lock_queue l.0) = sym r.stands ∙ m.stands in cc
 
-      pub wakes_up : (left : ℕ) → left ≤ 48 → TakesOn floor l mode (Walks walk.None) (Spins left) z new
-      wakes_up left few = record {
-        there = (
-          record {
-            unheld = ap (λ (k : Knowledge). hold_in k.share.held l.0) resumed_is ∙ m.unheld;
-            few = subst (λ hs. length hs < 8) (sym (ap (λ (k : Knowledge). k.share.held) resumed_is)) m.few;
-            wants = ap (λ (k : Knowledge). k.share.doing.wanted) resumed_is ∙ m.wants;
-            takes = ap (λ (k : Knowledge). k.share.doing.taking) resumed_is ∙ m.takes;
-            unnoted = ap (λ (k : Knowledge). k.share.doing.noted) resumed_is ∙ calls.unnoted;
-            round = ap (λ (k : Knowledge). k.share.doing.round) resumed_is ∙ ap round_for m.wants;
-            no_walk = ap (λ (k : Knowledge). k.share.doing.walk) resumed_is ∙ sym m.walk_is;
-            runs = ap (λ (k : Knowledge). k.pose) resumed_is;
-            nothing_out = ap (λ (k : Knowledge). k.out) resumed_is ∙ can.nothing_out;
-            going = record {
-              awake = ap (λ (k : Knowledge). k.share.doing.phase) resumed_is;
-              unended = ap (λ (k : Knowledge). k.share.doing.has_ended) resumed_is ∙ calls.going.unended;
-              stamped = ap (λ (k : Knowledge). k.share.doing.unstamped) resumed_is ∙ calls.going.stamped;
-            };
-          },
-          omega (arith, few, no_looks),
-        );
-        kept = ap kept_of resumed_is ∙ (λ i. record (kept_of z) { phase = sym calls.going.awake i });
-        leg = resumes left few resume_step;
-      }
+    resumed_by : (cause : Cause) → cause_of aborted ≡ cause
+        → new ≡ seeing new.seen (ran_by cause (is_taking_back z.share.log))
+    resumed_by cause is = r.view ∙ (λ i. seeing new.seen (resumed (config_in floor) z (its_queue i) (is i)))
+
+    step_by : (cause : Cause) → cause_of aborted ≡ cause
+        → Makes floor (Resumes z.thread (lock_queue l.0) cause ∷ []) z new
+    step_by cause is = subst (λ (p : QueueName × Cause). Makes floor (Resumes z.thread p.0 p.1 ∷ []) z new)
+        (λ i. (its_queue i, is i)) r.step
+
+    -- by a signal
+    pub wakes_up : aborted ≡ false → (left : ℕ) → left ≤ 48 → TakesOn floor l mode Sleeps (Spins left) z new
+    wakes_up is left few =
+        runs_on new (Some l.0) (resumed_by BySignal (ap cause_of is)) left BySignal few
+        (λ e. absurd (let x : BySignal ≡ ByAbort = e in cc)) (step_by BySignal (ap cause_of is))
+
+    -- within a wait by an abort too
+    pub wakes_back : is_taking_back z.share.log ≡ true → (left : ℕ) → left ≤ 48
+        → TakesOn floor l mode Sleeps (Spins left) z new
+    wakes_back back left few = go aborted refl
+      where
+        go : (b : Bool) → aborted ≡ b → TakesOn floor l mode Sleeps (Spins left) z new
+        go false is = wakes_up is left few
+        go true is =
+            runs_on new z.share.doing.called
+            (resumed_by ByAbort (ap cause_of is) ∙ (λ i. seeing new.seen (ran_by ByAbort (back i)))) left ByAbort few
+            (λ e. back) (step_by ByAbort (ap cause_of is))

@@ -1,8 +1,8 @@
 -- A take from its begin on: what the thread has made so far where the take stands, and that its parts together are a
 -- take.
-use Rattle.std.proofs.Common.{◌≡◌, ◌⊎◌, ℕ, zero, suc, ◌+◌, ◌<◌, ◌≤◌, true, false, List, [], ◌∷◌, ◌++◌, length, replicate, None, refl, sym, ap, ◌∙◌, subst, inl, inr, arith}
+use Rattle.std.proofs.Common.{◌≡◌, ◌⊎◌, ℕ, zero, suc, ◌+◌, ◌<◌, ◌≤◌, Bool, true, false, List, [], ◌∷◌, ◌++◌, length, replicate, None, refl, sym, ap, ◌∙◌, subst, inl, inr, arith}
 use Rattle.std.proofs.lemmas.List.{replicate-append-replicate}
-use Rattle.lock_model.specs.Queues.{BySignal, ByAbort, lock_queue}
+use Rattle.lock_model.specs.Queues.{Cause, BySignal, ByAbort, lock_queue}
 use Rattle.lock_model.specs.Words.{Word}
 use Rattle.lock_model.specs.declared.event.Event.{Event}
 use Rattle.lock_model.specs.declared.event.Reversal.{Reversal}
@@ -11,14 +11,15 @@ use Rattle.lock_model.specs.declared.plan.Kind.{Kind}
 use Rattle.lock_model.specs.declared.plan.Mode.{Mode}
 use Rattle.lock_objects.specs.Represents.{walk_of}
 use Rattle.lock_state.specs.State.{Walk, NoWalk, AtLock, AtThread}
-use Rattle.lock_state.specs.Steps.{Step, Seeks, Looks, Gains, Admits, Refuses, Readies, Resumes, Stamps, TakesItem}
+use Rattle.lock_state.specs.Steps.{Step, Seeks, Looks, Gains, Admits, Refuses, Readies, CountsOut, Resumes, Stamps, TakesItem}
 use Rattle.lock_state.specs.Steps.Items.{RecordOf, ClassGraph}
+use Rattle.lock_state.specs.Steps.LockWords.{is_taking_back}
 use Rattle.floor_table.specs.Descriptions.{config_in}
 use Rattle.floor_table.specs.declared.description.Description.{Description}
 use Rattle.floor_table.specs.Steps.{Makes, MakesEach}
 use Rattle.floor_table.specs.Views.{Knowledge, seeing}
 use Rattle.lock_floor.specs.declared.calls.TakeAt.{TakeAt}
-use Rattle.lock_floor.specs.declared.calls.TakeAt.TheVariants.{Checks, Spins, ComesIn, Contends, Walks, Hops}
+use Rattle.lock_floor.specs.declared.calls.TakeAt.TheVariants.{Checks, Spins, ComesIn, Contends, Walks, Hops, Sleeps}
 use Rattle.lock_floor.specs.Latches.{Takes}
 use Rattle.lock_floor.specs.Ordering.{checks}
 use Rattle.lock_floor.specs.Passes.{MakesEntry}
@@ -30,8 +31,8 @@ use Rattle.lock_floor.proofs.Resuming.{waits_queued}
 use Rattle.lock_floor.proofs.Taking.{HasWaited, waits_none, waits_on}
 use Rattle.lock_floor.proofs.WalkHops.{hops_all}
 use Rattle.lock_calls.specs.Steps as steps
-use Rattle.lock_calls.specs.Steps.{IsGain, HasMissedFirst, MissesFirst, none_missed, one_missed, as_taken, begins_round, enters_by, gains_checked, gains_at_once, refuses, comes_there, gives_both, runs_on, enters_there, gains_there, ComesToRound, Locks}
-use Rattle.lock_calls.specs.Takes.{IsTaking, IsUnderTake, TakesOn, TakeLeg, TakeEnd, IsRefused, IsHalted, WasHalted, admitted, at_check, looks, takes_chain, comes_in, looks_there, enters, takes_turnstiles, hops, resumes, finds_out, is_queued, in_round, in_section}
+use Rattle.lock_calls.specs.Steps.{IsGain, HasMissedFirst, MissesFirst, none_missed, one_missed, as_taken, begins_round, enters_by, gains_checked, gains_at_once, refuses, comes_there, gives_both, runs_on, enters_there, gains_there, in_its_round, parks, ComesToRound, Acquires}
+use Rattle.lock_calls.specs.Takes.{IsTaking, IsUnderTake, TakesOn, TakeLeg, TakeEnd, IsRefused, IsHalted, WasHalted, kept_at, admitted, at_check, looks, takes_chain, comes_in, looks_there, enters, takes_turnstiles, hops, counts_out, resumes, finds_out, is_queued, in_round, in_section}
 use Rattle.lock_calls.specs.Waiting.{Kept, kept_of, IsCalling}
 use Rattle.lock_calls.proofs.Attempts.{misses_bare, misses_few}
 use Rattle.lock_calls.proofs.Halted.{halt_is_set}
@@ -44,28 +45,28 @@ use Rattle.lock_calls.proofs.Waited.{makes_sooner, each_sooner, takes_sooner, be
 -- 1. So far
 
 -- it came to a round with so many looks, and made so many more in it
-pub record HasLookedInRound (floor : Description) (l : ℕ) (mode : Mode) (begun now : Knowledge) : Type 0 where
+pub record HasLookedInRound (floor : Description) (l : ℕ) (mode : Mode) (back : Bool) (begun now : Knowledge) : Type 0 where
   pub before : ℕ
   pub round : Knowledge
-  pub comes : ComesToRound floor l mode before begun round
+  pub comes : ComesToRound floor l mode back before begun round
   pub n : ℕ
   pub each : MakesEach floor (replicate n (Looks begun.thread l true ∷ [])) round now
 
-abbrev pub all_looks : {floor : Description} {l : ℕ} {mode : Mode} {begun now : Knowledge}
-    → HasLookedInRound floor l mode begun now → ℕ
+abbrev pub all_looks : {floor : Description} {l : ℕ} {mode : Mode} {back : Bool} {begun now : Knowledge}
+    → HasLookedInRound floor l mode back begun now → ℕ
 all_looks r = r.before + r.n
 
 -- it took the lock's chain behind at most 100
-pub record HasTakenChain (floor : Description) (l : ℕ) (mode : Mode) (begun now : Knowledge) : Type 0 where
+pub record HasTakenChain (floor : Description) (l : ℕ) (mode : Mode) (back : Bool) (begun now : Knowledge) : Type 0 where
   pub looked : Knowledge
-  pub rounds : HasLookedInRound floor l mode begun looked
+  pub rounds : HasLookedInRound floor l mode back begun looked
   pub few : all_looks rounds ≤ 100
   pub took : Makes floor (TakesItem begun.thread (its_chain floor (lock_queue l)) ∷ []) looked now
 
 -- it came to the section, and looked so often there
-pub record HasComeThere (floor : Description) (l : ℕ) (mode : Mode) (begun now : Knowledge) : Type 0 where
+pub record HasComeThere (floor : Description) (l : ℕ) (mode : Mode) (back : Bool) (begun now : Knowledge) : Type 0 where
   pub looked : Knowledge
-  pub rounds : HasLookedInRound floor l mode begun looked
+  pub rounds : HasLookedInRound floor l mode back begun looked
   pub few : all_looks rounds ≤ 100
   pub there : Knowledge
   pub come : MakesEach floor (comes_there floor begun.thread l) looked there
@@ -73,9 +74,9 @@ pub record HasComeThere (floor : Description) (l : ℕ) (mode : Mode) (begun now
   pub each : MakesEach floor (replicate m (Looks begun.thread l false ∷ [])) there now
 
 -- it came to stand on the queue, and made hops
-pub record HasStood (floor : Description) (l : ℕ) (mode : Mode) (begun now : Knowledge) : Type 0 where
+pub record HasStood (floor : Description) (l : ℕ) (mode : Mode) (back : Bool) (begun now : Knowledge) : Type 0 where
   pub looked : Knowledge
-  pub rounds : HasLookedInRound floor l mode begun looked
+  pub rounds : HasLookedInRound floor l mode back begun looked
   pub few : all_looks rounds ≤ 100
   pub stands : Knowledge
   pub m : ℕ
@@ -85,28 +86,42 @@ pub record HasStood (floor : Description) (l : ℕ) (mode : Mode) (begun now : K
   pub thread : stands.thread ≡ begun.thread
 
 -- and it took the chain of turnstiles for another
-pub record HasBegunHop (floor : Description) (l : ℕ) (mode : Mode) (begun now : Knowledge) : Type 0 where
+pub record HasBegunHop (floor : Description) (l : ℕ) (mode : Mode) (back : Bool) (begun now : Knowledge) : Type 0 where
   pub before : Knowledge
-  pub stood : HasStood floor l mode begun before
+  pub stood : HasStood floor l mode back begun before
   pub can : CanWalk floor before
   pub taken : Takes floor turnstiles (turnstiles_place floor) before now
 
+-- or its walk ended there, and it counted itself out
+pub record HasCountedOut (floor : Description) (l : ℕ) (mode : Mode) (back : Bool) (begun now : Knowledge) : Type 0 where
+  pub before : Knowledge
+  pub stood : HasStood floor l mode back begun before
+  pub counts : Makes floor (CountsOut begun.thread ∷ []) before now
+
 -- so at each place
-abbrev pub HasCome : Description → ℕ → Mode → Knowledge → TakeAt → Knowledge → Type 0
-HasCome floor l mode begun Checks now = (missed : ℕ) × HasMissedFirst floor l mode missed begun now
-HasCome floor l mode begun (Spins left) now =
-    (r : HasLookedInRound floor l mode begun now) × (all_looks r + (left + left) ≤ 100)
-HasCome floor l mode begun ComesIn now = HasTakenChain floor l mode begun now
-HasCome floor l mode begun (Contends seen) now = HasComeThere floor l mode begun now
-HasCome floor l mode begun (Walks there) now = HasStood floor l mode begun now
-HasCome floor l mode begun (Hops there) now = HasBegunHop floor l mode begun now
+abbrev pub HasCome : Description → ℕ → Mode → Bool → Knowledge → TakeAt → Knowledge → Type 0
+HasCome floor l mode back begun Checks now =
+    (missed : ℕ) × HasMissedFirst floor l mode missed begun now × (back ≡ false)
+HasCome floor l mode back begun (Spins left) now =
+    (r : HasLookedInRound floor l mode back begun now) × (all_looks r + (left + left) ≤ 100)
+HasCome floor l mode back begun ComesIn now = HasTakenChain floor l mode back begun now
+HasCome floor l mode back begun (Contends seen) now = HasComeThere floor l mode back begun now
+HasCome floor l mode back begun (Walks there) now = HasStood floor l mode back begun now
+HasCome floor l mode back begun (Hops there) now = HasBegunHop floor l mode back begun now
+HasCome floor l mode back begun Sleeps now = HasCountedOut floor l mode back begun now
 
 -- and it may have found out since what it needs
-pub record IsAt (floor : Description) (l : ℕ) (mode : Mode) (begun : Knowledge) (at : TakeAt) (now : Knowledge) : Type 0
+pub record IsAt (floor : Description) (l : ℕ) (mode : Mode) (back : Bool) (begun : Knowledge) (at : TakeAt)
+    (now : Knowledge) : Type 0
   where
     pub came : Knowledge
-    pub has_come : HasCome floor l mode begun at came
+    pub has_come : HasCome floor l mode back begun at came
     pub waited : HasWaited came now
+
+-- of what isn't taken back no sleep is ended by an abort
+only_signals : (cause : Cause) → (cause ≡ ByAbort → true ≡ false) → cause ≡ BySignal
+only_signals BySignal never = refl
+only_signals ByAbort never = absurd (let z : true ≡ false = never refl in cc)
 
 -- a hop's rest is never nothing
 hop_goes_on : (t : ℕ) (w : Walk) → IsHop t w ((TakesItem t turnstiles ∷ []) ∷ []) → ⊥
@@ -137,9 +152,10 @@ hops_sooner floor w old mid new h x = record {
     go (s ∷ ss) each only = each_sooner floor s ss old mid new h each
 
 -- an entry that leaves the locks that the thread holds is one since the begin
-note_since : (floor : Description) (e : Event) (begun now new : Knowledge) → kept_of now ≡ kept_of begun
-    → MakesEntry floor e now.share.held now new → MakesEntry floor e begun.share.held begun new
-note_since floor e begun now new kept x = record {
+note_since : (floor : Description) (e : Event) (at : TakeAt) (begun now new : Knowledge)
+    → kept_at at now ≡ kept_of begun → MakesEntry floor e now.share.held now new
+    → MakesEntry floor e begun.share.held begun new
+note_since floor e at begun now new kept x = record {
   ticket = x.ticket;
   log = x.log ∙ ap (λ (k : Kept). entry_by k.thread x.ticket e ∷ k.log) kept;
   held = x.held ∙ ap (λ (k : Kept). k.held) kept;
@@ -156,11 +172,23 @@ note_since floor e begun now new kept x = record {
 -- 2. The begin
 
 pub begins_at : (floor : Description) (l : ℕ) (mode : Mode) (begun now : Knowledge) (missed : ℕ)
-    → HasMissedFirst floor l mode missed begun now → IsAt floor l mode begun Checks now
+    → HasMissedFirst floor l mode missed begun now → IsAt floor l mode false begun Checks now
 begins_at floor l mode begun now missed first = record {
   came = now;
-  has_come = (missed, first);
+  has_come = (missed, first, refl);
   waited = waits_none now;
+}
+
+-- a taking back is in a round from its begin
+pub begins_back : (floor : Description) (l : ℕ) (mode : Mode) (left : ℕ) (begun : Knowledge) → left ≤ 48
+    → IsAt floor l mode true begun (Spins left) begun
+begins_back floor l mode left begun few = record {
+  came = begun;
+  has_come = (
+    record { before = 0; round = begun; comes = steps.is_in_one refl; n = 0; each = refl },
+    omega (arith, few),
+  );
+  waited = waits_none begun;
 }
 
 -- who made none knows what it knew
@@ -171,7 +199,7 @@ none_made floor l mode missed next old new (one_missed n from found before plain
 
 -- 3. From one place to the next
 
-module _ (floor : Description) (l : LockNo) (mode : Mode) (begun : Knowledge) where
+module _ (floor : Description) (l : LockNo) (mode : Mode) (back : Bool) (begun : Knowledge) where
   abbrev look : List Step
   look = Looks begun.thread l.0 true ∷ []
 
@@ -182,9 +210,9 @@ module _ (floor : Description) (l : LockNo) (mode : Mode) (begun : Knowledge) wh
   look_there = Looks begun.thread l.0 false ∷ []
 
   -- looks behind looks
-  more_looks : (now w : Knowledge) (r : HasLookedInRound floor l.0 mode begun now) (n : ℕ)
+  more_looks : (now w : Knowledge) (r : HasLookedInRound floor l.0 mode back begun now) (n : ℕ)
       → MakesEach floor (replicate n look) now w
-      → (s : HasLookedInRound floor l.0 mode begun w) × (all_looks s ≡ all_looks r + n)
+      → (s : HasLookedInRound floor l.0 mode back begun w) × (all_looks s ≡ all_looks r + n)
   more_looks now w r n each = (
     record {
       before = r.before;
@@ -197,8 +225,8 @@ module _ (floor : Description) (l : LockNo) (mode : Mode) (begun : Knowledge) wh
     omega arith,
   )
 
-  more_there : (now w : Knowledge) → HasComeThere floor l.0 mode begun now → Makes floor look_there now w
-      → HasComeThere floor l.0 mode begun w
+  more_there : (now w : Knowledge) → HasComeThere floor l.0 mode back begun now → Makes floor look_there now w
+      → HasComeThere floor l.0 mode back begun w
   more_there now w h step = record {
     looked = h.looked;
     rounds = h.rounds;
@@ -219,9 +247,10 @@ module _ (floor : Description) (l : LockNo) (mode : Mode) (begun : Knowledge) wh
   module _ (now new : Knowledge) (its : now.thread ≡ begun.thread) (its_then : new.thread ≡ begun.thread) where
     -- 4. Each leg
 
-    pub goes_on : (at to : TakeAt) → IsTaking floor l.0 at now → IsAt floor l.0 mode begun at now
-        → TakeLeg floor l mode at to now new → IsAt floor l.0 mode begun to new
-    goes_on at to there h (admitted left found few each saw other) =
+    pub goes_on : (at to : TakeAt) → is_taking_back now.share.log ≡ back → IsTaking floor l.0 at now
+        → IsAt floor l.0 mode back begun at now → TakeLeg floor l mode at to now new
+        → IsAt floor l.0 mode back begun to new
+    goes_on at to log there h (admitted left found few each saw other) =
         let c = h.has_come in
         let round : List (List Step) = (Seeks begun.thread l.0 false ∷ look) ∷ [] in
         let made : MakesEach floor (begins_round begun.thread l.0) h.came new =
@@ -237,7 +266,7 @@ module _ (floor : Description) (l : LockNo) (mode : Mode) (begun : Knowledge) wh
             record {
               before = c.0 + 1;
               round = new;
-              comes = steps.begins c.0 c.1 made;
+              comes = steps.begins c.0 c.2 c.1 made;
               n = 0;
               each = refl;
             },
@@ -245,7 +274,7 @@ module _ (floor : Description) (l : LockNo) (mode : Mode) (begun : Knowledge) wh
           );
           waited = waits_none new;
         }
-    goes_on at to there h (looks seen left n rest word some on leaves) =
+    goes_on at to log there h (looks seen left n rest word some on leaves) =
         let each = looks_in_it floor l.0 mode n word now seen on in
         let less : rest < left = fewer_left floor kind mode word left rest seen new leaves some in
         let made : MakesEach floor (replicate n look) h.came seen =
@@ -257,7 +286,7 @@ module _ (floor : Description) (l : LockNo) (mode : Mode) (begun : Knowledge) wh
           has_come = (s.0, omega (arith, s.1, h.has_come.1, less, each.1));
           waited = leaving_waits floor kind mode word left rest seen new leaves;
         }
-    goes_on at to there h (takes_chain step) = record {
+    goes_on at to log there h (takes_chain step) = record {
       came = new;
       has_come = record {
         looked = h.came;
@@ -269,7 +298,7 @@ module _ (floor : Description) (l : LockNo) (mode : Mode) (begun : Knowledge) wh
       };
       waited = waits_none new;
     }
-    goes_on at to there h (comes_in seen each) =
+    goes_on at to log there h (comes_in seen each) =
         let made : MakesEach floor ((TakesItem begun.thread (RecordOf begun.thread) ∷ [])
         ∷ (Readies begun.thread (lock_queue l.0) ∷ []) ∷ look_there ∷ []) h.came new =
         each_sooner floor (TakesItem begun.thread (RecordOf begun.thread) ∷ [])
@@ -289,14 +318,14 @@ module _ (floor : Description) (l : LockNo) (mode : Mode) (begun : Knowledge) wh
           };
           waited = waits_none new;
         }
-    goes_on at to there h (looks_there seen found other step) = record {
+    goes_on at to log there h (looks_there seen found other step) = record {
       came = new;
       has_come = more_there h.came new h.has_come
           (makes_sooner floor look_there h.came now new h.waited
           (subst (λ t. Makes floor (Looks t l.0 false ∷ []) now new) its step));
       waited = waits_none new;
     }
-    goes_on at to there h (enters seen x w each) =
+    goes_on at to log there h (enters seen x w each) =
         let enter : List Step = enters_by kind begun.thread l.0 mode x ∷ [] in
         let made : MakesEach floor (enter ∷ gives_both floor begun.thread l.0) h.came new =
         each_sooner floor enter (gives_both floor begun.thread l.0) h.came now new h.waited
@@ -324,7 +353,7 @@ module _ (floor : Description) (l : LockNo) (mode : Mode) (begun : Knowledge) wh
           };
           waited = waits_none new;
         }
-    goes_on at to there h (takes_turnstiles w taken) = record {
+    goes_on at to log there h (takes_turnstiles w taken) = record {
       came = new;
       has_come = record {
         before = h.came;
@@ -334,7 +363,7 @@ module _ (floor : Description) (l : LockNo) (mode : Mode) (begun : Knowledge) wh
       };
       waited = waits_none new;
     }
-    goes_on at to there h (hops w t on) =
+    goes_on at to log there h (hops w t on) =
         let c = h.has_come in
         let hop = hops_all floor (walk_of t) c.before h.came new c.can c.taken
         (hops_sooner floor (walk_of t) h.came now new h.waited on) in
@@ -353,22 +382,37 @@ module _ (floor : Description) (l : LockNo) (mode : Mode) (begun : Knowledge) wh
           };
           waited = waits_none new;
         }
-    goes_on at to there h (resumes left few step) =
-        let c = h.has_come in
+    goes_on at to log there h (counts_out step) = record {
+      came = new;
+      has_come = record {
+        before = h.came;
+        stood = h.has_come;
+        counts = makes_sooner floor (CountsOut begun.thread ∷ []) h.came now new h.waited
+            (subst (λ t. Makes floor (CountsOut t ∷ []) now new) its step);
+      };
+      waited = waits_none new;
+    }
+    goes_on at to log there h (resumes left cause few again step) =
+        let o = h.has_come in
+        let c = o.stood in
         let r = c.rounds in
-        let resume : Makes floor (Resumes c.stands.thread (lock_queue l.0) BySignal ∷ []) h.came new =
-        makes_sooner floor (Resumes c.stands.thread (lock_queue l.0) BySignal ∷ []) h.came now new h.waited
-        (subst (λ t. Makes floor (Resumes t (lock_queue l.0) BySignal ∷ []) now new) (its ∙ sym c.thread) step) in
+        let resume : Makes floor (Resumes begun.thread (lock_queue l.0) cause ∷ []) h.came new =
+        makes_sooner floor (Resumes begun.thread (lock_queue l.0) cause ∷ []) h.came now new h.waited
+        (subst (λ t. Makes floor (Resumes t (lock_queue l.0) cause ∷ []) now new) its step) in
+        let parked : MakesEach floor (parks c.stands.thread l.0 cause) o.before new =
+        subst (λ t. MakesEach floor (parks t l.0 cause) o.before new) (sym c.thread)
+        (h.came, o.counts, (new, resume, refl)) in
         record {
           came = new;
           has_come = (
             record {
               before = 0;
               round = new;
-              comes = steps.sleeps r.before r.n c.m c.x r.comes c.few
+              comes = steps.sleeps r.before r.n c.m c.x cause r.comes c.few
                   (each_append floor (replicate r.n look) (enters_there floor begun.thread l.0 mode c.m c.x) r.round
                   c.looked c.stands r.each c.each)
-                  (record { walked = h.came; walk = c.walked; resume = resume });
+                  (λ taken. only_signals cause (λ e. sym (again e) ∙ log ∙ taken))
+                  (record { walked = o.before; walk = c.walked; parked = parked });
               n = 0;
               each = refl;
             },
@@ -376,93 +420,66 @@ module _ (floor : Description) (l : LockNo) (mode : Mode) (begun : Knowledge) wh
           );
           waited = waits_none new;
         }
-    goes_on at to there h (finds_out a i needs view finds) = record {
+    goes_on at to log there h (finds_out a i needs view finds) = record {
       came = h.came;
       has_come = h.has_come;
       waited = waits_on floor i h.came now new h.waited view finds;
     }
-    goes_on at to there h (is_queued view queued) = record {
+    goes_on at to log there h (is_queued view queued) = record {
       came = h.came;
       has_come = h.has_come;
       waited = waits_queued floor h.came now new h.waited view queued;
     }
 
-    -- 5. The end
+  -- 5. The end
 
-    pub ends : (at : TakeAt) → IsAt floor l.0 mode begun at now → TakeEnd floor l mode at now new
-        → Locks floor l mode begun new
+  module _ (now new : Knowledge) (its : now.thread ≡ begun.thread) where
+    pub ends : (at : TakeAt) → IsAt floor l.0 mode back begun at now → TakeEnd floor l mode at now new
+        → Acquires floor l.0 mode back begun new
     ends at h (at_check each) =
         let c = h.has_come in
         let gain : List Step = gains_at_once begun.thread l.0 mode in
-        let stamp : List Step = Stamps begun.thread (Event.Locked l mode) ∷ [] in
-        let made : MakesEach floor (checks begun.thread l.0 None ++ gain ∷ stamp ∷ []) h.came new =
-        each_sooner floor (TakesItem begun.thread ClassGraph ∷ []) ((Admits begun.thread l.0 ∷ []) ∷ gain ∷ stamp ∷ [])
+        let made : MakesEach floor (gains_checked begun.thread l.0 mode) h.came new =
+        each_sooner floor (TakesItem begun.thread ClassGraph ∷ []) ((Admits begun.thread l.0 ∷ []) ∷ gain ∷ [])
         h.came now new h.waited
-        (subst (λ t. MakesEach floor (checks t l.0 None ++ gains_at_once t l.0 mode
-        ∷ (Stamps t (Event.Locked l mode) ∷ []) ∷ []) now new) its each) in
-        let behind = made.2.2 in
-        let checked : MakesEach floor (gains_checked begun.thread l.0 mode) h.came behind.0 =
-        (made.0, made.1, (made.2.0, made.2.1, (behind.0, behind.1, refl))) in
-        record {
-          gained = behind.0;
-          gains = steps.checked c.0 c.1 checked;
-          notes = last_step floor stamp behind.0 new behind.2;
-        }
+        (subst (λ t. MakesEach floor (gains_checked t l.0 mode) now new) its each) in
+        steps.checked c.0 c.2 c.1 made
     ends at h (in_round left some each) =
-        let made : MakesEach floor (look ∷ (Gains begun.thread l.0 mode false ∷ [])
-        ∷ (Stamps begun.thread (Event.Locked l mode) ∷ []) ∷ []) h.came new =
-        each_sooner floor look ((Gains begun.thread l.0 mode false ∷ [])
-        ∷ (Stamps begun.thread (Event.Locked l mode) ∷ []) ∷ []) h.came now new h.waited
-        (subst (λ t. MakesEach floor ((Looks t l.0 true ∷ []) ∷ (Gains t l.0 mode false ∷ [])
-        ∷ (Stamps t (Event.Locked l mode) ∷ []) ∷ []) now new) its each) in
+        let made : MakesEach floor (look ∷ (Gains begun.thread l.0 mode false ∷ []) ∷ []) h.came new =
+        each_sooner floor look ((Gains begun.thread l.0 mode false ∷ []) ∷ []) h.came now new h.waited
+        (subst (λ t. MakesEach floor (in_its_round t l.0 mode 1) now new) its each) in
         let s = more_looks h.came made.0 h.has_come.0 1 (made.0, made.1, refl) in
-        let gain = made.2 in
-        record {
-          gained = gain.0;
-          gains = steps.in_round s.0.before s.0.n s.0.comes (omega (arith, s.1, h.has_come.1, some))
-              (each_append floor (replicate s.0.n look) ((Gains begun.thread l.0 mode false ∷ []) ∷ []) s.0.round made.0
-              gain.0 s.0.each (gain.0, gain.1, refl));
-          notes = last_step floor (Stamps begun.thread (Event.Locked l mode) ∷ []) gain.0 new gain.2;
-        }
+        steps.in_round s.0.before s.0.n s.0.comes (omega (arith, s.1, h.has_come.1, some))
+        (each_append floor (replicate s.0.n look) ((Gains begun.thread l.0 mode false ∷ []) ∷ []) s.0.round made.0 new
+        s.0.each made.2)
     ends at h (in_section seen gain is each) =
         let c = h.has_come in
         let r = c.rounds in
-        let made : MakesEach floor ((gain ∷ []) ∷ (runs_on floor begun.thread l.0
-        ++ (Stamps begun.thread (Event.Locked l mode) ∷ []) ∷ [])) h.came new =
-        each_sooner floor (gain ∷ []) (runs_on floor begun.thread l.0
-        ++ (Stamps begun.thread (Event.Locked l mode) ∷ []) ∷ []) h.came now new h.waited
-        (subst (λ t. MakesEach floor ((gain ∷ []) ∷ (runs_on floor t l.0
-        ++ (Stamps t (Event.Locked l mode) ∷ []) ∷ [])) now new) its each) in
-        let ran = made.2 in
-        let record_back = ran.2 in
-        let chain_back = record_back.2 in
-        let on : MakesEach floor (runs_on floor begun.thread l.0) made.0 chain_back.0 =
-        (ran.0, ran.1, (record_back.0, record_back.1, (chain_back.0, chain_back.1, refl))) in
+        let made : MakesEach floor ((gain ∷ []) ∷ runs_on floor begun.thread l.0) h.came new =
+        each_sooner floor (gain ∷ []) (runs_on floor begun.thread l.0) h.came now new h.waited
+        (subst (λ t. MakesEach floor ((gain ∷ []) ∷ runs_on floor t l.0) now new) its each) in
         let gains : MakesEach floor (replicate c.m look_there ++ (gain ∷ []) ∷ []) c.there made.0 =
         each_append floor (replicate c.m look_there) ((gain ∷ []) ∷ []) c.there h.came made.0 c.each
         (made.0, made.1, refl) in
-        let there : MakesEach floor (gains_there floor begun.thread l.0 gain c.m) c.looked chain_back.0 =
+        let there : MakesEach floor (gains_there floor begun.thread l.0 gain c.m) c.looked new =
         each_append floor (comes_there floor begun.thread l.0)
-        ((replicate c.m look_there ++ (gain ∷ []) ∷ []) ++ runs_on floor begun.thread l.0) c.looked c.there chain_back.0
+        ((replicate c.m look_there ++ (gain ∷ []) ∷ []) ++ runs_on floor begun.thread l.0) c.looked c.there new
         c.come
         (each_append floor (replicate c.m look_there ++ (gain ∷ []) ∷ []) (runs_on floor begun.thread l.0) c.there
-        made.0
-        chain_back.0 gains on) in
-        record {
-          gained = chain_back.0;
-          gains = steps.in_section r.before r.n c.m gain r.comes c.few
-              (subst (λ t. IsGain t l.0 mode false gain) its is)
-              (each_append floor (replicate r.n look) (gains_there floor begun.thread l.0 gain c.m) r.round c.looked
-              chain_back.0 r.each there);
-          notes = last_step floor (Stamps begun.thread (Event.Locked l mode) ∷ []) chain_back.0 new chain_back.2;
-        }
+        made.0 new gains made.2) in
+        steps.in_section r.before r.n c.m gain r.comes c.few (subst (λ t. IsGain t l.0 mode false gain) its is)
+        (each_append floor (replicate r.n look) (gains_there floor begun.thread l.0 gain c.m) r.round c.looked new
+        r.each there)
 
-    -- or its sleep was ended
-    pub halts : (at : TakeAt) → IsAt floor l.0 mode begun at now → kept_of now ≡ kept_of begun
+-- or its sleep was ended
+module _ (floor : Description) (l : LockNo) (mode : Mode) (begun now new : Knowledge) (its : now.thread ≡ begun.thread)
+  where
+    pub halts : (at : TakeAt) → IsAt floor l.0 mode false begun at now → kept_at at now ≡ kept_of begun
         → IsHalted floor l at now new → WasHalted floor l mode begun new
     halts at h kept x =
-        let c : HasStood floor l.0 mode begun h.came =
-        subst (λ a. HasCome floor l.0 mode begun a h.came) x.stood h.has_come in
+        let o : HasCountedOut floor l.0 mode false begun h.came =
+        subst (λ a. HasCome floor l.0 mode false begun a h.came) x.slept h.has_come in
+        let c = o.stood in
         let r = c.rounds in
         let note : List Step = Stamps begun.thread (Event.HaltedLock l) ∷ [] in
         let made : MakesEach floor ((Resumes begun.thread (lock_queue l.0) ByAbort ∷ []) ∷ note ∷ []) h.came new =
@@ -473,7 +490,7 @@ module _ (floor : Description) (l : LockNo) (mode : Mode) (begun : Knowledge) wh
         record {
           sleeps = x.sleeps;
           rest = x.rest;
-          entry = note_since floor (Event.HaltedLock l) begun now new kept x.entry;
+          entry = note_since floor (Event.HaltedLock l) at begun now new kept x.entry;
           ends = record {
             looks = r.before;
             u = r.round;
@@ -483,14 +500,14 @@ module _ (floor : Description) (l : LockNo) (mode : Mode) (begun : Knowledge) wh
             m = c.m;
             x = c.x;
             stands = c.stands;
-            enters = each_append floor (replicate r.n look) (enters_there floor begun.thread l.0 mode c.m c.x) r.round
+            enters = each_append floor (replicate r.n (Looks begun.thread l.0 true ∷ [])) (enters_there floor begun.thread l.0 mode c.m c.x) r.round
                 c.looked c.stands r.each c.each;
             runs = made.0;
             sleeps = record {
-              walked = h.came;
+              walked = o.before;
               walk = c.walked;
-              resume = subst (λ t. Makes floor (Resumes t (lock_queue l.0) ByAbort ∷ []) h.came made.0) (sym c.thread)
-                  made.1;
+              parked = subst (λ t. MakesEach floor (parks t l.0 ByAbort) o.before made.0) (sym c.thread)
+                  (h.came, o.counts, (made.0, made.1, refl));
             };
             notes = noted;
             halt_word = halt_is_set floor l begun.thread made.0 new noted;
@@ -500,11 +517,11 @@ module _ (floor : Description) (l : LockNo) (mode : Mode) (begun : Knowledge) wh
 -- 6. What the whole take leaves
 
 -- its entry is one since the begin
-pub entry_since : (floor : Description) (l : LockNo) (mode : Mode) (begun now new : Knowledge)
-    → kept_of now ≡ kept_of begun
+pub entry_since : (floor : Description) (l : LockNo) (mode : Mode) (at : TakeAt) (begun now new : Knowledge)
+    → kept_at at now ≡ kept_of begun
     → MakesEntry floor (Event.Locked l mode) (now.share.held ++ as_taken l mode ∷ []) now new
     → MakesEntry floor (Event.Locked l mode) (begun.share.held ++ as_taken l mode ∷ []) begun new
-entry_since floor l mode begun now new kept e = record {
+entry_since floor l mode at begun now new kept e = record {
   ticket = e.ticket;
   log = e.log ∙ ap (λ (k : Kept). entry_by k.thread e.ticket (Event.Locked l mode) ∷ k.log) kept;
   held = e.held ∙ ap (λ (k : Kept). k.held ++ as_taken l mode ∷ []) kept;
@@ -530,14 +547,14 @@ under_take_on floor l mode at to old new u on = record {
 }
 
 -- so is that of a refusal, before which the thread made no exchange, since it holds a lock
-pub refused_since : (floor : Description) (l : LockNo) (mode : Mode) (begun now new : Knowledge) (r : Reversal)
-    → kept_of now ≡ kept_of begun → IsAt floor l.0 mode begun Checks now → IsRefused floor l r now new
+pub refused_since : (floor : Description) (l : LockNo) (mode : Mode) (at : TakeAt) (begun now new : Knowledge)
+    (r : Reversal) → kept_at at now ≡ kept_of begun → IsAt floor l.0 mode false begun Checks now → IsRefused floor l r now new
     → IsRefused floor l r begun new
-refused_since floor l mode begun now new r kept h x =
+refused_since floor l mode at begun now new r kept h x =
     record {
       wanted = x.wanted;
       rest = x.rest;
-      entry = note_since floor (Event.Reversed l r.held) begun now new kept x.entry;
+      entry = note_since floor (Event.Reversed l r.held) at begun now new kept x.entry;
       steps = elim (none_made floor l.0 mode h.has_come.0 h.has_come.1.next begun h.came h.has_come.1.misses) [
         | inl none ↦ subst (λ k. MakesEach floor (refuses begun.thread l r.held) k new) (sym none) made
         | inr some ↦ absurd (bare_admitted floor l r.held now new

@@ -46,8 +46,8 @@ use Rattle.lock_floor.proofs.Taking.{record_at}
 use Rattle.lock_calls.specs.Sections.{section_out, HasRecordAndChain}
 use Rattle.lock_calls.specs.Steps.{IsCovered, as_taken}
 use Rattle.lock_calls.specs.Takes.{HasChainOut, IsContending}
-use Rattle.lock_calls.specs.Waiting.{kept_of, IsCalling, IsSeeking, HasLooked, IsThere, Saw, GainsStep, EntersStep, MissesThere}
-use Rattle.lock_calls.proofs.Attempts.{unhalted, wants_it}
+use Rattle.lock_calls.specs.Waiting.{kept_of, CanAcquire, IsSeeking, HasLooked, IsThere, Saw, GainsStep, EntersStep, MissesThere}
+use Rattle.lock_calls.proofs.Attempts.{wants_it}
 use Rattle.lock_calls.proofs.Words.{word_seen, saw_others}
 use Rattle.lock_calls.proofs.Looks.{look_once}
 use Rattle.lock_calls.proofs.Sections.{HasItsObjects, chain_out, record_out, as_both, as_sleeper, from_both, from_sleeper, enters_turnstile, enters_asleep}
@@ -61,7 +61,7 @@ seeking_still l v w view m = subst (IsSeeking l) (sym view) record {
   few = m.few;
   wants = m.wants;
   takes = m.takes;
-  unnoted = m.unnoted;
+  unhalted = m.unhalted;
   round = m.round;
   no_walk = m.no_walk;
   runs = m.runs;
@@ -229,9 +229,9 @@ module _ (floor : Description) (l : ℕ) (mode : Mode) (v : Knowledge) (covered 
         never true = refl
         never false = refl
 
-  module _ (k : IsCalling floor (kept_of v)) where
+  module _ (k : CanAcquire floor (kept_of v)) where
     no_sleeper : IsNoSleeper v
-    no_sleeper = λ back e f g. let z : true ≡ false = sym back ∙ k.no_wait in cc
+    no_sleeper = λ back e f g. let z : None ≡ Some l = sym e ∙ m.wants in cc
 
     going : IsGoing v
     going = k.going
@@ -262,7 +262,7 @@ module _ (floor : Description) (l : ℕ) (mode : Mode) (v : Knowledge) (covered 
         mode false word admitted plain m.unheld (inl m.wants) of_round
         (subst (λ r. FitsRound r l false) (sym m.round) (refl, refl))
         (last_seen mode word saw admitted) (λ j e. same_Some j l (sym e ∙ m.takes)) (λ e. m.takes) (λ e. inl m.wants)
-        (unhalted v k.unnoted) (ap is_off_queues m.ready)
+        k.unhalted (ap is_off_queues m.ready)
 
     -- it gains the lock by a claim, where the free word shows waiters
     pub may_claim_in_section : (word : Word) → Saw l word v → IsClaim ((config_in floor).kind l) word mode
@@ -274,7 +274,7 @@ module _ (floor : Description) (l : ℕ) (mode : Mode) (v : Knowledge) (covered 
           (subst (λ r. FitsRound r l false) (sym m.round) (refl, refl))
           (last_seen Excl word saw claim.free) (λ j e. same_Some j l (sym e ∙ m.takes)) (λ e. m.takes)
           (λ e. inl m.wants)
-          (unhalted v k.unnoted) (ap is_off_queues m.ready);
+          k.unhalted (ap is_off_queues m.ready);
     }
 
     -- 4. The enter

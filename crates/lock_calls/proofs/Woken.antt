@@ -1,6 +1,7 @@
--- A release as it goes on: where it stands then is noted in the pass; and behind the lock's chain, whom it wakes.
-use Rattle.std.proofs.Common.{◌≡◌, [], refl, sym, ap, ◌∙◌, subst}
+-- A release as it goes on: whom its last part wakes, and where it stands then is noted in the pass.
+use Rattle.std.proofs.Common.{◌≡◌, refl, sym, ap, subst}
 use Rattle.lock_model.specs.declared.numbers.LockNo.{LockNo}
+use Rattle.lock_model.specs.declared.numbers.ThreadNo.{ThreadNo}
 use Rattle.lock_model.specs.declared.plan.Mode.{Mode}
 use Rattle.lock_state.specs.Steps.Items.{RecordOf}
 use Rattle.floor_table.specs.declared.description.Description.{Description}
@@ -9,68 +10,67 @@ use Rattle.lock_floor.specs.declared.calls.Call.TheVariants as calls
 use Rattle.lock_floor.specs.declared.calls.ReleaseAt.{ReleaseAt}
 use Rattle.lock_floor.specs.declared.calls.ReleaseAt.TheVariants.{Wakes}
 use Rattle.lock_floor.specs.Floors.{Pass}
-use Rattle.lock_floor.specs.Marks.{WakesFirst, with_marks}
-use Rattle.lock_floor.specs.Passes.{IsAtRest}
-use Rattle.lock_calls.specs.declared.answers.Next.{Next}
-use Rattle.lock_calls.specs.declared.answers.Next.TheVariants.{Done, Again, Sleep, Wake, Reversed, Halted}
-use Rattle.lock_calls.specs.Releases.{IsReleased, ReleasesOn, GoesOnReleasing, WakesNext, noted_of, nobody_left, finds_out}
+use Rattle.lock_calls.specs.declared.answers.Next.TheVariants.{Done, Again, Wake}
+use Rattle.lock_calls.specs.declared.answers.ReleaseNext.{ReleaseNext}
+use Rattle.lock_calls.specs.declared.answers.ReleaseNext.TheVariants as next
+use Rattle.lock_calls.specs.Releases.{HasPutDown, HasWokenOne, IsReleased, IsUnderRelease, ReleasesOn, ReleasesPart, GoesOnReleasing, WakesNext, once_released, nobody_left, finds_out}
 use Rattle.lock_calls.proofs.Calls.{call_noted, view_noted}
-use Rattle.lock_calls.proofs.Leaving.{rests, rests_on, rests_woken}
+use Rattle.lock_calls.proofs.Leaving.{down_still, down_woken, rests_then, under_on, under_woken}
 
--- 1. Where it stands
+-- 1. Whom it wakes
 
-pub release_stands : (floor : Description) (l : LockNo) (mode : Mode) (old v q : Pass Knowledge)
-    (at from to : ReleaseAt) → at ≡ from
-    → ReleasesOn floor l mode from to old.view v.view → q ≡ record v { call = calls.Release l mode to }
-    → GoesOnReleasing floor l mode at Again old q
-release_stands floor l mode old v q at from to is on noted = record {
-  to = to;
-  call = call_noted v q (calls.Release l mode to) noted;
-  on = subst (λ k. ReleasesOn floor l mode at to old.view k) (sym (view_noted v q (calls.Release l mode to) noted))
-      (subst (λ a. ReleasesOn floor l mode a to old.view v.view) (sym is) on);
+pub wakes_part : (floor : Description) (l : LockNo) (mode : Mode) (n : ReleaseNext) (v w : Knowledge)
+    → HasPutDown l.0 v → WakesNext floor n v w → ReleasesPart floor l mode Wakes n v w
+wakes_part floor l mode next.Done v w h x = subst (IsReleased floor l mode Wakes v) (sym x.1)
+    record { down = h; nobody = x.0; kept = refl; end = nobody_left x.0 }
+wakes_part floor l mode (next.At to) v w h x =
+    let view = x.4 in
+    subst (λ a. ReleasesOn floor l mode Wakes a v w) (sym x.0) record {
+      there = down_still l.0 v w h view;
+      kept = ap (once_released l.0 Wakes) view;
+      leg = finds_out Wakes (RecordOf x.1.thread) (x.1, x.2, x.3, refl) view x.5;
+    }
+wakes_part floor l mode (next.Wake t) v w h x = record {
+  at_end = refl;
+  of_floor = x.0;
+  wakes = x.1;
+  down = down_woken l.0 v w h floor t.0 x.1;
+  kept = ap (once_released l.0 Wakes) x.1.view;
 }
 
--- 2. Whom it wakes
+-- 2. Where it stands
 
-module _ (floor : Description) (l : LockNo) (mode : Mode) (old v q : Pass Knowledge)
-    (rest : IsAtRest floor (with_marks old.view []))
-  where
-    pub wakes_done : WakesNext floor Done old.view v.view → q ≡ record v { call = calls.None }
-        → GoesOnReleasing floor l mode Wakes Done old q
-    wakes_done w is =
-        let same : q.view ≡ old.view = view_noted v q calls.None is ∙ w.1 in
-        record {
-          call = call_noted v q calls.None is;
-          released = subst (IsReleased floor l mode Wakes old.view) (sym same) record {
-            rest = rests floor old.view rest w.0;
-            noted = refl;
-            end = nobody_left w.0;
-          };
-        }
+module _ (floor : Description) (l : LockNo) (mode : Mode) (at : ReleaseAt) (old v q : Pass Knowledge)
+    (u : IsUnderRelease floor l mode at old.view) where
+  pub release_ends : IsReleased floor l mode at old.view v.view → q ≡ record v { call = calls.None }
+      → GoesOnReleasing floor l mode at Done old q
+  release_ends d noted =
+      let same = sym (view_noted v q calls.None noted) in
+      record {
+        call = call_noted v q calls.None noted;
+        released = subst (IsReleased floor l mode at old.view) same d;
+        rest = rests_then floor l mode at old.view q.view u (subst (IsReleased floor l mode at old.view) same d);
+      }
 
-    pub wakes_else : (next : Next) → (next ≡ Done → ⊥) → WakesNext floor next old.view v.view
-        → q ≡ record v { call = calls.Release l mode Wakes } → GoesOnReleasing floor l mode Wakes next old q
-    wakes_else Done undone w is = absurd (undone refl)
-    wakes_else Again undone w is =
-        let same : v.view ≡ q.view = sym (view_noted v q (calls.Release l mode Wakes) is) in
-        record {
-          to = Wakes;
-          call = call_noted v q (calls.Release l mode Wakes) is;
-          on = subst (λ k. ReleasesOn floor l mode Wakes Wakes old.view k) same record {
-            there = rests_on floor old.view v.view rest w.3;
-            noted = ap noted_of w.3;
-            leg = finds_out Wakes (RecordOf w.0.thread) (w.0, w.1, w.2, refl) w.3 w.4;
-          };
-        }
-    wakes_else Sleep undone w is = absurd w
-    wakes_else (Reversed r) undone w is = absurd w
-    wakes_else Halted undone w is = absurd w
-    wakes_else (Wake t) undone w is =
-        let same : v.view ≡ q.view = sym (view_noted v q (calls.Release l mode Wakes) is) in
-        record {
-          call = call_noted v q (calls.Release l mode Wakes) is;
-          at_end = refl;
-          of_floor = w.0;
-          wakes = subst (λ k. WakesFirst floor t.0 old.view k) same w.1;
-          there = subst (λ k. IsAtRest floor (with_marks k [])) same (rests_woken floor t.0 old.view v.view rest w.1);
-        }
+  pub release_stands : (to : ReleaseAt) → ReleasesOn floor l mode at to old.view v.view
+      → q ≡ record v { call = calls.Release l mode to } → GoesOnReleasing floor l mode at Again old q
+  release_stands to on noted =
+      let now : ReleasesOn floor l mode at to old.view q.view =
+      subst (ReleasesOn floor l mode at to old.view) (sym (view_noted v q (calls.Release l mode to) noted)) on in
+      record {
+        to = to;
+        call = call_noted v q (calls.Release l mode to) noted;
+        on = now;
+        there = under_on floor l mode at old.view q.view u to now;
+      }
+
+  pub release_wakes : (t : ThreadNo) → HasWokenOne floor l.0 at t.0 old.view v.view
+      → q ≡ record v { call = calls.Release l mode Wakes } → GoesOnReleasing floor l mode at (Wake t) old q
+  release_wakes t x noted =
+      let now : HasWokenOne floor l.0 at t.0 old.view q.view =
+      subst (HasWokenOne floor l.0 at t.0 old.view) (sym (view_noted v q (calls.Release l mode Wakes) noted)) x in
+      record {
+        call = call_noted v q (calls.Release l mode Wakes) noted;
+        woken = now;
+        there = under_woken floor l mode at old.view q.view u t.0 now;
+      }

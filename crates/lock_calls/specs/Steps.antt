@@ -13,7 +13,7 @@ use Rattle.lock_model.specs.declared.plan.Kind.{Kind}
 use Rattle.lock_model.specs.declared.plan.Kind.TheVariants.{Mtx, Rw, Sx}
 use Rattle.lock_model.specs.declared.plan.Mode.{Mode}
 use Rattle.lock_model.specs.declared.plan.Mode.TheVariants.{Excl, Shared}
-use Rattle.lock_state.specs.Steps.{Step, Seeks, Looks, Gains, Drops, Stamps, TakesItem, GivesItem, Readies, Unreadies, Enters, Opens, EntersSleepQueue, OpensSleepQueue, Claims, Resumes}
+use Rattle.lock_state.specs.Steps.{Step, Seeks, Looks, Gains, Drops, Stamps, TakesItem, GivesItem, Readies, Unreadies, Enters, Opens, EntersSleepQueue, OpensSleepQueue, Claims, CountsOut, Resumes}
 use Rattle.lock_state.specs.Steps.Items.{RecordOf}
 use Rattle.floor_table.specs.Descriptions.{config_in}
 use Rattle.floor_table.specs.declared.description.Description.{Description}
@@ -164,52 +164,68 @@ enters_there floor t l mode n x =
     ++ (enters_by ((config_in floor).kind l) t l mode x ∷ []) ∷ [])
     ++ gives_both floor t l)
 
--- A thread that stands there makes the hops of its walk, sleeps until it is woken by that cause, and runs again. On a
--- sleep queue its walk is over at once
+-- it counts itself out, sleeps until it is woken by that cause, and runs again
+abbrev pub parks : ℕ → ℕ → Cause → List (List Step)
+parks t l cause = (CountsOut t ∷ []) ∷ (Resumes t (lock_queue l) cause ∷ []) ∷ []
+
+-- A thread that stands there makes the hops of its walk, and then sleeps so. On a sleep queue its walk is over at once
 pub record Sleeps (floor : Description) (l : ℕ) (cause : Cause) (old new : Knowledge) : Type 0 where
   pub walked : Knowledge
   pub walk : Walks floor old walked
-  pub resume : Makes floor (Resumes old.thread (lock_queue l) cause ∷ []) walked new
+  pub parked : MakesEach floor (parks old.thread l cause) walked new
 
--- How a take comes to be in an acquiring round, with so many looks so far: once its lock's order was checked. A thread
--- that holds nothing makes first exchanges before that, outside the round, which missed. Or behind a sleep, once a
--- round has ended with an enter. From the begin or a sleep to the taking of the chain a take makes at most 100 looks,
--- with the exchanges that missed
-pub data ComesToRound (floor : Description) (l : ℕ) (mode : Mode) : ℕ → Knowledge → Knowledge
-    → Type 0 where
-  begins : {old u new : Knowledge} (missed : ℕ) → HasMissedFirst floor l mode missed old u
+-- How a thread comes to be in an acquiring round, with so many looks so far. A take does once its lock's order was
+-- checked; where its thread holds nothing it makes first exchanges before that, outside the round, which missed. A wait
+-- that takes its lock back is in one from the begin, which its resume from the channel began. And behind a sleep another
+-- begins, once a round has ended with an enter: of a take, where the thread was woken by a signal; of a taking back by
+-- whatever woke it. From the begin or a sleep to the taking of the chain at most 100 looks are made, with the exchanges
+-- that missed
+pub data ComesToRound (floor : Description) (l : ℕ) (mode : Mode) (back : Bool) : ℕ → Knowledge
+    → Knowledge → Type 0 where
+  begins : {old u new : Knowledge} (missed : ℕ) → back ≡ false
+      → HasMissedFirst floor l mode missed old u
       → MakesEach floor (begins_round old.thread l) u new
-      → ComesToRound floor l mode (missed + 1) old new
-  sleeps : {old u v new : Knowledge} (looks n m x : ℕ) → ComesToRound floor l mode looks old u
+      → ComesToRound floor l mode back (missed + 1) old new
+  is_in_one : {old : Knowledge} → back ≡ true → ComesToRound floor l mode back 0 old old
+  sleeps : {old u v new : Knowledge} (looks n m x : ℕ) (cause : Cause)
+      → ComesToRound floor l mode back looks old u
       → looks + n ≤ 100
       → MakesEach floor
       (replicate n (Looks old.thread l true ∷ []) ++ enters_there floor old.thread l mode m x) u v
-      → Sleeps floor l BySignal v new → ComesToRound floor l mode 0 old new
+      → (back ≡ false → cause ≡ BySignal)
+      → Sleeps floor l cause v new → ComesToRound floor l mode back 0 old new
 
--- How a take gains: by a first exchange of a thread that holds nothing; by the first one of its round, once its
+-- How it gains: of a take by a first exchange of a thread that holds nothing, or by the first one of its round, once its
 -- lock's order was checked; in a round, behind at most 100 looks; or in the section of the lock's chain, which it takes
 -- behind at most 100 looks. So a chain that it took goes home only behind a gain or an enter
-pub data Acquires (floor : Description) (l : ℕ) (mode : Mode) : Knowledge → Knowledge → Type 0
-  where
-    at_once : {old new : Knowledge} → old.share.held ≡ [] → GainsFirst floor l mode old new
-        → Acquires floor l mode old new
-    checked : {old u new : Knowledge} (missed : ℕ) → HasMissedFirst floor l mode missed old u
-        → MakesEach floor (gains_checked old.thread l mode) u new → Acquires floor l mode old new
-    in_round : {old u new : Knowledge} (looks n : ℕ) → ComesToRound floor l mode looks old u
-        → looks + n ≤ 100 → MakesEach floor (in_its_round old.thread l mode n) u new
-        → Acquires floor l mode old new
-    in_section : {old u new : Knowledge} (looks n m : ℕ) (gain : Step)
-        → ComesToRound floor l mode looks old u → looks + n ≤ 100
-        → IsGain old.thread l mode false gain
-        → MakesEach floor
-        (replicate n (Looks old.thread l true ∷ []) ++ gains_there floor old.thread l gain m) u new
-        → Acquires floor l mode old new
+pub data Acquires (floor : Description) (l : ℕ) (mode : Mode) (back : Bool) : Knowledge → Knowledge
+    → Type 0 where
+  at_once : {old new : Knowledge} → back ≡ false → old.share.held ≡ []
+      → GainsFirst floor l mode old new
+      → Acquires floor l mode back old new
+  checked : {old u new : Knowledge} (missed : ℕ) → back ≡ false
+      → HasMissedFirst floor l mode missed old u
+      → MakesEach floor (gains_checked old.thread l mode) u new
+      → Acquires floor l mode back old new
+  in_round : {old u new : Knowledge} (looks n : ℕ) → ComesToRound floor l mode back looks old u
+      → looks + n ≤ 100 → MakesEach floor (in_its_round old.thread l mode n) u new
+      → Acquires floor l mode back old new
+  in_section : {old u new : Knowledge} (looks n m : ℕ) (gain : Step)
+      → ComesToRound floor l mode back looks old u → looks + n ≤ 100
+      → IsGain old.thread l mode false gain
+      → MakesEach floor
+      (replicate n (Looks old.thread l true ∷ []) ++ gains_there floor old.thread l gain m) u new
+      → Acquires floor l mode back old new
+
+-- a wait takes its lock back so
+abbrev pub TakesBackBy : Description → ℕ → Mode → Knowledge → Knowledge → Type 0
+TakesBackBy floor l mode old new = Acquires floor l mode true old new
 
 -- a take gains the lock, and notes it
 pub record Locks (floor : Description) (l : LockNo) (mode : Mode) (old new : Knowledge) : Type 0
   where
     pub gained : Knowledge
-    pub gains : Acquires floor l.0 mode old gained
+    pub gains : Acquires floor l.0 mode false old gained
     pub notes : Makes floor (Stamps old.thread (Event.Locked l mode) ∷ []) gained new
 
 -- Or it came to stand on the lock's queue, its sleep was ended by an abort, and it notes that, while the halt word is 1
@@ -217,7 +233,7 @@ pub record EndsAsleep (floor : Description) (l : LockNo) (mode : Mode) (old new 
     Type 0 where
   pub looks : ℕ
   pub u : Knowledge
-  pub comes : ComesToRound floor l.0 mode looks old u
+  pub comes : ComesToRound floor l.0 mode false looks old u
   pub n : ℕ
   pub few : looks + n ≤ 100
   pub m : ℕ
@@ -278,6 +294,21 @@ releases_by floor t l mode (ByDrop k) =
     replicate k (Looks t l false ∷ []) ++ (Drops t l mode ∷ []) ∷ []
 releases_by floor t l mode (InSection k n opens ms) =
     replicate k (Looks t l false ∷ []) ++ releases_there floor t l mode n opens ms
+
+-- Within a wait a release isn't noted, and begins with a look outside the section. Of a lock that is held exclusively one
+-- exchange is made there at most, from the word that the look saw
+abbrev pub IsGivingUpIn : Mode → Release → Type 0
+IsGivingUpIn Excl (ByDrop k) = k ≡ 1
+IsGivingUpIn Excl (InSection k n opens ms) = (1 ≤ k) × (k ≤ 2)
+IsGivingUpIn Shared (ByDrop k) = 1 ≤ k
+IsGivingUpIn Shared (InSection k n opens ms) = 1 ≤ k
+
+-- so the thread gives a lock up that it held in some mode
+abbrev pub GivesUpBy : Description → ℕ → Knowledge → Knowledge → Type 0
+GivesUpBy floor l old new =
+    (mode : Mode) × (hold_in old.share.held l ≡ Holds mode) × (how : Release)
+    × IsGivingUpIn mode how
+    × MakesEach floor (releases_by floor old.thread l mode how) old new
 
 -- a release is noted first
 abbrev pub unlocks : Description → ℕ → LockNo → Mode → Release → List (List Step)

@@ -1,10 +1,10 @@
 -- A take as a call that stands at places: what the thread knows at each, what it does from one to the next, and how the
 -- take ends.
-use Rattle.std.specs.Prelude.{◌≡◌, ◌≢◌, ℕ, ◌+◌, ◌-◌, ◌<◌, ◌≤◌, Bool, true, false, [], ◌∷◌, ◌++◌, length, Some, None, ⊤}
+use Rattle.std.specs.Prelude.{◌≡◌, ◌≢◌, ℕ, ◌+◌, ◌-◌, ◌<◌, ◌≤◌, Bool, true, false, [], ◌∷◌, ◌++◌, length, Some, ⊤}
 use Rattle.lock_model.specs.Holds.{NotHeld}
 use Rattle.lock_model.specs.Limits.{most_held}
 use Rattle.lock_model.specs.Operations.{hold_in}
-use Rattle.lock_model.specs.Queues.{BySignal, ByAbort, lock_queue}
+use Rattle.lock_model.specs.Queues.{Cause, ByAbort, lock_queue}
 use Rattle.lock_model.specs.Words.{Word, word_of, owner_of, is_turnstile}
 use Rattle.lock_model.specs.declared.event.Event.{Event}
 use Rattle.lock_model.specs.declared.numbers.LockNo.{LockNo}
@@ -16,10 +16,10 @@ use Rattle.lock_model.specs.declared.plan.Kind.TheVariants.{Mtx}
 use Rattle.lock_model.specs.declared.plan.Mode.{Mode}
 use Rattle.lock_objects.specs.Represents.{walk_of}
 use Rattle.lock_laws.specs.Words.{CanBeSeen}
-use Rattle.lock_state.specs.State.{NoWalk}
-use Rattle.lock_state.specs.Steps.{Step, Looks, Gains, Readies, Resumes, Stamps, TakesItem}
+use Rattle.lock_state.specs.State.{NoWalk, Phase, Awake, is_parked}
+use Rattle.lock_state.specs.Steps.{Step, Looks, Readies, CountsOut, Resumes, Stamps, TakesItem}
 use Rattle.lock_state.specs.Steps.Items.{Item, RecordOf, ClassGraph}
-use Rattle.lock_state.specs.Steps.LockWords.{bound_to}
+use Rattle.lock_state.specs.Steps.LockWords.{is_taking_back, bound_to}
 use Rattle.prio_lending.specs.declared.walk.Walk.{Walk}
 use Rattle.prio_lending.specs.declared.walk.Walk.TheVariants as walk
 use Rattle.floor_table.specs.Descriptions.{config_in}
@@ -29,10 +29,9 @@ use Rattle.floor_table.specs.Steps.{Makes, MakesEach}
 use Rattle.floor_table.specs.Views.{Runs, StandsOn, Knowledge, seeing}
 use Rattle.lock_floor.specs.declared.calls.Call.TheVariants as calls
 use Rattle.lock_floor.specs.declared.calls.TakeAt.{TakeAt}
-use Rattle.lock_floor.specs.declared.calls.TakeAt.TheVariants.{Checks, Spins, ComesIn, Contends, Walks, Hops}
+use Rattle.lock_floor.specs.declared.calls.TakeAt.TheVariants.{Checks, Spins, ComesIn, Contends, Walks, Hops, Sleeps}
 use Rattle.lock_floor.specs.Floors.{Pass}
 use Rattle.lock_floor.specs.Latches.{FindsOut, Takes}
-use Rattle.lock_floor.specs.Ordering.{checks}
 use Rattle.lock_floor.specs.Passes.{IsAtRest, MakesEntry}
 use Rattle.lock_floor.specs.Resumes.{FindsQueued, FindsWhetherQueued}
 use Rattle.lock_floor.specs.Waits.{its_chain, chain_place}
@@ -41,9 +40,9 @@ use Rattle.lock_calls.specs.declared.answers.Next.{Next}
 use Rattle.lock_calls.specs.declared.answers.Next.TheVariants.{Done, Again, Sleep, Wake, Reversed, Halted}
 use Rattle.lock_calls.specs.Choices.{course}
 use Rattle.lock_calls.specs.declared.courses.Course.TheVariants.{Plainly, ByClaim}
-use Rattle.lock_calls.specs.Steps.{IsCovered, IsGain, HasMissedFirst, GainsFirst, EndsAsleep, begins_round, as_taken, enters_by, gains_at_once, gives_both, refuses, runs_on}
+use Rattle.lock_calls.specs.Steps.{IsCovered, IsGain, HasMissedFirst, GainsFirst, EndsAsleep, begins_round, as_taken, enters_by, gains_checked, gives_both, in_its_round, refuses, runs_on}
 use Rattle.lock_calls.specs.Sections.{IsItsChain}
-use Rattle.lock_calls.specs.Waiting.{kept_of, IsCalling, IsChecking, IsSeeking, IsThere, HasSeen, Saw}
+use Rattle.lock_calls.specs.Waiting.{Kept, kept_of, IsCalling, CanAcquire, IsChecking, IsSeeking, IsThere, HasSeen, Saw}
 
 -- 1. What the thread knows at each place
 
@@ -75,6 +74,12 @@ pub record IsStanding (l : ℕ) (there : Walk) (v : Knowledge) : Type 0 where
   pub stands : v.pose ≡ StandsOn (lock_queue l)
   pub walk_is : walk_of there ≡ v.share.doing.walk
 
+-- it has counted itself out there: its walk has ended, it has nothing out, and is parked
+pub record IsParked (l : ℕ) (v : Knowledge) : Type 0 where
+  pub standing : IsStanding l walk.None v
+  pub nothing_out : v.out ≡ []
+  pub parked : is_parked v.share.doing.phase ≡ true
+
 -- So at each place. With twice as many looks as are still allowed, a round has at most 98: before it, two first
 -- exchanges may have missed
 abbrev pub IsTaking : Description → ℕ → TakeAt → Knowledge → Type 0
@@ -85,14 +90,46 @@ IsTaking floor l (Contends seen) v = IsContending floor l seen v
 IsTaking floor l (Walks there) v = IsStanding l there v × CanWalk floor v
 IsTaking floor l (Hops there) v =
     IsStanding l there v × HasTurnstilesOut floor v × (walk_of there ≢ NoWalk)
+IsTaking floor l Sleeps v = IsParked l v
+
+-- who has counted itself out isn't awake, and is once it runs again
+abbrev pub phase_at : TakeAt → Phase → Phase
+phase_at Checks phase = phase
+phase_at (Spins left) phase = phase
+phase_at ComesIn phase = phase
+phase_at (Contends seen) phase = phase
+phase_at (Walks there) phase = phase
+phase_at (Hops there) phase = phase
+phase_at Sleeps phase = Awake
+
+-- but for that, this stays from place to place
+abbrev pub kept_at : TakeAt → Knowledge → Kept
+kept_at at v = record (kept_of v) { phase = phase_at at v.share.doing.phase }
+
+-- an acquiring of the lock in that mode is under way, by a take or within a wait, and stands there
+pub record IsUnderAcquiring (floor : Description) (l : LockNo) (mode : Mode) (at : TakeAt)
+    (v : Knowledge) : Type 0 where
+  pub covered : IsCovered floor l.0 mode
+  pub calling : CanAcquire floor (kept_at at v)
+  pub there : IsTaking floor l.0 at v
 
 -- a take of the lock in that mode is under way, and stands there
 pub record IsUnderTake (floor : Description) (l : LockNo) (mode : Mode) (at : TakeAt)
     (v : Knowledge) : Type 0 where
   pub covered : IsCovered floor l.0 mode
-  pub calling : IsCalling floor (kept_of v)
+  pub calling : IsCalling floor (kept_at at v)
   pub room : 1 ≤ v.spare
   pub there : IsTaking floor l.0 at v
+
+-- it is behind the check of its order, and doesn't sleep
+abbrev pub IsBetween : TakeAt → Type 0
+IsBetween Checks = ⊥
+IsBetween (Spins left) = ⊤
+IsBetween ComesIn = ⊤
+IsBetween (Contends seen) = ⊤
+IsBetween (Walks there) = ⊤
+IsBetween (Hops there) = ⊤
+IsBetween Sleeps = ⊥
 
 -- the call that the pass is in the middle of is a take
 pub record IsInTake (floor : Description) (p : Pass Knowledge) : Type 0 where
@@ -139,6 +176,7 @@ AwaitsInTake floor v l ComesIn i = i ≡ RecordOf v.thread
 AwaitsInTake floor v l (Contends seen) i = ⊥
 AwaitsInTake floor v l (Walks there) i = (there ≢ walk.None) × (i ≡ turnstiles)
 AwaitsInTake floor v l (Hops there) i = (o : ℕ) × NeedsRecord floor o v × (i ≡ RecordOf o)
+AwaitsInTake floor v l Sleeps i = ⊥
 
 -- Looks at a lock in its round, with the word that was seen last: one alone, which saw a word from which the thread
 -- doesn't gain the lock plainly; or one which saw a word from which it does, and the exchange from that word, which
@@ -159,7 +197,9 @@ pub data LooksOn (floor : Description) (l : ℕ) (mode : Mode) : ℕ → Word �
 -- looks, tries where it saw that it can, and asks whether the owner is queued whom the word named that it saw last;
 -- once no looks are left, it takes the chain, then its own record, is ready for the queue, and looks. There an exchange
 -- that misses is a look, which saw another word; or it comes to stand on the queue. It makes hop after hop of its walk,
--- and where it was woken it begins another round. Or it found out what it needs, or that it is queued still
+-- counts itself out, and where it was woken it begins another round: by a signal, or where it takes a lock back within a
+-- wait by an abort too. Or it found out what it needs, or that it is queued
+-- still
 pub data TakeLeg (floor : Description) (l : LockNo) (mode : Mode) : TakeAt → TakeAt → Knowledge
     → Knowledge → Type 0 where
   admitted : {old new : Knowledge} (left : ℕ) (found : Word) → left ≤ 48
@@ -192,20 +232,23 @@ pub data TakeLeg (floor : Description) (l : LockNo) (mode : Mode) : TakeAt → T
       → TakeLeg floor l mode (Walks there) (Hops there) old new
   hops : {old new : Knowledge} (there to : Walk) → HopsOn floor (walk_of to) old new
       → TakeLeg floor l mode (Hops there) (Walks to) old new
-  resumes : {old new : Knowledge} (left : ℕ) → left ≤ 48
-      → Makes floor (Resumes old.thread (lock_queue l.0) BySignal ∷ []) old new
-      → TakeLeg floor l mode (Walks walk.None) (Spins left) old new
+  counts_out : {old new : Knowledge} → Makes floor (CountsOut old.thread ∷ []) old new
+      → TakeLeg floor l mode (Walks walk.None) Sleeps old new
+  resumes : {old new : Knowledge} (left : ℕ) (cause : Cause) → left ≤ 48
+      → (cause ≡ ByAbort → is_taking_back old.share.log ≡ true)
+      → Makes floor (Resumes old.thread (lock_queue l.0) cause ∷ []) old new
+      → TakeLeg floor l mode Sleeps (Spins left) old new
   finds_out : {old new : Knowledge} (at : TakeAt) (i : Item)
       → AwaitsInTake floor old l.0 at i → new ≡ seeing new.seen old
       → FindsOut floor i old new → TakeLeg floor l mode at at old new
   is_queued : {old new : Knowledge} → new ≡ seeing new.seen old → FindsQueued floor old new
-      → TakeLeg floor l mode (Walks walk.None) (Walks walk.None) old new
+      → TakeLeg floor l mode Sleeps Sleeps old new
 
 -- the take went on, and stands there
 pub record TakesOn (floor : Description) (l : LockNo) (mode : Mode) (at to : TakeAt)
     (old new : Knowledge) : Type 0 where
   pub there : IsTaking floor l.0 to new
-  pub kept : kept_of new ≡ kept_of old
+  pub kept : kept_at to new ≡ kept_at at old
   pub leg : TakeLeg floor l mode at to old new
 
 -- 3. How it ends
@@ -217,29 +260,26 @@ pub record HasTaken (floor : Description) (l : LockNo) (mode : Mode) (old new : 
     pub entry : MakesEntry floor (Event.Locked l mode)
         (old.share.held ++ as_taken l mode ∷ []) old new
 
--- Its order was checked, and it gained the lock at once; or it saw in its round that it can, and gained it; or it
--- gained it in the section of the chain, and ran on
+-- How it gains the lock: its order was checked, and it gained it at once; or it saw in its round that it can, and gained
+-- it; or it gained it in the section of the chain, and ran on
 pub data TakeEnd (floor : Description) (l : LockNo) (mode : Mode) : TakeAt → Knowledge → Knowledge
     → Type 0 where
-  at_check : {old new : Knowledge}
-      → MakesEach floor
-      (checks old.thread l.0 None ++ gains_at_once old.thread l.0 mode
-      ∷ (Stamps old.thread (Event.Locked l mode) ∷ []) ∷ [])
-      old new
+  at_check : {old new : Knowledge} → MakesEach floor (gains_checked old.thread l.0 mode) old new
       → TakeEnd floor l mode Checks old new
   in_round : {old new : Knowledge} (left : ℕ) → 1 ≤ left
-      → MakesEach floor
-      ((Looks old.thread l.0 true ∷ []) ∷ (Gains old.thread l.0 mode false ∷ [])
-      ∷ (Stamps old.thread (Event.Locked l mode) ∷ []) ∷ [])
-      old new
+      → MakesEach floor (in_its_round old.thread l.0 mode 1) old new
       → TakeEnd floor l mode (Spins left) old new
   in_section : {old new : Knowledge} (seen : ℕ) (gain : Step)
       → IsGain old.thread l.0 mode false gain
-      → MakesEach floor
-      ((gain ∷ []) ∷ (runs_on floor old.thread l.0
-      ++ (Stamps old.thread (Event.Locked l mode) ∷ []) ∷ []))
-      old new
+      → MakesEach floor ((gain ∷ []) ∷ runs_on floor old.thread l.0) old new
       → TakeEnd floor l mode (Contends seen) old new
+
+-- a take that stood there gained the lock so, and noted that
+pub record TakeEnds (floor : Description) (l : LockNo) (mode : Mode) (at : TakeAt)
+    (old new : Knowledge) : Type 0 where
+  pub gained : Knowledge
+  pub gains : TakeEnd floor l mode at old gained
+  pub notes : Makes floor (Stamps old.thread (Event.Locked l mode) ∷ []) gained new
 
 -- or it was refused: the lock's order was checked, and of the classes of the locks that the thread holds this is the
 -- first that forbids the lock's. That is noted, nothing else of the thread is new, and it is at rest
@@ -255,7 +295,7 @@ pub record IsRefused (floor : Description) (l : LockNo) (r : Reversal) (old new 
 pub record IsHalted (floor : Description) (l : LockNo) (at : TakeAt) (old new : Knowledge) : Type 0
   where
     pub sleeps : is_turnstile ((config_in floor).kind l.0) ≡ false
-    pub stood : at ≡ Walks walk.None
+    pub slept : at ≡ Sleeps
     pub rest : IsAtRest floor new
     pub entry : MakesEntry floor (Event.HaltedLock l) old.share.held old new
     pub steps : MakesEach floor
@@ -287,19 +327,15 @@ abbrev pub WasNotTaken : Description → LockNo → Mode → Refused → Knowled
 WasNotTaken floor l mode (refused.Reversal r) old new = IsRefused floor l r old new
 WasNotTaken floor l mode (refused.Halted h) old new = WasHalted floor l mode old new
 
--- what is to be done next, where a take stands there: to sleep where its walk has ended, or else to go on
-abbrev pub next_in_walk : Walk → Next
-next_in_walk walk.None = Sleep
-next_in_walk (walk.AtLock l) = Again
-next_in_walk (walk.AtThread o) = Again
-
+-- what is to be done next, where a take stands there: to sleep where it has counted itself out, or else to go on
 abbrev pub next_at : TakeAt → Next
 next_at Checks = Again
 next_at (Spins left) = Again
 next_at ComesIn = Again
 next_at (Contends seen) = Again
-next_at (Walks there) = next_in_walk there
+next_at (Walks there) = Again
 next_at (Hops there) = Again
+next_at Sleeps = Sleep
 
 -- the lock's order is to be checked; where the thread holds nothing, its first exchanges came before, and missed
 pub record BeginsTake (floor : Description) (l : LockNo) (mode : Mode) (p q : Pass Knowledge) :
@@ -356,7 +392,7 @@ abbrev pub GoesOnTaking : Description → LockNo → Mode → TakeAt → Next �
     → Pass Knowledge → Type 0
 GoesOnTaking floor l mode at Done p q =
     (q.call ≡ calls.None) × HasTaken floor l mode p.view q.view
-    × TakeEnd floor l mode at p.view q.view
+    × TakeEnds floor l mode at p.view q.view
 GoesOnTaking floor l mode at Again p q = StandsInTake floor l mode at Again p q
 GoesOnTaking floor l mode at Sleep p q = StandsInTake floor l mode at Sleep p q
 GoesOnTaking floor l mode at (Wake t) p q = ⊥

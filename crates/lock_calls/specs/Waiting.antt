@@ -1,18 +1,18 @@
 -- What a thread knows in the middle of a call. Looks of a release count nothing, nor do those under a lock's chain;
 -- those of a blocking call's round count, and so do its exchanges before the round.
-use Rattle.std.specs.Prelude.{◌≡◌, ◌≢◌, ℕ, ◌+◌, ◌<◌, ◌≤◌, Bool, true, false, List, [], ◌∷◌, length, replicate, Option, Some, None}
+use Rattle.std.specs.Prelude.{◌≡◌, ◌≢◌, ℕ, ◌+◌, ◌<◌, ◌≤◌, Bool, true, false, List, [], ◌∷◌, length, map, replicate, Option, Some, None}
 use Rattle.lock_model.specs.Holds.{NotHeld, Holds}
 use Rattle.lock_model.specs.History.{open_in}
 use Rattle.lock_model.specs.Limits.{most_held}
 use Rattle.lock_model.specs.Operations.{hold_in, without_lock}
-use Rattle.lock_model.specs.Queues.{Mark}
+use Rattle.lock_model.specs.Queues.{Mark, lock_queue, chan_queue}
 use Rattle.lock_model.specs.Words.{Word, word_of, IsWellFormed, HeldBy, is_turnstile}
 use Rattle.lock_model.specs.declared.event.Entry.{Entry}
 use Rattle.lock_model.specs.declared.event.Held.{Held}
 use Rattle.lock_model.specs.declared.numbers.LockNo.{LockNo}
 use Rattle.lock_model.specs.declared.plan.Mode.{Mode}
 use Rattle.lock_model.specs.declared.plan.Mode.TheVariants.{Excl}
-use Rattle.lock_state.specs.State.{Look, Note, Wake, Phase, Walk, NoWalk}
+use Rattle.lock_state.specs.State.{Look, Note, SleepHalted, Wake, Phase, Walk, NoWalk}
 use Rattle.lock_state.specs.Steps.{Step, Seeks, Looks, Gains}
 use Rattle.lock_state.specs.Steps.LockWords.{is_taking_back, round_of, bound_to}
 use Rattle.lock_state.specs.Steps.Turnstiles.{walk_up}
@@ -21,22 +21,27 @@ use Rattle.floor_table.specs.declared.description.Description.{Description}
 use Rattle.floor_table.specs.declared.slot.Slot.{Slot}
 use Rattle.floor_table.specs.Shares.{Doing, is_among}
 use Rattle.floor_table.specs.Steps.{Makes, MakesEach}
-use Rattle.floor_table.specs.Views.{Runs, IsReady, Knowledge, seeing}
+use Rattle.floor_table.specs.Views.{Role, Runs, IsReady, Knowledge, seeing}
 use Rattle.lock_floor.specs.Opens.{opened_up}
 use Rattle.lock_floor.specs.Ordering.{MayOrder}
 use Rattle.lock_floor.specs.Passes.{CanStep, IsGoing}
+use Rattle.lock_floor.specs.Relocks.{MayGiveUp}
 use Rattle.lock_floor.specs.Rounds.{gained_first}
 use Rattle.lock_floor.specs.Views.{counts, looked, gained}
 use Rattle.lock_floor.specs.Waits.{entered}
 use Rattle.lock_laws.specs.Words.{CanBeSeen}
+use Rattle.lock_objects.specs.Represents.{mark_of}
 use Rattle.lock_words.specs.Views.{IsHeldIn}
+use Rattle.turnstile_core.specs.Seen.{Place}
 use Rattle.lock_calls.specs.Steps.{IsGain, HasMissedFirst, GainsFirst, as_taken, gains_at_once, enters_by, frees}
 use Rattle.lock_calls.specs.Sections.{HasRecordAndChain}
 
 -- 1. What stays
 
--- what a thread knows that stays through a call, but for its gain or its release, and its entry
+-- what a thread knows that stays through a call, but for its gain or its release, its entry, and its phase while it
+-- sleeps
 pub record Kept : Type 0 where
+  pub role : Role
   pub description : Description
   pub thread : ℕ
   pub spare : ℕ
@@ -45,6 +50,7 @@ pub record Kept : Type 0 where
   pub log : List Entry
   pub marked : List Mark
   pub noted : Option Note
+  pub woken_from : Option ℕ
   pub unstamped : Option Wake
   pub counting : Option ℕ
   pub phase : Phase
@@ -52,6 +58,7 @@ pub record Kept : Type 0 where
 
 abbrev pub kept_of : Knowledge → Kept
 kept_of v = record {
+  role = v.role;
   description = v.description;
   thread = v.thread;
   spare = v.spare;
@@ -60,6 +67,7 @@ kept_of v = record {
   log = v.share.log;
   marked = v.share.doing.marked;
   noted = v.share.doing.noted;
+  woken_from = v.share.doing.woken_from;
   unstamped = v.share.doing.unstamped;
   counting = v.share.doing.counting;
   phase = v.share.doing.phase;
@@ -78,6 +86,20 @@ pub record IsCalling (floor : Description) (k : Kept) : Type 0 where
   pub no_wait : is_taking_back k.log ≡ false
   pub sections : (l : ℕ) → open_in (config_in floor) k.log k.thread l ≡ hold_in k.held l
   pub begun : (l : ℕ) → hold_in k.held l ≢ NotHeld → is_among l k.begun ≡ true
+
+-- A lock is acquired, by such a call or within a wait, by a thread that is awake and has nobody to mark or counted in;
+-- the sections open in its log are of just the locks that it holds. No abort ended a sleep of it on a lock's queue, which
+-- it would have to note. And it isn't on its way to a channel: where it sleeps in its log, that sleep was ended, by a
+-- signal or by an abort
+pub record CanAcquire (floor : Description) (k : Kept) : Type 0 where
+  pub description : k.description ≡ floor
+  pub going : CanStep k.phase k.has_ended k.unstamped
+  pub unmarked : k.marked ≡ []
+  pub uncounted : k.counting ≡ None
+  pub sections : (l : ℕ) → open_in (config_in floor) k.log k.thread l ≡ hold_in k.held l
+  pub unhalted : (l : ℕ) → k.noted ≡ Some (SleepHalted (lock_queue l)) → ⊥
+  pub awake : is_taking_back k.log ≡ true → k.woken_from ≡ None
+      → ((d : ℕ) → k.noted ≡ Some (SleepHalted (chan_queue d)) → ⊥) → ⊥
 
 -- 2. Looks outside rounds, and under a chain
 
@@ -217,13 +239,13 @@ pub record HasBegun (floor : Description) (l : ℕ) (old new : Knowledge) : Type
   pub step : Makes floor (Seeks old.thread l false ∷ Looks old.thread l true ∷ []) old new
 
 -- the thread is in a round of a blocking call: it runs and is awake, has nothing out and no walk, wants and takes the
--- lock, doesn't hold it, has room for it, and has nothing to note
+-- lock, doesn't hold it, has room for it, and has no halt of a take to note
 pub record IsSeeking (l : ℕ) (v : Knowledge) : Type 0 where
   pub unheld : hold_in v.share.held l ≡ NotHeld
   pub few : length v.share.held < most_held
   pub wants : v.share.doing.wanted ≡ Some l
   pub takes : v.share.doing.taking ≡ Some l
-  pub unnoted : v.share.doing.noted ≡ None
+  pub unhalted : (k : ℕ) → v.share.doing.noted ≡ Some (SleepHalted (lock_queue k)) → ⊥
   pub round : v.share.doing.round ≡ Some (round_of l false)
   pub no_walk : v.share.doing.walk ≡ NoWalk
   pub runs : v.pose ≡ Runs
@@ -332,16 +354,20 @@ pub record HasGained (l : LockNo) (mode : Mode) (old new : Knowledge) : Type 0 w
 
 -- 6. A release
 
--- the thread may put the lock down: it can look and holds it in that mode, and its section of it began and is closed;
--- it has nobody to mark or counted in, and doesn't sleep in its log
+-- The thread may put the lock down: it runs, or came to stand on a channel's queue, with which a wait gives its lock up.
+-- It is awake, has nothing out, takes nothing, is in no round and has nobody to mark or counted in; it holds the lock in
+-- that mode, and its section of it began and is closed
 pub record MayPutDown (floor : Description) (l : ℕ) (mode : Mode) (v : Knowledge) : Type 0 where
   pub held : hold_in v.share.held l ≡ Holds mode
   pub closed : open_in (config_in floor) v.share.log v.thread l ≡ NotHeld
   pub begun : is_among l v.share.begun ≡ true
   pub unmarked : v.share.doing.marked ≡ []
   pub uncounted : v.share.doing.counting ≡ None
-  pub no_wait : is_taking_back v.share.log ≡ false
-  pub looks : CanLook v
+  pub there : MayGiveUp v
+  pub nothing_out : v.out ≡ []
+  pub takes_nothing : v.share.doing.taking ≡ None
+  pub no_round : v.share.doing.round ≡ None
+  pub going : IsGoing v
 
 -- the same in the section of the lock's chain
 pub record MayLetGo (floor : Description) (l : ℕ) (mode : Mode) (v : Knowledge) : Type 0 where
@@ -349,8 +375,7 @@ pub record MayLetGo (floor : Description) (l : ℕ) (mode : Mode) (v : Knowledge
   pub closed : open_in (config_in floor) v.share.log v.thread l ≡ NotHeld
   pub begun : is_among l v.share.begun ≡ true
   pub unmarked : v.share.doing.marked ≡ []
-  pub no_wait : is_taking_back v.share.log ≡ false
-  pub runs : v.pose ≡ Runs
+  pub there : MayGiveUp v
   pub takes_nothing : v.share.doing.taking ≡ None
   pub no_round : v.share.doing.round ≡ None
   pub going : IsGoing v
@@ -362,10 +387,12 @@ pub record IsOwn (t : ℕ) (mode : Mode) (seen : ℕ) : Type 0 where
   pub held : IsHeldIn (word_of seen).holder mode
   pub its : mode ≡ Excl → (word_of seen).holder ≡ HeldBy t
 
--- the thread let the lock go in the section: those who were taken off are marked, by a drop nobody is
+-- the thread let the lock go in the section: those who were taken off its queue are marked, by a drop nobody is
 pub record LetsGo (floor : Description) (l : ℕ) (mode : Mode) (old new : Knowledge) : Type 0 where
   pub opens : Bool
   pub marks : List Mark
+  pub places : List Place
+  pub of_queue : marks ≡ map (mark_of (lock_queue l)) places
   pub out : List (ℕ × Slot)
   pub view : new ≡ seeing new.seen (opened_up old l marks out)
   pub both : HasRecordAndChain floor l new

@@ -1,5 +1,6 @@
 //! What a part of a call answers.
 
+use lock_floor::ReleaseAt;
 use lock_model::{Reversal, ThreadNo};
 
 /// What the caller is to do next.
@@ -18,4 +19,15 @@ pub enum Next {
     /// Nothing: the take's sleep was ended by an abort, and the lock wasn't gained. That is noted, the pass is at rest,
     /// and nothing is owed. It comes of an sx lock alone.
     Halted,
+}
+
+/// Where a release stands behind a part of it.
+#[derive(Clone, Copy, Debug, PartialEq, Eq)]
+pub enum ReleaseNext {
+    /// Nowhere: it is done.
+    Done,
+    /// There.
+    At(ReleaseAt),
+    /// Where it wakes, and the sleep of that thread is to be ended, which was marked.
+    Wake(ThreadNo),
 }

@@ -18,21 +18,20 @@ ghost use Rattle.lock_calls.specs.Choices.{course};
 ghost use Rattle.lock_calls.specs.Sections.{HasRecordAndChain};
 ghost use Rattle.lock_calls.specs.declared.courses.Course.TheVariants.{Plainly, ByClaim, MustWait};
 ghost use Rattle.lock_calls.specs.Steps.{IsCovered, gives_both};
-ghost use Rattle.lock_calls.specs.Takes.{IsUnderTake, HasTaken, TakeEnd, TakesOn};
-ghost use Rattle.lock_calls.specs.Waiting.{kept_of, IsCalling, IsThere, Saw, GainsStep, EntersStep, MissesThere, with_none_out};
+ghost use Rattle.lock_calls.specs.Takes.{IsUnderAcquiring, TakeEnd, TakesOn};
+ghost use Rattle.lock_calls.specs.Waiting.{kept_of, CanAcquire, HasGained, IsThere, Saw, GainsStep, EntersStep, MissesThere, with_none_out};
 
 use crate::courses::{Course, course_of};
-use crate::spinning::note_taken;
 use lock_floor::{Floor, Pass, TakeAt};
 use lock_model::{Held, Kind, LockNo, Mode, QueueName};
 use prio_lending::Walk;
 
 /// Comes to the section with the lock's chain out: takes the own record, if it is at home, is ready for the queue, and
-/// looks. Answers where the take stands then.
+/// looks. Answers where it stands then.
 pub fn come_in(floor: &Floor, pass: &mut Pass, l: LockNo, mode: Mode) -> TakeAt
     requires own { IsOf floor.now pass.old }
     requires one_chain { floor.now.description.chains ≡ 1 }
-    requires under_way { IsUnderTake floor.now.description l mode ComesIn pass.old.view }
+    requires under_way { IsUnderAcquiring floor.now.description l mode ComesIn pass.old.view }
     ensures own { IsOf floor.now pass.new }
     ensures on { TakesOn floor.now.description l mode ComesIn result pass.old.view pass.new.view }
 {
@@ -44,15 +43,14 @@ pub fn come_in(floor: &Floor, pass: &mut Pass, l: LockNo, mode: Mode) -> TakeAt
     TakeAt::Contends(floor.look(pass, l))
 }
 
-/// Contends for the lock in that section, where it saw this word last: it gains it (`None`: then that is noted), or
-/// comes to stand on its queue, or its exchange misses. Else it answers where the take stands then.
+/// Contends for the lock in that section, where it saw this word last: it gains it (`None`), or comes to stand on its
+/// queue, or its exchange misses. Else it answers where it stands then.
 pub fn contend(floor: &Floor, pass: &mut Pass, l: LockNo, mode: Mode, seen: u64) -> Option<TakeAt>
     requires own { IsOf floor.now pass.old }
     requires one_chain { floor.now.description.chains ≡ 1 }
-    requires under_way { IsUnderTake floor.now.description l mode (Contends seen) pass.old.view }
+    requires under_way { IsUnderAcquiring floor.now.description l mode (Contends seen) pass.old.view }
     ensures own { IsOf floor.now pass.new }
-    ensures taken { IfNone result
-        (HasTaken floor.now.description l mode pass.old.view pass.new.view) }
+    ensures gained { IfNone result (HasGained l mode pass.old.view pass.new.view) }
     ensures end { IfNone result
         (TakeEnd floor.now.description l mode (Contends seen) pass.old.view pass.new.view) }
     ensures on { IfSome result (λ to. TakesOn floor.now.description l mode (Contends seen) to
@@ -62,7 +60,6 @@ pub fn contend(floor: &Floor, pass: &mut Pass, l: LockNo, mode: Mode, seen: u64)
         Ok(None) => {
             floor.ready(pass, QueueName::Lock(l), false);
             give_both(floor, pass, l);
-            note_taken(floor, pass, l, mode);
             None
         }
         Ok(Some(walk)) => {
@@ -85,7 +82,7 @@ fn attempt_there(
     requires own { IsOf floor.now pass.old }
     requires covered { IsCovered floor.now.description l.0 mode }
     requires there { IsThere floor.now.description l.0 pass.old.view }
-    requires calling { IsCalling floor.now.description (kept_of pass.old.view) }
+    requires calling { CanAcquire floor.now.description (kept_of pass.old.view) }
     requires saw { Saw l.0 (word_of seen) pass.old.view }
     requires seen_so { CanBeSeen ((config_in floor.now.description).kind l.0) (word_of seen) }
     ensures own { IsOf floor.now pass.new }
@@ -114,7 +111,7 @@ fn gain_there(
     requires own { IsOf floor.now pass.old }
     requires covered { IsCovered floor.now.description l.0 mode }
     requires there { IsThere floor.now.description l.0 pass.old.view }
-    requires calling { IsCalling floor.now.description (kept_of pass.old.view) }
+    requires calling { CanAcquire floor.now.description (kept_of pass.old.view) }
     requires saw { Saw l.0 (word_of seen) pass.old.view }
     requires seen_so { CanBeSeen ((config_in floor.now.description).kind l.0) (word_of seen) }
     requires course { course ((config_in floor.now.description).kind l.0) (word_of seen) mode
@@ -149,7 +146,7 @@ fn claim_there(
     requires own { IsOf floor.now pass.old }
     requires covered { IsCovered floor.now.description l.0 mode }
     requires there { IsThere floor.now.description l.0 pass.old.view }
-    requires calling { IsCalling floor.now.description (kept_of pass.old.view) }
+    requires calling { CanAcquire floor.now.description (kept_of pass.old.view) }
     requires saw { Saw l.0 (word_of seen) pass.old.view }
     requires seen_so { CanBeSeen ((config_in floor.now.description).kind l.0) (word_of seen) }
     requires course { course ((config_in floor.now.description).kind l.0) (word_of seen) mode
@@ -179,7 +176,7 @@ fn enter_there(
     requires own { IsOf floor.now pass.old }
     requires covered { IsCovered floor.now.description l.0 mode }
     requires there { IsThere floor.now.description l.0 pass.old.view }
-    requires calling { IsCalling floor.now.description (kept_of pass.old.view) }
+    requires calling { CanAcquire floor.now.description (kept_of pass.old.view) }
     requires saw { Saw l.0 (word_of seen) pass.old.view }
     requires seen_so { CanBeSeen ((config_in floor.now.description).kind l.0) (word_of seen) }
     requires course { course ((config_in floor.now.description).kind l.0) (word_of seen) mode
@@ -210,7 +207,7 @@ fn stand_there(
     requires covered { IsCovered floor.now.description l.0 mode }
     requires turnstile { is_turnstile ((config_in floor.now.description).kind l.0) ≡ true }
     requires there { IsThere floor.now.description l.0 pass.old.view }
-    requires calling { IsCalling floor.now.description (kept_of pass.old.view) }
+    requires calling { CanAcquire floor.now.description (kept_of pass.old.view) }
     requires saw { Saw l.0 (word_of seen) pass.old.view }
     requires seen_so { CanBeSeen ((config_in floor.now.description).kind l.0) (word_of seen) }
     requires course { course ((config_in floor.now.description).kind l.0) (word_of seen) mode
@@ -244,7 +241,7 @@ fn lie_there(
     requires covered { IsCovered floor.now.description l.0 mode }
     requires sleeps { (config_in floor.now.description).kind l.0 ≡ Sx }
     requires there { IsThere floor.now.description l.0 pass.old.view }
-    requires calling { IsCalling floor.now.description (kept_of pass.old.view) }
+    requires calling { CanAcquire floor.now.description (kept_of pass.old.view) }
     requires saw { Saw l.0 (word_of seen) pass.old.view }
     requires seen_so { CanBeSeen ((config_in floor.now.description).kind l.0) (word_of seen) }
     requires course { course ((config_in floor.now.description).kind l.0) (word_of seen) mode

@@ -5,16 +5,16 @@ ghost use Rattle.std.specs.Prelude.{◌≡◌, true, false, IfNone, IfSome, IfOk
 ghost use Rattle.lock_floor.specs.declared.calls.TakeAt.TheVariants.{Checks};
 ghost use Rattle.lock_floor.specs.Passes.{IsOf};
 ghost use Rattle.lock_calls.specs.Steps.{IsCovered, as_taken};
-ghost use Rattle.lock_calls.specs.Takes.{IsUnderTake, HasTaken, TakeEnd, TakesOn, IsRefused};
-ghost use Rattle.lock_calls.specs.Waiting.{MaySeek, GainsAtOnce, HasBegun};
+ghost use Rattle.lock_calls.specs.Takes.{IsUnderTake, TakeEnd, TakesOn, IsRefused};
+ghost use Rattle.lock_calls.specs.Waiting.{MaySeek, GainsAtOnce, HasBegun, HasGained};
 
-use crate::spinning::{FREE, LOOKS, note_taken};
+use crate::spinning::{FREE, LOOKS};
 use lock_floor::{Floor, Pass, TakeAt};
 use lock_model::{Event, Held, LockNo, Mode, Reversal};
 
 /// Has the order of a lock checked, if the class graph is at home. Where it is admitted, a round of the lock begins
-/// by an exchange, which gains it (`None`: then that is noted) or is the round's first look. Else it answers where the
-/// take stands then. `Err` comes exactly where the class of a held lock forbids that of the lock: that is noted.
+/// by an exchange, which gains it (`None`: then that is still to be noted) or is the round's first look. Else it
+/// answers where the take stands then. `Err` comes exactly where the class of a held lock forbids that of the lock: that is noted.
 pub fn check(
     floor: &Floor,
     pass: &mut Pass,
@@ -24,8 +24,8 @@ pub fn check(
     requires own { IsOf floor.now pass.old }
     requires under_way { IsUnderTake floor.now.description l mode Checks pass.old.view }
     ensures own { IsOf floor.now pass.new }
-    ensures taken { IfOk result (λ to. IfNone to
-        (HasTaken floor.now.description l mode pass.old.view pass.new.view)) }
+    ensures gained { IfOk result (λ to. IfNone to
+        (HasGained l mode pass.old.view pass.new.view)) }
     ensures end { IfOk result (λ to. IfNone to
         (TakeEnd floor.now.description l mode Checks pass.old.view pass.new.view)) }
     ensures on { IfOk result (λ to. IfSome to
@@ -37,7 +37,6 @@ pub fn check(
         None => Ok(Some(TakeAt::Checks)),
         Some(Ok(())) => {
             if seek(floor, pass, l, mode) {
-                note_taken(floor, pass, l, mode);
                 Ok(None)
             } else {
                 Ok(Some(TakeAt::Spins(LOOKS)))

@@ -1,14 +1,33 @@
 //! A release outside the section of the lock's chain, as `__rw_runlock_try` of FreeBSD's kern_rwlock.c: who holds a
 //! lock shared tries again where an exchange missed, while another holder stays or nobody waits; else it goes to the
 //! lock's chain. Who holds it exclusively goes there at once. It never waits.
-ghost use Rattle.std.specs.Prelude.{◌≡◌, IfNone, IfSome};
+ghost use Rattle.std.specs.Prelude.{◌≡◌, ◌<◌, length, IfNone, IfSome};
 ghost use Rattle.lock_floor.specs.declared.calls.ReleaseAt.TheVariants.{Drops};
 ghost use Rattle.lock_floor.specs.Passes.{IsOf};
 ghost use Rattle.lock_calls.specs.Choices.{outside};
-ghost use Rattle.lock_calls.specs.Releases.{IsReleased, IsUnderRelease, ReleasesOn};
+ghost use Rattle.lock_calls.specs.Releases.{BeginsGivingUp, IsReleased, IsReleasing, ReleasesOn};
+ghost use Rattle.lock_calls.specs.Waiting.{MayPutDown};
 
 use lock_floor::{Floor, Pass, ReleaseAt};
 use lock_model::{LockNo, Mode};
+
+/// Looks at a lock that the thread gives up in a wait: where the word allows that it is to be dropped from it, and else
+/// the release goes to the lock's chain. Answers where it stands then.
+pub fn begin_giving_up(floor: &Floor, pass: &mut Pass, l: LockNo, mode: Mode) -> ReleaseAt
+    requires own { IsOf floor.now pass.old }
+    requires lock { l.0 < length floor.now.description.locks }
+    requires may { MayPutDown floor.now.description l.0 mode pass.old.view }
+    ensures own { IsOf floor.now pass.new }
+    ensures begins { BeginsGivingUp floor.now.description l mode result
+        pass.old.view pass.new.view }
+{
+    let seen = floor.look(pass, l);
+    if lock_words::is_drop(seen) {
+        ReleaseAt::Drops(seen)
+    } else {
+        ReleaseAt::ComesTo
+    }
+}
 
 /// Drops a lock by one exchange from the word that the thread found last, which allows that. `None`: the release is
 /// done. Else, where another word stood there, it answers where the release stands then.
@@ -20,7 +39,8 @@ pub fn drop_outside(
     seen: u64,
 ) -> Option<ReleaseAt>
     requires own { IsOf floor.now pass.old }
-    requires under_way { IsUnderRelease floor.now.description l mode (Drops seen) pass.old.view }
+    requires lock { l.0 < length floor.now.description.locks }
+    requires there { IsReleasing floor.now.description l.0 mode (Drops seen) pass.old.view }
     ensures own { IsOf floor.now pass.new }
     ensures released { IfNone result
         (IsReleased floor.now.description l mode (Drops seen) pass.old.view pass.new.view) }

@@ -1,24 +1,24 @@
 //! A release in the section of the lock's chain, as `__mtx_unlock_sleep` of FreeBSD's kern_mutex.c with
 //! `turnstile_broadcast` of its subr_turnstile.c, and `_sx_xunlock_hard` and `_sx_sunlock_hard` of its kern_sx.c: those
 //! who wait are taken off the lock's queue, a turnstile or the sleep queue of an sx lock. It never waits.
-ghost use Rattle.std.specs.Prelude.{◌≡◌, true, false, IfOk, IfErr};
+ghost use Rattle.std.specs.Prelude.{◌≡◌, ◌<◌, length, true, false, IfOk, IfErr};
 ghost use Rattle.lock_model.specs.Words.{word_of, is_drop, is_turnstile};
 ghost use Rattle.lock_model.specs.declared.plan.Kind.TheVariants.{Sx};
 ghost use Rattle.floor_table.specs.Descriptions.{config_in};
 ghost use Rattle.lock_floor.specs.declared.calls.ReleaseAt.TheVariants.{ComesTo, ComesIn, Frees};
 ghost use Rattle.lock_floor.specs.Passes.{IsOf};
-ghost use Rattle.lock_calls.specs.Releases.{IsUnderRelease, ReleasesOn};
-ghost use Rattle.lock_calls.specs.Steps.{IsCovered};
+ghost use Rattle.lock_calls.specs.Releases.{IsReleasing, ReleasesOn};
 ghost use Rattle.lock_calls.specs.Waiting.{MayLetGo, IsOwn, LetsGo, MissesOwn};
 
 use crate::blocking::give_both;
 use lock_floor::{Floor, Pass, ReleaseAt};
 use lock_model::{Kind, LockNo, Mode, QueueName};
 
-/// Takes the chain of a lock, the release of which is noted, if it is at home. Answers where the release stands then.
+/// Takes the chain of a lock, if it is at home. Answers where the release stands then.
 pub fn come_to(floor: &Floor, pass: &mut Pass, l: LockNo, mode: Mode) -> ReleaseAt
     requires own { IsOf floor.now pass.old }
-    requires under_way { IsUnderRelease floor.now.description l mode ComesTo pass.old.view }
+    requires lock { l.0 < length floor.now.description.locks }
+    requires there { IsReleasing floor.now.description l.0 mode ComesTo pass.old.view }
     ensures own { IsOf floor.now pass.new }
     ensures on { ReleasesOn floor.now.description l mode ComesTo result
         pass.old.view pass.new.view }
@@ -33,7 +33,8 @@ pub fn come_to(floor: &Floor, pass: &mut Pass, l: LockNo, mode: Mode) -> Release
 /// With the chain out, takes the own record, if it is at home, and looks. Answers where the release stands then.
 pub fn come_in(floor: &Floor, pass: &mut Pass, l: LockNo, mode: Mode) -> ReleaseAt
     requires own { IsOf floor.now pass.old }
-    requires under_way { IsUnderRelease floor.now.description l mode ComesIn pass.old.view }
+    requires lock { l.0 < length floor.now.description.locks }
+    requires there { IsReleasing floor.now.description l.0 mode ComesIn pass.old.view }
     ensures own { IsOf floor.now pass.new }
     ensures on { ReleasesOn floor.now.description l mode ComesIn result
         pass.old.view pass.new.view }
@@ -49,7 +50,8 @@ pub fn come_in(floor: &Floor, pass: &mut Pass, l: LockNo, mode: Mode) -> Release
 /// the chain back. Answers where the release stands then.
 pub fn let_go(floor: &Floor, pass: &mut Pass, l: LockNo, mode: Mode, seen: u64) -> ReleaseAt
     requires own { IsOf floor.now pass.old }
-    requires under_way { IsUnderRelease floor.now.description l mode (Frees seen) pass.old.view }
+    requires lock { l.0 < length floor.now.description.locks }
+    requires there { IsReleasing floor.now.description l.0 mode (Frees seen) pass.old.view }
     ensures own { IsOf floor.now pass.new }
     ensures on { ReleasesOn floor.now.description l mode (Frees seen) result
         pass.old.view pass.new.view }
@@ -67,7 +69,7 @@ pub fn let_go(floor: &Floor, pass: &mut Pass, l: LockNo, mode: Mode, seen: u64) 
 // waiters are shown, or else a drop.
 fn free(floor: &Floor, pass: &mut Pass, l: LockNo, mode: Mode, seen: u64) -> Result<(), u64>
     requires own { IsOf floor.now pass.old }
-    requires covered { IsCovered floor.now.description l.0 mode }
+    requires lock { l.0 < length floor.now.description.locks }
     requires may { MayLetGo floor.now.description l.0 mode pass.old.view }
     requires seen { IsOwn pass.old.view.thread mode seen }
     ensures own { IsOf floor.now pass.new }
@@ -87,7 +89,7 @@ fn free(floor: &Floor, pass: &mut Pass, l: LockNo, mode: Mode, seen: u64) -> Res
 // The same where no waiters are shown.
 fn free_by_drop(floor: &Floor, pass: &mut Pass, l: LockNo, mode: Mode, seen: u64) -> Result<(), u64>
     requires own { IsOf floor.now pass.old }
-    requires covered { IsCovered floor.now.description l.0 mode }
+    requires lock { l.0 < length floor.now.description.locks }
     requires may { MayLetGo floor.now.description l.0 mode pass.old.view }
     requires seen { IsOwn pass.old.view.thread mode seen }
     requires drop { is_drop (word_of seen) ≡ true }
@@ -107,7 +109,7 @@ fn free_by_drop(floor: &Floor, pass: &mut Pass, l: LockNo, mode: Mode, seen: u64
 // The same where waiters are shown, who are taken off.
 fn free_by_open(floor: &Floor, pass: &mut Pass, l: LockNo, mode: Mode, seen: u64) -> Result<(), u64>
     requires own { IsOf floor.now pass.old }
-    requires covered { IsCovered floor.now.description l.0 mode }
+    requires lock { l.0 < length floor.now.description.locks }
     requires may { MayLetGo floor.now.description l.0 mode pass.old.view }
     requires seen { IsOwn pass.old.view.thread mode seen }
     requires opens { is_drop (word_of seen) ≡ false }
@@ -133,7 +135,7 @@ fn open_turnstile(
     seen: u64,
 ) -> Result<(), u64>
     requires own { IsOf floor.now pass.old }
-    requires covered { IsCovered floor.now.description l.0 mode }
+    requires lock { l.0 < length floor.now.description.locks }
     requires turnstile { is_turnstile ((config_in floor.now.description).kind l.0) ≡ true }
     requires may { MayLetGo floor.now.description l.0 mode pass.old.view }
     requires seen { IsOwn pass.old.view.thread mode seen }
@@ -160,7 +162,7 @@ fn open_sleepers(
     seen: u64,
 ) -> Result<(), u64>
     requires own { IsOf floor.now pass.old }
-    requires covered { IsCovered floor.now.description l.0 mode }
+    requires lock { l.0 < length floor.now.description.locks }
     requires sleeps { (config_in floor.now.description).kind l.0 ≡ Sx }
     requires may { MayLetGo floor.now.description l.0 mode pass.old.view }
     requires seen { IsOwn pass.old.view.thread mode seen }

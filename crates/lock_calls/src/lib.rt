@@ -18,7 +18,11 @@
 //!   word that it saw; a try does the same with it.
 //! - `dropping`: a release outside the section of the lock's chain, `freeing`: in it, and `waking`: behind it.
 //!
-//! Each call needs a pass at rest and leaves it at rest. No call takes memory.
+//! Within a wait a lock is given up and taken back by the same parts, without an entry (`give_up` and `take_back`, for
+//! `Relock` of `lock_floor`): `begin_giving_up` and then `release_on`, and `retake_on`. These take and answer places, and
+//! leave the pass's call alone, which is the wait's.
+//!
+//! Each other call needs a pass at rest and leaves it at rest. No call takes memory.
 #![tactic(auto)]
 
 mod answers;
@@ -35,8 +39,9 @@ mod trying;
 mod waiting;
 mod waking;
 
-pub use answers::Next;
-pub use releasing::{begin_release, go_on_releasing};
-pub use taking::{begin_take, go_on_taking};
+pub use answers::{Next, ReleaseNext};
+pub use dropping::begin_giving_up;
+pub use releasing::{begin_release, go_on_releasing, release_on};
+pub use taking::{begin_take, go_on_taking, retake_on};
 pub use trying::{TryNext, begin_try, go_on_trying};
-pub use waiting::{release, release_held, take, take_or_halt, try_take};
+pub use waiting::{give_up, release, release_held, take, take_back, take_or_halt, try_take};

@@ -1,16 +1,15 @@
 //! A release of a lock, part by part, as `__mtx_unlock_flags` and `__mtx_unlock_sleep` of FreeBSD's kern_mutex.c, and
 //! `__rw_runlock_hard` of its kern_rwlock.c do it: it is noted first. No part waits.
-ghost use Rattle.std.specs.Prelude.{◌≡◌};
+ghost use Rattle.std.specs.Prelude.{◌≡◌, ◌<◌, length};
 ghost use Rattle.lock_model.specs.declared.numbers.LockNo.{LockNo as Lock};
 ghost use Rattle.lock_model.specs.declared.plan.Mode.{Mode as InMode};
 ghost use Rattle.lock_floor.specs.declared.calls.Call.TheVariants as calls;
 ghost use Rattle.lock_floor.specs.declared.calls.ReleaseAt.{ReleaseAt as Place};
-ghost use Rattle.lock_floor.specs.declared.calls.ReleaseAt.TheVariants.{Drops, Wakes};
 ghost use Rattle.lock_floor.specs.Passes.{IsOf, IsReady};
-ghost use Rattle.lock_calls.specs.Releases.{HasBegunRelease, IsInRelease, GoesOnReleasing, IsUnderRelease};
+ghost use Rattle.lock_calls.specs.Releases.{HasBegunRelease, IsInRelease, GoesOnReleasing, IsUnderRelease, IsReleasing, ReleasesPart};
 ghost use Rattle.lock_calls.specs.Steps.{MayRelease};
 
-use crate::answers::Next;
+use crate::answers::{Next, ReleaseNext};
 use crate::dropping::{drop_outside, outside};
 use crate::freeing::{come_in, come_to, let_go};
 use crate::spinning::FREE;
@@ -65,68 +64,46 @@ fn go_on(floor: &Floor, pass: &mut Pass, l: LockNo, mode: Mode, at: ReleaseAt) -
     ensures own { IsOf floor.now pass.new }
     ensures went { GoesOnReleasing floor.now.description l mode at result pass.old pass.new }
 {
-    match at {
-        ReleaseAt::Drops(seen) => drop_on(floor, pass, l, mode, seen),
-        ReleaseAt::ComesTo => {
-            let to = come_to(floor, pass, l, mode);
-            stand(pass, l, mode, to);
-            Next::Again
-        }
-        ReleaseAt::ComesIn => {
-            let to = come_in(floor, pass, l, mode);
-            stand(pass, l, mode, to);
-            Next::Again
-        }
-        ReleaseAt::Frees(seen) => {
-            let to = let_go(floor, pass, l, mode, seen);
-            stand(pass, l, mode, to);
-            Next::Again
-        }
-        ReleaseAt::Wakes => wake_on(floor, pass, l, mode),
-    }
-}
-
-// Goes on outside the section of the lock's chain, where the lock may be dropped.
-fn drop_on(floor: &Floor, pass: &mut Pass, l: LockNo, mode: Mode, seen: u64) -> Next
-    requires own { IsOf floor.now pass.old }
-    requires under_way { IsUnderRelease floor.now.description l mode (Drops seen) pass.old.view }
-    ensures own { IsOf floor.now pass.new }
-    ensures went { GoesOnReleasing floor.now.description l mode (Drops seen) result
-        pass.old pass.new }
-{
-    match drop_outside(floor, pass, l, mode, seen) {
-        Some(to) => {
-            stand(pass, l, mode, to);
-            Next::Again
-        }
-        None => {
+    match release_on(floor, pass, l, mode, at) {
+        ReleaseNext::Done => {
             pass.set_call(Call::None);
             Next::Done
         }
-    }
-}
-
-// Goes on where the lock is let go.
-fn wake_on(floor: &Floor, pass: &mut Pass, l: LockNo, mode: Mode) -> Next
-    requires own { IsOf floor.now pass.old }
-    requires under_way { IsUnderRelease floor.now.description l mode Wakes pass.old.view }
-    ensures own { IsOf floor.now pass.new }
-    ensures went { GoesOnReleasing floor.now.description l mode Wakes result pass.old pass.new }
-{
-    match wake_first(floor, pass) {
-        Next::Done => {
-            pass.set_call(Call::None);
-            Next::Done
-        }
-        Next::Again => {
-            stand(pass, l, mode, ReleaseAt::Wakes);
+        ReleaseNext::At(to) => {
+            stand(pass, l, mode, to);
             Next::Again
         }
-        Next::Wake(t) => {
+        ReleaseNext::Wake(t) => {
             stand(pass, l, mode, ReleaseAt::Wakes);
             Next::Wake(t)
         }
-        Next::Sleep | Next::Reversed(_) | Next::Halted => unreachable!(),
+    }
+}
+
+/// Makes one part of a release from there, whether it was noted or is that of a wait. Answers where it stands then.
+pub fn release_on(
+    floor: &Floor,
+    pass: &mut Pass,
+    l: LockNo,
+    mode: Mode,
+    at: ReleaseAt,
+) -> ReleaseNext
+    requires own { IsOf floor.now pass.old }
+    requires lock { l.0 < length floor.now.description.locks }
+    requires there { IsReleasing floor.now.description l.0 mode at pass.old.view }
+    ensures own { IsOf floor.now pass.new }
+    ensures part { ReleasesPart floor.now.description l mode at result
+        pass.old.view pass.new.view }
+{
+    match at {
+        ReleaseAt::Drops(seen) => match drop_outside(floor, pass, l, mode, seen) {
+            Some(to) => ReleaseNext::At(to),
+            None => ReleaseNext::Done,
+        },
+        ReleaseAt::ComesTo => ReleaseNext::At(come_to(floor, pass, l, mode)),
+        ReleaseAt::ComesIn => ReleaseNext::At(come_in(floor, pass, l, mode)),
+        ReleaseAt::Frees(seen) => ReleaseNext::At(let_go(floor, pass, l, mode, seen)),
+        ReleaseAt::Wakes => wake_first(floor, pass),
     }
 }
 

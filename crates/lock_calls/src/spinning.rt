@@ -17,8 +17,8 @@ ghost use Rattle.lock_floor.specs.Views.{entry_by, stamped};
 ghost use Rattle.lock_calls.specs.Choices.{course};
 ghost use Rattle.lock_calls.specs.declared.courses.Course.TheVariants.{Plainly};
 ghost use Rattle.lock_calls.specs.Steps.{IsCovered, as_taken};
-ghost use Rattle.lock_calls.specs.Takes.{IsUnderTake, AsksOwner, LeavesLooks, LooksOn, HasTaken, TakeEnd, TakesOn};
-ghost use Rattle.lock_calls.specs.Waiting.{MayGain, IsSeeking, HasGainedFirst, HasMissed, HasSpun, SpinsThenGains};
+ghost use Rattle.lock_calls.specs.Takes.{IsUnderAcquiring, AsksOwner, LeavesLooks, LooksOn, TakeEnd, TakesOn};
+ghost use Rattle.lock_calls.specs.Waiting.{MayGain, IsSeeking, HasGained, HasGainedFirst, HasMissed, HasSpun, SpinsThenGains};
 
 use crate::courses::{Course, course_of};
 use lock_floor::{Floor, Pass, TakeAt};
@@ -84,33 +84,28 @@ fn exchanges_again(kind: Kind, found: u64, mode: Mode) -> bool
 }
 
 /// Looks at a lock in a round of it, where it may do so so many times more, and tries where it sees that it can gain it
-/// plainly (`None`: then it is gained, and that is noted). Else it answers where the take stands then: some words it
-/// need not look at again.
+/// plainly (`None`: then it is gained). Else it answers where it stands then: some words it need not look at again.
 pub fn spin(floor: &Floor, pass: &mut Pass, l: LockNo, mode: Mode, left: u32) -> Option<TakeAt>
     requires own { IsOf floor.now pass.old }
     requires some_left { 1 ≤ left }
-    requires under_way { IsUnderTake floor.now.description l mode (Spins left) pass.old.view }
+    requires under_way { IsUnderAcquiring floor.now.description l mode (Spins left) pass.old.view }
     ensures own { IsOf floor.now pass.new }
-    ensures taken { IfNone result
-        (HasTaken floor.now.description l mode pass.old.view pass.new.view) }
+    ensures gained { IfNone result (HasGained l mode pass.old.view pass.new.view) }
     ensures end { IfNone result
         (TakeEnd floor.now.description l mode (Spins left) pass.old.view pass.new.view) }
     ensures on { IfSome result (λ to. TakesOn floor.now.description l mode (Spins left) to
         pass.old.view pass.new.view) }
 {
     match attempt(floor, pass, l, mode) {
-        Ok(()) => {
-            note_taken(floor, pass, l, mode);
-            None
-        }
+        Ok(()) => None,
         Err(seen) => Some(TakeAt::Spins(looks_left(floor, pass, l, mode, seen, left))),
     }
 }
 
-/// Takes the lock's chain in its round, if it is at home. Answers where the take stands then.
+/// Takes the lock's chain in its round, if it is at home. Answers where it stands then.
 pub fn come(floor: &Floor, pass: &mut Pass, l: LockNo, mode: Mode) -> TakeAt
     requires own { IsOf floor.now pass.old }
-    requires under_way { IsUnderTake floor.now.description l mode (Spins 0) pass.old.view }
+    requires under_way { IsUnderAcquiring floor.now.description l mode (Spins 0) pass.old.view }
     ensures own { IsOf floor.now pass.new }
     ensures on { TakesOn floor.now.description l mode (Spins 0) result pass.old.view pass.new.view }
 {

@@ -9,16 +9,19 @@ ghost use Rattle.lock_model.specs.declared.plan.Mode.{Mode as InMode};
 ghost use Rattle.floor_table.specs.Descriptions.{config_in};
 ghost use Rattle.floor_table.specs.Steps.{MakesEach};
 ghost use Rattle.lock_floor.specs.Passes.{IsOf, IsReady, MakesEntry};
-ghost use Rattle.lock_calls.specs.Steps.{MayTake, MayRelease, Locks, Release, IsReleaseIn, as_taken, unlocks};
+ghost use Rattle.lock_floor.specs.Relocks.{GivesUp, MayRelease as MayGiveUp, MayRetake, TakesBack};
+ghost use Rattle.lock_calls.specs.Steps.{MayTake, MayRelease, Locks, Release, IsReleaseIn, IsGivingUpIn, GivesUpBy, TakesBackBy, as_taken, releases_by, unlocks};
 ghost use Rattle.lock_calls.specs.Takes.{IsHalt, IsRefused, WasNotTaken};
 ghost use Rattle.lock_calls.specs.Tries.{GainsAndNotes, WasBusyFor, as_tried};
 
-use crate::answers::Next;
-use crate::releasing::{begin_release, go_on_releasing};
-use crate::taking::{begin_take, go_on_taking};
+use crate::answers::{Next, ReleaseNext};
+use crate::dropping::begin_giving_up;
+use crate::releasing::{begin_release, go_on_releasing, release_on};
+use crate::spinning::LOOKS;
+use crate::taking::{begin_take, go_on_taking, retake_on};
 use crate::trying::{TryNext, begin_try, go_on_trying};
 use crossbeam_utils::Backoff;
-use lock_floor::{Call, Floor, Pass, TakeAt, TryAt};
+use lock_floor::{Call, Floor, Pass, ReleaseAt, TakeAt, TryAt};
 use lock_model::{Busy, Halted, LockNo, Mode, Refused, Reversal};
 use std::sync::Wait;
 
@@ -188,6 +191,104 @@ pub fn release_held<R: Wait>(floor: &Floor, rt: &R, pass: &mut Pass, l: LockNo)
     }
 }
 
+/// Gives a lock up within a wait, as `lc_unlock` in FreeBSD's sys/lock.h: the thread gained it last, and runs or stands on
+/// a channel's queue. It is a release that isn't noted: it looks at the lock's word first, and wakes those who wait for
+/// the lock.
+pub fn give_up<R: Wait>(floor: &Floor, rt: &R, pass: &mut Pass, l: LockNo)
+    requires own { IsOf floor.now pass.old }
+    requires lock { l.0 < length floor.now.description.locks }
+    requires may { MayGiveUp floor.now.description l.0 pass.old.view }
+    ensures own { IsOf floor.now pass.new }
+    ensures gives_up { GivesUp l.0 pass.old.view pass.new.view }
+    ensures steps { GivesUpBy floor.now.description l.0 pass.old.view pass.new.view }
+{
+    match pass.mode(l) {
+        Some(mode) => give_up_held(floor, rt, pass, l, mode),
+        None => unreachable!(),
+    }
+}
+
+// Gives a lock up that is held in that mode.
+fn give_up_held<R: Wait>(floor: &Floor, rt: &R, pass: &mut Pass, l: LockNo, mode: Mode)
+    requires own { IsOf floor.now pass.old }
+    requires lock { l.0 < length floor.now.description.locks }
+    requires held { hold_in pass.old.view.share.held l.0 ≡ Holds mode }
+    requires may { MayGiveUp floor.now.description l.0 pass.old.view }
+    ensures own { IsOf floor.now pass.new }
+    ensures gives_up { GivesUp l.0 pass.old.view pass.new.view }
+    ensures steps { (how : Release) × IsGivingUpIn mode how × MakesEach floor.now.description
+        (releases_by floor.now.description pass.old.view.thread l.0 mode how)
+        pass.old.view pass.new.view }
+{
+    let mut at = begin_giving_up(floor, pass, l, mode);
+    let backoff = Backoff::new();
+    for _ in rt.forever() {
+        let before = at;
+        match release_on(floor, pass, l, mode, at) {
+            ReleaseNext::Done => return,
+            ReleaseNext::At(to) => at = to,
+            ReleaseNext::Wake(t) => {
+                floor.unpark(t);
+                at = ReleaseAt::Wakes;
+            }
+        }
+        pause(
+            &backoff,
+            Call::Release {
+                l,
+                mode,
+                at: before,
+            },
+            Call::Release { l, mode, at },
+        );
+    }
+    unreachable!()
+}
+
+/// Takes a lock back within a wait, in that mode, as `lc_lock` in FreeBSD's sys/lock.h: the thread wants it since it was
+/// woken, and is in a round of it. It is a take that checks no order and makes no entry. A sleep of it that an abort ends
+/// only looks again. The floor has one chain of turnstiles.
+pub fn take_back<R: Wait>(floor: &Floor, rt: &R, pass: &mut Pass, l: LockNo, mode: Mode)
+    requires own { IsOf floor.now pass.old }
+    requires lock { l.0 < length floor.now.description.locks }
+    requires one_chain { floor.now.description.chains ≡ 1 }
+    requires may { MayRetake floor.now.description l.0 mode pass.old.view }
+    ensures own { IsOf floor.now pass.new }
+    ensures back { TakesBack l mode pass.old.view pass.new.view }
+    ensures steps { TakesBackBy floor.now.description l.0 mode pass.old.view pass.new.view }
+{
+    let mut at = TakeAt::Spins(LOOKS);
+    let backoff = Backoff::new();
+    for _ in rt.forever() {
+        let before = at;
+        match retake_on(floor, pass, l, mode, at) {
+            Some(to) => at = to,
+            None => return,
+        }
+        match at {
+            TakeAt::Sleeps => {
+                floor.sleep(rt, pass);
+                backoff.reset();
+            }
+            TakeAt::Checks
+            | TakeAt::Spins(_)
+            | TakeAt::ComesIn
+            | TakeAt::Contends(_)
+            | TakeAt::Walks(_)
+            | TakeAt::Hops(_) => pause(
+                &backoff,
+                Call::Take {
+                    l,
+                    mode,
+                    at: before,
+                },
+                Call::Take { l, mode, at },
+            ),
+        }
+    }
+    unreachable!()
+}
+
 // Pauses between two parts of a call. Between two looks at a lock's word it spins. Where the call stands as it stood
 // before, another thread has what it needs: it spins for a while, and then lets the system run that one. Else the call
 // goes on at once.
@@ -213,7 +314,8 @@ fn spins(call: Call) -> bool {
             | TakeAt::ComesIn
             | TakeAt::Contends(_)
             | TakeAt::Walks(_)
-            | TakeAt::Hops(_),
+            | TakeAt::Hops(_)
+            | TakeAt::Sleeps,
             ..
         } => false,
         Call::Try {

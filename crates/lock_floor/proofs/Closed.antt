@@ -17,7 +17,7 @@ use Rattle.lock_model.specs.declared.plan.QueueName.{QueueName}
 use Rattle.lock_objects.specs.Represents.{RecordColumns, RepresentsRecord, record_in, loan_of}
 use Rattle.lock_state.specs.Facts.{OneTurnstileEach, OneSleepQueueEach, HeadsFitWaiters, LoansAreOnHeads, BasesReplay, LogsAreParts}
 use Rattle.lock_state.specs.Facts.Queues.{turnstile_places, sleep_queue_places}
-use Rattle.lock_state.specs.State.{State, Loan, Running}
+use Rattle.lock_state.specs.State.{State, Loan, Running, gained_order}
 use Rattle.lock_state.specs.Steps.{Step}
 use Rattle.lock_state.specs.Steps.Items.{RecordOf, CellOf}
 use Rattle.lock_laws.proofs.Kit.{sum_below-two, one_same}
@@ -31,7 +31,7 @@ use Rattle.floor_table.specs.declared.description.Description.{Description}
 use Rattle.floor_table.specs.declared.slot.Slot.{Slot}
 use Rattle.floor_table.specs.declared.slot.Slot.TheVariants.{Record as Recorded, Cell, Turnstiles, SleepQueues, Graph}
 use Rattle.floor_table.specs.Places.{slots_for, latch_word}
-use Rattle.floor_table.specs.Shares.{Share, ShareColumns}
+use Rattle.floor_table.specs.Shares.{Share, ShareColumns, start_share, share_in, columns_of}
 use Rattle.floor_table.specs.Views.{OfThread, Runs, Knowledge, nothing}
 use Rattle.floor_table.specs.Represents.{Board, IsOf, objects_in, seat, keeper_in, thread_in, total, live, one_thread, IsTakenIn, IsPosed, Represents}
 use Rattle.floor_table.specs.Rule.{FloorHolds}
@@ -242,27 +242,35 @@ module _ (floor : Description) (v : Knowledge) (ws : List ℕ) (xs : List Slot)
   named : (t : ℕ) → t < length floor.threads → list_any (λ (g : ℕ × Share). g.0 == t) v.gathered ≡ true
   named t low = subst (λ gs. list_any (λ (g : ℕ × Share). g.0 == t) gs ≡ true) gathered (represents.seats.each t (subst (λ n. t < n) (sym all_made.0) low) (nobody t))
 
-  -- no thread takes a lock
-  pub takes_nothing : All (λ g. g.1.doing.taking ≡ None) v.gathered → (t : ℕ) → left.taking t ≡ None
-  takes_nothing idle t = elim (cases_lt t (length floor.threads)) [
-    | inl low ↦ among v.gathered taken_in idle (named t low)
-    | inr past ↦ ap (λ (y : ShareColumns). y.doing.taking)
-        (represents.seats.unmade t (subst (λ n. n ≤ t) (sym all_made.0) past))
+  -- what the share of each pass says, and that of a thread at its begin, is so of each thread
+  of_each : (P : ShareColumns → Type 0) → P (columns_of start_share)
+      → All (λ (g : ℕ × Share). P (columns_of g.1)) v.gathered → (t : ℕ) → P (share_in left t)
+  of_each P first each t = elim (cases_lt t (length floor.threads)) [
+    | inl low ↦ among v.gathered taken_in each (named t low)
+    | inr past ↦ subst P (sym (represents.seats.unmade t (subst (λ n. n ≤ t) (sym all_made.0) past))) first
   ]
     where
       among : (gs : List (ℕ × Share)) → All (λ g. IsTakenIn b.views left g.0 g.1) gs
-          → All (λ g. g.1.doing.taking ≡ None) gs → list_any (λ (g : ℕ × Share). g.0 == t) gs ≡ true
-          → left.taking t ≡ None
-      among [] h untaken there = absurd cc
-      among (g ∷ gs) h untaken there = elim (cases_eq g.0 t) [
+          → All (λ (g : ℕ × Share). P (columns_of g.1)) gs → list_any (λ (g : ℕ × Share). g.0 == t) gs ≡ true
+          → P (share_in left t)
+      among [] h said there = absurd cc
+      among (g ∷ gs) h said there = elim (cases_eq g.0 t) [
         | inl e ↦
             let its = All-head (λ k. IsTakenIn b.views left k.0 k.1) g gs h in
-            ap left.taking (sym e) ∙ sym (ap (λ (y : ShareColumns). y.doing.taking) its.share.columns)
-            ∙ All-head (λ (k : ℕ × Share). k.1.doing.taking ≡ None) g gs untaken
+            subst P (its.share.columns ∙ ap (share_in left) e)
+            (All-head (λ (k : ℕ × Share). P (columns_of k.1)) g gs said)
         | inr ne ↦ among gs (All-tail (λ k. IsTakenIn b.views left k.0 k.1) g gs h)
-            (All-tail (λ (k : ℕ × Share). k.1.doing.taking ≡ None) g gs untaken)
+            (All-tail (λ (k : ℕ × Share). P (columns_of k.1)) g gs said)
             (let z = rw (ne_eqb g.0 t ne) at there in z)
       ]
+
+  -- no thread takes a lock,
+  pub takes_nothing : All (λ g. g.1.doing.taking ≡ None) v.gathered → (t : ℕ) → left.taking t ≡ None
+  takes_nothing idle = of_each (λ y. y.doing.taking ≡ None) refl idle
+
+  -- and none holds one
+  pub holds_nothing : All (λ g. g.1.held ≡ []) v.gathered → (t : ℕ) → left.held_locks t ≡ []
+  holds_nothing bare = of_each (λ y. y.held_locks ≡ []) refl (λ i d low. ap gained_order (bare i d low))
 
   pub once : (t : ℕ) → times t (map (λ g. g.0) v.gathered) ≤ 1
   once = stands_once (λ (g : ℕ × Share). g.0) (length floor.threads) v.gathered all below named

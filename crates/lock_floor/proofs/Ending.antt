@@ -1,5 +1,5 @@
 -- What is left of a floor that is closed.
-use Rattle.std.proofs.Common.{◌≡◌, ℕ, ◌+◌, ◌<◌, Bool, true, false, cond, List, length, map, reverse, get_or, None, refl, sym, ap, ◌∙◌, subst, arith}
+use Rattle.std.proofs.Common.{◌≡◌, ℕ, ◌+◌, ◌<◌, Bool, true, false, cond, List, [], length, map, reverse, get_or, None, refl, sym, ap, ◌∙◌, subst, arith}
 use Rattle.std.specs.FinMap.{get, same_map}
 use Rattle.std.specs.List.{All, list_any}
 use mathlib.Core.Option.{some, some-injective}
@@ -8,6 +8,8 @@ use Rattle.std.specs.declared.alloc.Global.{Global}
 use Rattle.std.specs.declared.boxed.Box.{Box}
 use Rattle.atomic_table.specs.Table.{Final, Seen}
 use Rattle.lock_history.proofs.Places.{place_total, place_exact}
+use Rattle.busy_laws.proofs.Keeping as busy
+use Rattle.count_laws.proofs.Explaining as halts
 use Rattle.order_laws.proofs.TakeFacts.Whole as whole
 use Rattle.sleep_laws.proofs.LegalSoFar.{legal_so_far, may_halt}
 use Rattle.sleep_laws.specs.Sleepers.{by_chain}
@@ -66,6 +68,7 @@ module _ (floor : Description) (v : Knowledge) (ws : List ℕ) (xs : List Slot)
     pub values : (l key : ℕ)
         → get x.tables.present (l, key) ≡ cond (list_any (is_cell l key) floor.keys) (s.table l key) None
     pub none_taken : All (λ g. g.1.doing.taking ≡ None) v.gathered
+    pub none_held : All (λ g. g.1.held ≡ []) v.gathered
     pub going : x.halted ≡ false
 
   module _ (x : Closing) (h : HasAll x) where
@@ -119,6 +122,10 @@ module _ (floor : Description) (v : Knowledge) (ws : List ℕ) (xs : List Slot)
               (may_halt s.history);
           orders_are_legal = whole.legal (config_in floor) s sound.ordered sound.taken
               (closed.takes_nothing floor v ws xs final all h.none_taken);
+          halts_are_honest = halts.honest (config_in floor) s sound.facts.lawful sound.explained;
+          busies_are_explained = busy.explained (config_in floor) s sound.busy_words
+              (busy.unheld_begun (config_in floor) s sound.facts.lawful
+              (λ t low. closed.holds_nothing floor v ws xs final all h.none_held t));
           few = few_entries;
           count = h.count;
           home = λ t d low. closed.home_of floor s sound running t (get_or x.recs.items t d).value (its_record t d low);

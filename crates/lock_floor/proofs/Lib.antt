@@ -34,6 +34,7 @@ pub mod InSection
 pub mod Resuming
 pub mod FoundQueued
 pub mod MarkStep
+pub mod CountStep
 pub mod OpenStep
 pub mod Opened
 pub mod OpenCall
@@ -64,6 +65,9 @@ pub mod Calling
 pub mod SleepChanges
 pub mod WakeUpStep
 pub mod WakeUpCall
+pub mod AbortStep
+pub mod AbortCall
+pub mod MayAbort
 pub mod AddStep
 pub mod AddCall
 pub mod BothOut
@@ -74,3 +78,10 @@ pub mod SleepEnterCall
 pub mod SleepOpenStep
 pub mod SleepOpenCall
 pub mod SleepingThreads
+pub mod EndStep
+pub mod HaltStep
+pub mod LastStep
+pub mod LastCall
+pub mod MayHalt
+pub mod FirstAsleep
+pub mod FirstOn

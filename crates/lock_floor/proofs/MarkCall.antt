@@ -8,7 +8,8 @@ use Rattle.atomic_table.specs.Table.{Me, Allows, rest}
 use Rattle.lock_history.specs.Books.{Book}
 use Rattle.lock_model.specs.Queues.{Mark}
 use Rattle.lock_model.specs.declared.event.Held.{Held}
-use Rattle.lock_objects.specs.Marked.{IsAway, IsFirst, node_of, record_woken}
+use Rattle.lock_model.specs.declared.plan.QueueName.{QueueName}
+use Rattle.lock_objects.specs.Marked.{IsAway, IsFirst, cause_by, node_of, record_woken}
 use Rattle.lock_objects.specs.declared.marked.Marked.{Marked}
 use Rattle.lock_objects.specs.declared.marked.Woken.{Woken}
 use Rattle.lock_state.specs.State.{Woken as WokenOff}
@@ -82,20 +83,22 @@ module _ (floor : Description) (me : Me Slot Knowledge) (w : Woken) (old new : M
     worked : me2.1 ≡ out_marked (config_in floor) m box me2.0.out
     worked = worked_here ∙ ap (λ (k : Knowledge). out_marked (config_in floor) m box k.out) (sym view)
 
-    says : 2 ≡ wait_number (WokenOff m.queue m.cause)
-    says = ap (λ cause. wait_number (WokenOff m.queue cause))
-        (sym (first_cause floor old new w me.0.share.doing.marked m ms are need.first.marked first))
+    -- the word is that of a thread that was woken by the cause by which it was taken off
+    module _ (x : ℕ) (x_is : (q : QueueName) → x ≡ wait_number (WokenOff q (cause_by w))) where
+      says : x ≡ wait_number (WokenOff m.queue m.cause)
+      says = x_is m.queue ∙ ap (λ cause. wait_number (WokenOff m.queue cause))
+          (sym (first_cause floor old new w me.0.share.doing.marked m ms are need.first.marked first))
 
-    pub call_allowed : me.0.role ≡ OfThread → (slots id : ℕ)
-        → Allows (FloorHolds floor) slots id me2 (spot (wait_line u)) (λ k. 2) (λ k. MarkedFirst floor me2 2)
-    call_allowed was slots id =
-        let may = subst (λ (k : Knowledge). MayMake floor k (λ s. Unit {0}) (Marks k.thread m ms ∷ [])) (sym view)
-        need.may in
-        subst (λ n. Allows (FloorHolds floor) slots id me2 (spot (wait_line n)) (λ k. 2) (λ k. MarkedFirst floor me2 2))
-        (sym thread_is)
-        (mark_allowed floor me2 (ap (λ (k : Knowledge). k.role) view ∙ was) first_behind 2 says worked slots id may)
+      pub call_allowed : me.0.role ≡ OfThread → (slots id : ℕ)
+          → Allows (FloorHolds floor) slots id me2 (spot (wait_line u)) (λ k. x) (λ k. MarkedFirst floor me2 x)
+      call_allowed was slots id =
+          let may = subst (λ (k : Knowledge). MayMake floor k (λ s. Unit {0}) (Marks k.thread m ms ∷ [])) (sym view)
+          need.may in
+          subst (λ n. Allows (FloorHolds floor) slots id me2 (spot (wait_line n)) (λ k. x)
+          (λ k. MarkedFirst floor me2 x)) (sym thread_is)
+          (mark_allowed floor me2 (ap (λ (k : Knowledge). k.role) view ∙ was) first_behind x says worked slots id may)
 
-    module _ (behind : Me Slot Knowledge) (told : MarkedFirst floor me2 2 behind) where
+    module _ (x : ℕ) (behind : Me Slot Knowledge) (told : MarkedFirst floor me2 x behind) where
       its : (behind ≡ (seeing behind.0.seen (marked_first me2.0 m ms me2.1), me2.1))
           × Makes floor (Marks me2.0.thread m ms ∷ []) me2.0 behind.0
           × (m.thread ≡ me2.0.thread → me2.0.pose ≡ StandsOn m.queue)

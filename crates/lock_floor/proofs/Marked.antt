@@ -6,15 +6,15 @@ use Rattle.std.specs.List.{All}
 use Rattle.std.specs.Option.{IsSome}
 use Rattle.turnstile_core.specs.Seen.{Place}
 use Rattle.lock_model.specs.Config.{Config}
-use Rattle.lock_model.specs.Queues.{Mark, BySignal, lock_queue, is_turnstile_queue}
+use Rattle.lock_model.specs.Queues.{Mark, lock_queue, is_turnstile_queue}
 use Rattle.lock_model.specs.declared.numbers.ThreadNo.{ThreadNo}
 use Rattle.lock_model.specs.declared.plan.QueueName.{QueueName}
-use Rattle.lock_objects.specs.Marked.{AreOfKind, places_of, node_of, like, IsFirst, IsAway, record_woken}
-use Rattle.lock_objects.specs.Represents.{mark_of}
+use Rattle.lock_objects.specs.Marked.{AreOfKind, places_of, cause_in, cause_by, node_of, like, IsFirst, IsAway, record_woken}
+use Rattle.lock_objects.specs.Represents.{mark_by}
 use Rattle.lock_objects.specs.declared.marked.Marked.{Marked}
-use Rattle.lock_objects.specs.declared.marked.Marked.TheVariants.{Waiters, Sleepers}
+use Rattle.lock_objects.specs.declared.marked.Marked.TheVariants.{Waiters, Sleepers, AbortedSleepers}
 use Rattle.lock_objects.specs.declared.marked.Woken.{Woken}
-use Rattle.lock_objects.specs.declared.marked.Woken.TheVariants.{Waiter, Sleeper}
+use Rattle.lock_objects.specs.declared.marked.Woken.TheVariants.{Waiter, Sleeper, AbortedSleeper}
 use Rattle.thread_records.specs.Records.{Record}
 use Rattle.floor_table.specs.Descriptions.{config_in}
 use Rattle.floor_table.specs.declared.description.Description.{Description}
@@ -25,11 +25,12 @@ use Rattle.lock_floor.specs.Marks.{AreMarked, LacksObject, record_marked}
 of_any : (c : Config) (objects : Marked) (q : QueueName) → places_of objects ≡ [] → AreOfKind c objects q
 of_any c (Waiters ps) q none = λ some. absurd (some none)
 of_any c (Sleepers ps) q none = λ some. absurd (some none)
+of_any c (AbortedSleepers ps) q none = λ some. absurd (some none)
 
 pub none_marked : (floor : Description) (objects : Marked) → places_of objects ≡ [] → AreMarked floor objects []
 none_marked floor objects none = record {
   queue = lock_queue 0;
-  same = sym (ap (map (mark_of (lock_queue 0))) none);
+  same = sym (ap (map (mark_by (cause_in objects) (lock_queue 0))) none);
   kind = of_any (config_in floor) objects (lock_queue 0) none;
   held = subst (All (λ p. IsSome p.object)) (sym none) (All-nil (λ (p : Place). IsSome p.object));
   of_floor = All-nil (λ (m : Mark). m.thread < length floor.threads);
@@ -48,16 +49,17 @@ tail_of (x ∷ xs) = xs
 -- where there are objects there is a first mark
 pub none_first : (floor : Description) (objects : Marked) (marks : List Mark) → AreMarked floor objects marks
     → places_of objects ≡ [] → marks ≡ []
-none_first floor objects marks are none = are.same ∙ ap (map (mark_of are.queue)) none
+none_first floor objects marks are none = are.same ∙ ap (map (mark_by (cause_in objects) are.queue)) none
 
 -- and it is that of the first object
 pub some_first : (floor : Description) (objects : Marked) (marks : List Mark) (p : Place) (ps : List Place)
     → AreMarked floor objects marks → places_of objects ≡ p ∷ ps
     → (m : Mark) × (ms : List Mark) × (marks ≡ m ∷ ms) × (m.thread ≡ p.thread) × (p.thread < length floor.threads)
 some_first floor objects marks p ps are some =
-    let is : marks ≡ mark_of are.queue p ∷ map (mark_of are.queue) ps = are.same ∙ ap (map (mark_of are.queue)) some in
+    let mark : Place → Mark = mark_by (cause_in objects) are.queue in
+    let is : marks ≡ mark p ∷ map mark ps = are.same ∙ ap (map mark) some in
     let low = subst (All (λ m. m.thread < length floor.threads)) is are.of_floor in
-    (mark_of are.queue p, map (mark_of are.queue) ps, is, refl, low 0 (mark_of are.queue p) (omega arith))
+    (mark p, map mark ps, is, refl, low 0 (mark p) (omega arith))
 
 -- so it is told of a number that is found
 abbrev NamesFirst : Marked → Option ThreadNo → Type 0
@@ -83,20 +85,29 @@ first_of_floor floor objects marks (Some t) are h = let f = some_first floor obj
 abbrev is_waiter : Woken → Bool
 is_waiter (Waiter b) = true
 is_waiter (Sleeper b) = false
+is_waiter (AbortedSleeper b) = false
 
 places_like : (w : Woken) (ps : List Place) → places_of (like w ps) ≡ ps
 places_like (Waiter b) ps = refl
 places_like (Sleeper b) ps = refl
+places_like (AbortedSleeper b) ps = refl
+
+cause_like : (w : Woken) (ps : List Place) → cause_in (like w ps) ≡ cause_by w
+cause_like (Waiter b) ps = refl
+cause_like (Sleeper b) ps = refl
+cause_like (AbortedSleeper b) ps = refl
 
 kind_like : (c : Config) (w : Woken) (p : Place) (ps : List Place) (q : QueueName) → AreOfKind c (like w (p ∷ ps)) q
     → is_turnstile_queue c q ≡ is_waiter w
 kind_like c (Waiter b) p ps q h = h (λ e. absurd cc)
 kind_like c (Sleeper b) p ps q h = h (λ e. absurd cc)
+kind_like c (AbortedSleeper b) p ps q h = h (λ e. absurd cc)
 
 kind_left : (c : Config) (w : Woken) (ps : List Place) (q : QueueName) → is_turnstile_queue c q ≡ is_waiter w
     → AreOfKind c (like w ps) q
 kind_left c (Waiter b) ps q e = λ some. e
 kind_left c (Sleeper b) ps q e = λ some. e
+kind_left c (AbortedSleeper b) ps q e = λ some. e
 
 is_there : (o : Option ℕ) → IsSome o → o ≡ Some (unwrap_or o 0)
 is_there None h = absurd (let z : false ≡ true = h in cc)
@@ -105,12 +116,14 @@ is_there (Some n) h = refl
 away_by : (w : Woken) (r : Record) → cond (is_waiter w) r.turnstile r.sleep_queue ≡ None → IsAway w r
 away_by (Waiter b) r e = e
 away_by (Sleeper b) r e = e
+away_by (AbortedSleeper b) r e = e
 
 woken_by : (w : Woken) (n : ℕ) (r : Record) → (node_of w).place.object ≡ Some n
     → record_woken w r ≡ cond (is_waiter w) (record r { turnstile = Some n; on = None })
     (record r { sleep_queue = Some n; on = None })
 woken_by (Waiter b) n r e = λ i. record r { turnstile = e i; on = None }
 woken_by (Sleeper b) n r e = λ i. record r { sleep_queue = e i; on = None }
+woken_by (AbortedSleeper b) n r e = λ i. record r { sleep_queue = e i; on = None }
 
 module _ (floor : Description) (old new : Marked) (w : Woken) (marks : List Mark) (m : Mark) (ms : List Mark)
     (are : AreMarked floor old marks) (is : marks ≡ m ∷ ms) (first : IsFirst w old new) where
@@ -123,17 +136,27 @@ module _ (floor : Description) (old new : Marked) (w : Woken) (marks : List Mark
   places : places_of old ≡ p ∷ places_of new
   places = ap places_of first.was ∙ places_like w (p ∷ places_of new)
 
-  all_are : mark_of are.queue p ∷ map (mark_of are.queue) (places_of new) ≡ m ∷ ms
-  all_are = sym (are.same ∙ ap (map (mark_of are.queue)) places) ∙ is
+  -- it was taken off by the cause of all, and those that are left were too
+  cause_was : cause_in old ≡ cause_by w
+  cause_was = ap cause_in first.was ∙ cause_like w (p ∷ places_of new)
 
-  mark_is : mark_of are.queue p ≡ m
+  cause_stays : cause_in new ≡ cause_in old
+  cause_stays = ap cause_in first.left ∙ cause_like w (places_of new) ∙ sym cause_was
+
+  abbrev mark : Place → Mark
+  mark = mark_by (cause_in old) are.queue
+
+  all_are : mark p ∷ map mark (places_of new) ≡ m ∷ ms
+  all_are = sym (are.same ∙ ap (map mark) places) ∙ is
+
+  mark_is : mark p ≡ m
   mark_is = ap (head_or m) all_are
 
   pub first_thread : p.thread ≡ m.thread
   first_thread = ap (λ (k : Mark). k.thread) mark_is
 
-  pub first_cause : m.cause ≡ BySignal
-  first_cause = ap (λ (k : Mark). k.cause) (sym mark_is)
+  pub first_cause : m.cause ≡ cause_by w
+  first_cause = ap (λ (k : Mark). k.cause) (sym mark_is) ∙ cause_was
 
   held : All (λ p. IsSome p.object) (p ∷ places_of new)
   held = subst (All (λ p. IsSome p.object)) places are.held
@@ -163,7 +186,8 @@ module _ (floor : Description) (old new : Marked) (w : Woken) (marks : List Mark
   pub others_marked : AreMarked floor new ms
   others_marked = record {
     queue = are.queue;
-    same = sym (ap tail_of all_are);
+    same = sym (ap tail_of all_are)
+        ∙ ap (λ cause. map (mark_by cause are.queue) (places_of new)) (sym cause_stays);
     kind = subst (λ o. AreOfKind c o are.queue) (sym first.left) (kind_left c w (places_of new) are.queue its_kind);
     held = λ i d low. held (suc i) d (omega arith);
     of_floor = λ i d low. subst (All (λ m. m.thread < length floor.threads)) is are.of_floor (suc i) d (omega arith);

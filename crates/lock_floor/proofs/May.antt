@@ -17,9 +17,9 @@ use Rattle.lock_model.specs.declared.event.Event.{Event}
 use Rattle.lock_model.specs.declared.plan.Kind.TheVariants.{Mtx}
 use Rattle.lock_model.specs.declared.plan.Mode.{Mode}
 use Rattle.lock_model.specs.declared.plan.QueueName.{QueueName}
-use Rattle.lock_state.specs.Facts.{LogsAreParts, OnlyLocksAreHeld}
+use Rattle.lock_state.specs.Facts.{LogsAreParts, OnlyLocksAreHeld, CountedInIsNextMarked}
 use Rattle.lock_state.specs.State.{State, Wait, Look, Round, Running, Queued, Awake, SleepHalted, is_parked, gained_order}
-use Rattle.lock_state.specs.Steps.{Looks, Seeks, Gains, Drops, TakesItem, GivesItem, chain_of, seeks, is_first, is_with, counts_as_look, Stamps, FitsRound, IsItem, IsOfRound, HasItem, HasOutForEntry, NotesInRound, EndsTake, ends_sleep, is_halting, IsHalting, IsFirstExchange, IsSecondExchange, IsRunnable, OwesNoStep, GoesOn, NeedsNoAdmission, IsRoundOfWanted, GainsInOrder}
+use Rattle.lock_state.specs.Steps.{Looks, Seeks, Gains, Drops, TakesItem, GivesItem, chain_of, seeks, is_first, is_with, counts_as_look, Stamps, FitsRound, IsItem, IsOfRound, HasItem, HasOutForEntry, NotesInRound, EndsTake, ends_sleep, is_halting, IsHalting, IsFirstExchange, IsSecondExchange, IsRunnable, OwesNoStep, GoesOn, NeedsNoAdmission, IsRoundOfWanted, GainsInOrder, KeepsCountedOut}
 use Rattle.lock_state.specs.Steps.Items.{Item, TurnstileChain, SleepChain, RecordOf, CellOf, ClassGraph, item_with, IsOnItsWay, IsSettled, MayCheckOrders, IsDoneWith}
 use Rattle.lock_state.specs.Steps.LockWords.{Asks, IsActing, is_woken, is_taking_back, round_of, taking_from, after_seek}
 use Rattle.floor_table.specs.Descriptions.{config_in}
@@ -226,6 +226,27 @@ module _ (floor : Description) (v : Knowledge) where
     pub owes_settled : IsOffTheWay v.pose → IsGoing v → OwesNoStep s t
     owes_settled there going = record { added = not_away_settled there; stamped = stamped_now going }
 
+    -- a thread that has counted nobody in may give back whatever it has out, and any thread its own record: it counts
+    -- itself in and out without it
+    pub keeps_out : v.share.doing.counting ≡ None → (i : Item) → KeepsCountedOut s t i
+    keeps_out uncounted i u is counted =
+        let z : None ≡ Some u = sym (doing_it (λ d. d.counting) ∙ uncounted) ∙ counted in cc
+
+    -- who has no record out has counted nobody in
+    pub none_counted : ((u : ℕ) → HasItem s t (RecordOf u) → ⊥) → v.share.doing.counting ≡ None
+    unfolding CountedInIsNextMarked
+    none_counted bare = go v.share.doing.counting refl
+      where
+        go : (o : Option ℕ) → v.share.doing.counting ≡ o → v.share.doing.counting ≡ None
+        go None e = e
+        go (Some u) e = absurd
+            (bare u (f.sound.counted.counted_in_is_next_marked t u (doing_it (λ d. d.counting) ∙ e)).2)
+
+    pub keeps_own_out : KeepsCountedOut s t (RecordOf t)
+    unfolding CountedInIsNextMarked
+    keeps_own_out u is counted =
+        (f.sound.counted.counted_in_is_next_marked t u counted).1 (let z : RecordOf t ≡ RecordOf u = is in cc)
+
     pub goes_on_settled : IsOffTheWay v.pose → IsGoing v → GoesOn s t
     goes_on_settled there going = record { runs = awake_now going; owes = owes_settled there going }
 
@@ -372,6 +393,7 @@ module _ (floor : Description) (v : Knowledge) where
             taken = λ e. of_the_round e v.share.doing.round refl;
             wants = λ _. in_wanted_round s f wants;
           };
+          keeps_count = tt;
         },
         tt,
       )
@@ -418,6 +440,7 @@ module _ (floor : Description) (v : Knowledge) where
             taken = λ e. absurd (let z : None ≡ Some l = sym (doing_it s f (λ d. d.taking) ∙ takes) ∙ e in cc);
             wants = λ _. no_wanted_round s f none;
           };
+          keeps_count = tt;
         },
         tt,
       )
@@ -452,6 +475,7 @@ module _ (floor : Description) (v : Knowledge) where
         asks_of_thread = goes_on s f b.runs b.going;
       };
       keeps_order = λ blocks. in_order s f l (b.ordered blocks);
+      keeps_count = tt;
     }
 
     begun : sought.round t ≡ Some (round_of l by_try)
@@ -503,6 +527,7 @@ module _ (floor : Description) (v : Knowledge) where
             asks_of_thread = record { runs = inl runs_on; owes = owes_on };
           };
           keeps_order = record { taken = λ _. ap (seeks l) begun ∙ of_round; wants = λ _. of_wanted };
+          keeps_count = tt;
         }
       where
         -- the round is of the lock that is wanted
@@ -563,6 +588,7 @@ module _ (floor : Description) (v : Knowledge) where
             takes = of_it by_try refl;
             unhalted = not_halted s f b.unhalted;
           };
+          keeps_count = tt;
         }
       where
         of_it : (x : Bool) → by_try ≡ x → (k : ℕ) → sought.taking t ≡ Some k → k ≡ l
@@ -627,6 +653,7 @@ module _ (floor : Description) (v : Knowledge) where
             asks_of_thread = goes_on s f runs going;
           };
           keeps_order = gains_in_order s f l by_try ordered others unhalted;
+          keeps_count = tt;
         },
         tt,
       )
@@ -652,6 +679,7 @@ module _ (floor : Description) (v : Knowledge) where
         asks_of_thread = goes_on_settled s f there going;
       };
       keeps_order = doing_it s f (λ d. d.taking) ∙ takes;
+      keeps_count = tt;
     },
     tt,
   )
@@ -691,6 +719,7 @@ module _ (floor : Description) (v : Knowledge) where
           };
           keeps_order = λ l q. subst (λ es. EndsTake c (is_taking_back es) e l) (sym log)
               (ends l (sym (doing_it s f (λ d. d.taking)) ∙ q));
+          keeps_count = tt;
         },
         tt,
       )
@@ -734,6 +763,7 @@ module _ (floor : Description) (v : Knowledge) where
         asks_of_thread = record { runs = inl (is_awake s f runs going); owes = owes_none s f runs going };
       };
       keeps_order = λ _. no_wanted_round s f no_round;
+      keeps_count = tt;
     },
     tt,
   )
@@ -745,8 +775,9 @@ module _ (floor : Description) (v : Knowledge) where
 
     -- a record or a cell goes home where the thread runs or stands on a queue
     pub may_give_settled : is_record_or_cell i ≡ true → IsOffTheWay v.pose → v.share.doing.phase ≡ Awake
-        → v.share.doing.unstamped ≡ None → MayMake floor v (λ s. Unit {0}) (GivesItem t i ∷ [])
-    may_give_settled plain there awake noted s f _ = (
+        → v.share.doing.unstamped ≡ None → v.share.doing.counting ≡ None
+        → MayMake floor v (λ s. Unit {0}) (GivesItem t i ∷ [])
+    may_give_settled plain there awake noted uncounted s f _ = (
       record {
         fits = record {
           may = record { thread = f.thread; out = (says_its s f).0; done = done i plain };
@@ -761,6 +792,7 @@ module _ (floor : Description) (v : Knowledge) where
           };
         };
         keeps_order = tt;
+        keeps_count = keeps_out s f uncounted i;
       },
       tt,
     )
@@ -774,5 +806,6 @@ module _ (floor : Description) (v : Knowledge) where
 
     -- the same where it runs
     pub may_give : is_record_or_cell i ≡ true → v.pose ≡ Runs → v.share.doing.phase ≡ Awake
-        → v.share.doing.unstamped ≡ None → MayMake floor v (λ s. Unit {0}) (GivesItem t i ∷ [])
+        → v.share.doing.unstamped ≡ None → v.share.doing.counting ≡ None
+        → MayMake floor v (λ s. Unit {0}) (GivesItem t i ∷ [])
     may_give plain runs = may_give_settled plain (inl runs)

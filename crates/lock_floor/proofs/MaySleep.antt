@@ -68,6 +68,7 @@ may_wake_sleepers floor v d all low sleepers runs going unmarked = record {
             asks_of_thread = goes_on floor v s f runs going;
           };
           keeps_order = tt;
+          keeps_count = tt;
         },
         tt,
       );
@@ -162,6 +163,7 @@ may_stamp_waking floor v d all woken h s f _ =
           };
         };
         keeps_order = ends;
+        keeps_count = tt;
       },
       tt,
     )
@@ -225,6 +227,7 @@ may_stamp_sleeps floor v d low both h s f _ =
           };
         };
         keeps_order = ends;
+        keeps_count = tt;
       },
       tt,
     )
@@ -320,6 +323,7 @@ may_add_itself floor v d own low both home h = record {
             takes = doing_it floor v s f (λ x. x.taking) ∙ h.takes;
             last = record { others = h.others; last = sym (column floor v s f (λ x. x.held_locks)) ∙ h.last };
           };
+          keeps_count = tt;
         },
         tt,
       );
@@ -402,6 +406,7 @@ module _ (floor : Description) (v : Knowledge) (l own : ℕ) (mode : Mode) (word
               asks_of_thread = goes_on_ready floor v l both.box x both.out low going awake s f;
             };
             keeps_order = doing_it floor v s f (λ d. d.wanted) ∙ wants;
+            keeps_count = tt;
           },
           tt,
         );

@@ -20,7 +20,7 @@ use Rattle.lock_model.specs.declared.plan.QueueName.{QueueName}
 use Rattle.lock_model.specs.declared.plan.QueueName.TheVariants.{Lock, Chan}
 use Rattle.lock_objects.specs.Represents.{RecordColumns}
 use Rattle.lock_state.specs.State.{State, Wait, NoWalk, Round, SleepHalted, is_parked}
-use Rattle.lock_state.specs.Steps.{Looks, Gains, Claims, Readies, Unreadies, Enters, TakesItem, GivesItem, seeks, is_first, is_with, FitsRound, GainsFromLook, EntersFromLook, IsItem, IsOfRound, HasItem, is_halting, GoesOn}
+use Rattle.lock_state.specs.Steps.{Looks, Gains, Claims, Readies, Unreadies, Enters, TakesItem, GivesItem, seeks, is_first, is_with, FitsRound, GainsFromLook, EntersFromLook, IsItem, IsOfRound, HasItem, is_halting, GoesOn, KeepsCountedOut}
 use Rattle.lock_state.specs.Steps.Turnstiles.{MustWait}
 use Rattle.lock_state.specs.Steps.Items.{Item, TurnstileChain, SleepChain, RecordOf, item_with, go_together, is_chain, is_bound, in_its_chain, IsOnItsWay, IsSettled, IsDoneWith, MayCheckOrders}
 use Rattle.lock_state.specs.Steps.LockWords.{IsActing, is_woken, is_taking_back, round_of, bound_to}
@@ -42,13 +42,13 @@ use Rattle.lock_floor.specs.Latches.{IsOfKind, Takes}
 use Rattle.lock_floor.specs.Views.{counts, took}
 use Rattle.lock_floor.specs.Waits.{its_chain, chain_place}
 use Rattle.lock_floor.proofs.ChainPlaces.{chain_at}
-use Rattle.lock_floor.proofs.May.{IsOrderedTake, IsUnhalted, WantsItsRound, holds_it, doing_it, counts_it, own_log, column, in_wanted_round, gains_in_order, settled_now, not_away_settled, awake_now, stamped_now, owes_settled, goes_on}
+use Rattle.lock_floor.proofs.May.{keeps_own_out, IsOrderedTake, IsUnhalted, WantsItsRound, holds_it, doing_it, counts_it, own_log, column, in_wanted_round, gains_in_order, settled_now, not_away_settled, awake_now, stamped_now, owes_settled, goes_on}
 use Rattle.lock_floor.proofs.Taking.{record_at}
 
 -- 1. Chains
 
 -- what holds of each chain that there is holds of that of a queue
-each_chain : (floor : Description) (P : Item → Type 0) → ((k : ℕ) → k < floor.chains → P (TurnstileChain k))
+pub each_chain : (floor : Description) (P : Item → Type 0) → ((k : ℕ) → k < floor.chains → P (TurnstileChain k))
     → ((k : ℕ) → k < floor.chains → P (SleepChain k))
     → 1 ≤ floor.chains → (q : QueueName) → P (its_chain floor q)
 each_chain floor P turnstiles sleepers some_chains (Lock l) = go (is_turnstile ((config_in floor).kind l.0))
@@ -161,6 +161,7 @@ module _ (floor : Description) (v : Knowledge) where
         };
       };
       keeps_order = λ _. in_wanted_round floor v s f wants;
+      keeps_count = tt;
     },
     tt,
   )
@@ -174,7 +175,7 @@ module _ (floor : Description) (v : Knowledge) where
   -- 4. A record is taken under a chain
 
   module _ (q : QueueName) (x : Slot) (out : v.out ≡ (chain_place floor q, x) ∷ []) where
-    its_only : (s : State) (f : Fits floor v s) (i : Item) → HasItem s t i → i ≡ its_chain floor q
+    pub its_only : (s : State) (f : Fits floor v s) (i : Item) → HasItem s t i → i ≡ its_chain floor q
     its_only s f i has =
         let p = f.out.no_other i has in
         elim (cases_eq (chain_place floor q) p.0) [
@@ -183,7 +184,7 @@ module _ (floor : Description) (v : Knowledge) where
               (sym p.2.1 ∙ ap (found p.0) out ∙ found_later (chain_place floor q) p.0 x [] ne))
         ]
 
-    its_chain_out : (s : State) (f : Fits floor v s) → HasItem s t (its_chain floor q)
+    pub its_chain_out : (s : State) (f : Fits floor v s) → HasItem s t (its_chain floor q)
     its_chain_out s f = (f.out.each (its_chain floor q) (chain_place floor q) x (chain_at floor f.sized.some_chains q)
         (ap (found (chain_place floor q)) out ∙ found_first (chain_place floor q) x [])).0
 
@@ -209,6 +210,7 @@ module _ (floor : Description) (v : Knowledge) where
           };
         };
         keeps_order = λ is. absurd (let z : false ≡ true = is in cc);
+        keeps_count = tt;
       },
       tt,
     )
@@ -243,6 +245,9 @@ module _ (floor : Description) (v : Knowledge) where
               };
             };
             keeps_order = tt;
+            keeps_count = each_chain floor (KeepsCountedOut s t)
+                (λ k low u is _. let z : TurnstileChain k ≡ RecordOf u = is in cc)
+                (λ k low u is _. let z : SleepChain k ≡ RecordOf u = is in cc) f.sized.some_chains q;
           },
           tt,
         )
@@ -299,6 +304,7 @@ module _ (floor : Description) (v : Knowledge) where
           asks_of_thread = goes_on floor v s f runs going;
         };
         keeps_order = tt;
+        keeps_count = tt;
       },
       tt,
     )
@@ -318,6 +324,7 @@ module _ (floor : Description) (v : Knowledge) where
               };
             };
             keeps_order = tt;
+            keeps_count = tt;
           },
           tt,
         )
@@ -341,6 +348,7 @@ module _ (floor : Description) (v : Knowledge) where
           };
         };
         keeps_order = tt;
+        keeps_count = keeps_own_out floor v s f;
       },
       tt,
     )
@@ -396,6 +404,7 @@ module _ (floor : Description) (v : Knowledge) where
               taken = λ e. of_the_round e (s.round t) refl;
               wants = λ e. absurd (let z : false ≡ true = sym uncounted ∙ e in cc);
             };
+            keeps_count = tt;
           },
           tt,
         )
@@ -480,6 +489,7 @@ module _ (floor : Description) (v : Knowledge) where
                 };
               };
               keeps_order = gains_in_order floor v s f l by_try ordered others unhalted;
+              keeps_count = tt;
             },
             tt,
           )
@@ -518,6 +528,7 @@ module _ (floor : Description) (v : Knowledge) where
                 };
               };
               keeps_order = gains_in_order floor v s f l by_try ordered others unhalted;
+              keeps_count = tt;
             },
             tt,
           )
@@ -587,6 +598,7 @@ module _ (floor : Description) (v : Knowledge) where
               asks_of_thread = goes_on_ready s f;
             };
             keeps_order = doing_it floor v s f (λ d. d.wanted) ∙ wants;
+            keeps_count = tt;
           },
           tt,
         )

@@ -1,7 +1,9 @@
 -- What a thread's seat knows allows the steps by which it runs again, and by which it wakes others.
-use Rattle.std.proofs.Common.{◌≡◌, ◌≢◌, ℕ, ◌<◌, true, false, Option, Some, None, List, [], ◌∷◌, map, length, sym, ap, ◌∙◌, subst, inl, inr}
+use Rattle.std.proofs.Common.{◌≡◌, ◌≢◌, ◌⊎◌, ℕ, ◌<◌, true, false, Option, Some, None, List, [], ◌∷◌, map, length, refl, sym, ap, ◌∙◌, subst, inl, inr}
 use Rattle.std.specs.List.{All}
-use Rattle.std.proofs.lemmas.List.Elements.{All-map}
+use Rattle.std.proofs.lemmas.List.Elements.{All-head, All-map}
+use Rattle.std.proofs.lemmas.Option.{same_Some}
+use Rattle.lock_laws.proofs.Standing.{marked_named}
 use Rattle.atomic_table.specs.Table.{rest}
 use Rattle.lock_model.specs.Config.{Config}
 use Rattle.lock_model.specs.History.{open_in}
@@ -13,9 +15,10 @@ use Rattle.lock_model.specs.declared.plan.Mode.{Mode}
 use Rattle.lock_model.specs.declared.plan.QueueName.{QueueName}
 use Rattle.lock_model.specs.declared.plan.QueueName.TheVariants.{Lock, Chan}
 use Rattle.lock_objects.specs.Represents.{mark_of}
-use Rattle.lock_state.specs.Facts.{StandingIsQueued}
-use Rattle.lock_state.specs.State.{State, Round, Queued, Woken, NoWalk}
-use Rattle.lock_state.specs.Steps.{Marks, TakesItem, IsOfRound, IsBackFrom}
+use Rattle.lock_state.specs.Facts.{Lawful, StandingIsQueued}
+use Rattle.lock_state.specs.State.{State, Round, Running, Queued, Woken, NoWalk, Phase, Awake, Asleep, Last, Halting, Aborting, SelfAborted, is_parked}
+use Rattle.lock_state.specs.Steps.Counting.{IsFirst}
+use Rattle.lock_state.specs.Steps.{Marks, CountsIn, CountsOut, TakesItem, IsOfRound, IsBackFrom, IsAtResume, IsCountedIn, GoesOnOrHalts, is_halting}
 use Rattle.lock_state.specs.Steps.Items.{RecordOf}
 use Rattle.lock_state.specs.Steps.LockWords.{is_taking_back}
 use Rattle.lock_state.specs.Steps.Turnstiles.{HasReleased, IsLastHolder}
@@ -30,7 +33,7 @@ use Rattle.floor_table.proofs.Shelved.{found_first}
 use Rattle.floor_table.specs.Represents.{IsPosed}
 use Rattle.floor_table.specs.Shares.{is_among}
 use Rattle.floor_table.specs.Shelves.{found}
-use Rattle.lock_floor.specs.Marks.{CanMark, HasFirstOut}
+use Rattle.lock_floor.specs.Marks.{CanMark, HasFirstOut, MayWakeOthers}
 use Rattle.lock_floor.specs.Opens.{HasBothOut, MayOpenUp}
 use Rattle.lock_floor.specs.Passes.{IsGoing, IsOffTheWay}
 use Rattle.lock_floor.specs.Relocks.{MayGiveUp}
@@ -38,7 +41,8 @@ use Rattle.lock_floor.specs.Resumes.{MayRunAgain}
 use Rattle.lock_floor.specs.SleepLocks.{MayOpenSleepers}
 use Rattle.lock_floor.specs.Sleeps.{HasSleeperOut}
 use Rattle.lock_floor.proofs.BothOut.{own_there, chain_there}
-use Rattle.lock_floor.proofs.May.{column, doing_it, holds_it, own_log, is_acting, goes_on_settled, nothing_with, awake_now, owes_settled}
+use Rattle.lock_floor.proofs.May.{column, doing_it, holds_it, own_log, is_acting, goes_on_settled, nothing_with, awake_now, not_away_settled, owes_settled}
+use Rattle.lock_floor.proofs.MarkStep.{standing_pose}
 use Rattle.lock_floor.proofs.Taking.{record_at}
 
 -- a thread that stands on a channel's queue is in a wait, and has released the lock of its wait
@@ -47,7 +51,7 @@ HasLeft c v (Lock l) = Unit {0}
 HasLeft c v (Chan d) =
     (hold_in v.share.held (c.chan_lock d.0) ≡ NotHeld) × (is_taking_back v.share.log ≡ true)
 
-has_released : (floor : Description) (v : Knowledge) (s : State) → Fits floor v s → (q : QueueName)
+pub has_released : (floor : Description) (v : Knowledge) (s : State) → Fits floor v s → (q : QueueName)
     → HasLeft (config_in floor) v q → HasReleased (config_in floor) s v.thread q
 has_released floor v s f (Lock l) left = tt
 has_released floor v s f (Chan d) left = holds_it floor v s f ((config_in floor).chan_lock d.0) ∙ left.0
@@ -57,11 +61,18 @@ is_back : (floor : Description) (v : Knowledge) (s : State) → Fits floor v s �
 is_back floor v s f (Lock l) left = tt
 is_back floor v s f (Chan d) left = ap is_taking_back (sym (column floor v s f (λ x. x.log))) ∙ left.1
 
--- a thread that has nothing out, no walk and no wake to note may run again
+-- whose record names a queue is Queued
+pub standing_queued : (s : State) (c : Config) → Lawful c s → (u : ℕ) (q : QueueName) → s.blocked_on u ≡ Some q
+    → s.wait u ≡ Queued
+unfolding StandingIsQueued
+standing_queued s c lawful u q named = lawful.waits.standing_is_queued u q named
+
+-- a thread that is parked, or has aborted itself, and has nothing out, no walk and no wake to note may run again
 pub may_run_again : (floor : Description) (v : Knowledge) (q : QueueName) → v.pose ≡ StandsOn q → v.out ≡ []
     → v.share.doing.walk ≡ NoWalk
-    → v.share.doing.unstamped ≡ None → HasLeft (config_in floor) v q → MayRunAgain floor v
-may_run_again floor v q stands empty no_walk stamped left = record {
+    → v.share.doing.unstamped ≡ None → IsAtResume v.share.doing.phase → HasLeft (config_in floor) v q
+    → MayRunAgain floor v
+may_run_again floor v q stands empty no_walk stamped at left = record {
   queue = q;
   stands = stands;
   nothing_out = empty;
@@ -78,10 +89,62 @@ may_run_again floor v q stands empty no_walk stamped left = record {
         };
       };
       keeps_order = is_back floor v s f q left;
+      keeps_count = subst IsAtResume (sym (doing_it floor v s f (λ d. d.phase))) at;
     },
     tt,
   );
 }
+
+-- A thread that stands on a queue, goes on, and has nothing out, no walk and nobody marked counts itself out. On a
+-- channel it has released the lock of its wait
+pub may_count_out : (floor : Description) (v : Knowledge) (q : QueueName) → v.pose ≡ StandsOn q → v.out ≡ []
+    → v.share.doing.walk ≡ NoWalk → v.share.doing.marked ≡ [] → IsGoing v → HasLeft (config_in floor) v q
+    → MayMake floor v (λ s. Unit {0}) (CountsOut v.thread ∷ [])
+may_count_out floor v q stands empty no_walk unmarked going left s f _ =
+    let awake : s.phase v.thread ≡ Awake = doing_it floor v s f (λ d. d.phase) ∙ going.awake in (
+      record {
+        fits = record {
+          may = record {
+            thread = f.thread;
+            unparked = ap is_parked awake;
+            unaborted = λ e. let z : Awake ≡ SelfAborted = sym awake ∙ e in cc;
+            waits = λ _ runs. not_running runs;
+            no_walk = doing_it floor v s f (λ d. d.walk) ∙ no_walk;
+            unmarked = doing_it floor v s f (λ d. d.marked) ∙ unmarked;
+            released = λ r on. released r (there on);
+          };
+          has_out = nothing_with floor v s f empty;
+          has_seen = tt;
+          asks_of_thread = record {
+            unparked = ap is_parked awake;
+            owes = owes_settled floor v s f (inr (q, stands)) going;
+          };
+        };
+        keeps_order = tt;
+        keeps_count = tt;
+      },
+      tt,
+    )
+  where
+    posed : IsPosed (StandsOn q) (s.wait v.thread) (s.blocked_on v.thread)
+    posed = subst (λ p. IsPosed p (s.wait v.thread) (s.blocked_on v.thread)) stands f.pose
+
+    not_running : s.wait v.thread ≡ Running → ⊥
+    not_running runs = elim posed [
+      | inl z ↦ let y : Queued ≡ Running = sym z.0 ∙ runs in cc
+      | inr z ↦ let y : Woken q z.0 ≡ Running = sym z.1 ∙ runs in cc
+    ]
+
+    -- the queue that its record names is that one
+    there : {r : QueueName} → s.blocked_on v.thread ≡ Some r → q ≡ r
+    there {r} on = elim posed [
+      | inl z ↦ same_Some q r (sym z.1 ∙ on)
+      | inr z ↦ absurd (let y : Woken q z.0 ≡ Queued = sym z.1
+          ∙ standing_queued s (config_in floor) f.sound.facts.lawful v.thread r on in cc)
+    ]
+
+    released : (r : QueueName) → q ≡ r → HasReleased (config_in floor) s v.thread r
+    released r is = subst (HasReleased (config_in floor) s v.thread) is (has_released floor v s f q left)
 
 -- a record is of no round
 record_of_round : (floor : Description) (u : ℕ) (r : Option Round)
@@ -110,6 +173,7 @@ may_take_record floor v u there empty going low s f home = (
       };
     };
     keeps_order = λ is. absurd (let z : false ≡ true = is in cc);
+    keeps_count = tt;
   },
   tt,
 )
@@ -134,31 +198,111 @@ off_locks floor v s f (inr (d, stands)) k e =
     go (inl there) = let z : Some (chan_queue d) ≡ Some (lock_queue k) = sym there.1 ∙ e in cc
     go (inr woken) = let z : Woken (chan_queue d) woken.0 ≡ Queued = sym woken.1 ∙ queued in cc
 
--- and may wake the first of its marked list, whose record it took last
-pub may_mark : (floor : Description) (v : Knowledge) (first : HasFirstOut v) → IsOffTheWay v.pose → IsGoing v
+-- the first of the marked list is another thread, where it stood on another queue
+pub is_another : (floor : Description) (v : Knowledge) (first : HasFirstOut v) (s : State) → Fits floor v s
+    → ((q : QueueName) → v.pose ≡ StandsOn q → All (λ (m : Mark). m.queue ≢ q) v.share.doing.marked)
+    → v.thread ≢ first.mark.thread
+is_another floor v first s f elsewhere e =
+    let c : Config = config_in floor in
+    let t : ℕ = v.thread in
+    let m : Mark = first.mark in
+    let ms : List Mark = first.others in
+    let lawful = f.sound.facts.lawful in
+    let marked : s.marked t ≡ m ∷ ms = doing_it floor v s f (λ d. d.marked) ∙ first.marked in
+    let named : s.blocked_on m.thread ≡ Some m.queue = marked_named c s t m ms lawful f.thread marked in
+    let queued : s.wait m.thread ≡ Queued = standing_queued s c lawful m.thread m.queue named in
+    let stands : v.pose ≡ StandsOn m.queue =
+    standing_pose m.queue v.pose (s.wait t) (s.blocked_on t) (ap s.wait e ∙ queued) (ap s.blocked_on e ∙ named) f.pose in
+    All-head (λ (k : Mark). k.queue ≢ m.queue) m ms
+    (subst (All (λ (k : Mark). k.queue ≢ m.queue)) first.marked (elsewhere m.queue stands)) refl
+
+-- a thread that goes on, or is at halting others, and isn't on its way to a queue counts others in and wakes them
+pub halting_unparked : (p : Phase) → is_halting p ≡ true → is_parked p ≡ false
+halting_unparked Awake e = absurd cc
+halting_unparked Asleep e = absurd cc
+halting_unparked Last e = absurd cc
+halting_unparked Halting e = refl
+halting_unparked Aborting e = refl
+halting_unparked SelfAborted e = refl
+
+unparked_waking : (floor : Description) (v : Knowledge) (s : State) → Fits floor v s → MayWakeOthers v
+    → is_parked (s.phase v.thread) ≡ false
+unparked_waking floor v s f (inl going) = ap is_parked (doing_it floor v s f (λ d. d.phase) ∙ going.awake)
+unparked_waking floor v s f (inr h) =
+    halting_unparked (s.phase v.thread) (ap is_halting (doing_it floor v s f (λ d. d.phase)) ∙ h.0)
+
+goes_on_waking : (floor : Description) (v : Knowledge) (s : State) → Fits floor v s → IsOffTheWay v.pose
+    → MayWakeOthers v → GoesOnOrHalts s v.thread
+goes_on_waking floor v s f there (inl going) =
+    record { runs = inl (awake_now floor v s f going); owes = owes_settled floor v s f there going }
+goes_on_waking floor v s f there (inr h) = record {
+  runs = inr (ap is_halting (doing_it floor v s f (λ d. d.phase)) ∙ h.0);
+  owes = record {
+    added = not_away_settled floor v s f there;
+    stamped = doing_it floor v s f (λ d. d.unstamped) ∙ h.1;
+  };
+}
+
+unstamped_waking : (v : Knowledge) → MayWakeOthers v → v.share.doing.unstamped ≡ None
+unstamped_waking v (inl going) = going.stamped
+unstamped_waking v (inr h) = h.1
+
+-- it counts the first of its marked list in, another thread, whose record it took last, where it counted in nobody yet
+pub may_count_in : (floor : Description) (v : Knowledge) (first : HasFirstOut v) → IsOffTheWay v.pose → MayWakeOthers v
+    → ((s : State) → Fits floor v s → v.thread ≢ first.mark.thread) → v.share.doing.counting ≡ None
+    → first.mark.thread < length floor.threads
+    → MayMake floor v (λ s. Unit {0}) (CountsIn v.thread first.mark.thread ∷ [])
+may_count_in floor v first there going other uncounted low s f _ =
+    let u : ℕ = first.mark.thread in (
+      record {
+        fits = record {
+          may = record {
+            thread = f.thread;
+            unparked = unparked_waking floor v s f going;
+            first = subst (IsFirst u) (sym (doing_it floor v s f (λ d. d.marked) ∙ first.marked)) refl;
+            other = other s f;
+            once = doing_it floor v s f (λ d. d.counting) ∙ uncounted;
+          };
+          has_out = (f.out.each (RecordOf u) u (Record first.box) (record_at floor u low)
+              (ap (found u) first.last ∙ found_first u (Record first.box) (rest v.out))).0;
+          has_seen = tt;
+          asks_of_thread = goes_on_waking floor v s f there going;
+        };
+        keeps_order = tt;
+        keeps_count = tt;
+      },
+      tt,
+    )
+
+-- and wakes the first of its marked list, whose record it took last, and which it has counted in, or itself
+pub may_mark : (floor : Description) (v : Knowledge) (first : HasFirstOut v) → IsOffTheWay v.pose → MayWakeOthers v
+    → (v.share.doing.counting ≡ Some first.mark.thread) ⊎ (v.thread ≡ first.mark.thread)
     → first.mark.thread < length floor.threads
     → MayMake floor v (λ s. Unit {0}) (Marks v.thread first.mark first.others ∷ [])
-may_mark floor v first there going low s f _ =
+may_mark floor v first there going counted low s f _ =
     let u : ℕ = first.mark.thread in (
       record {
         fits = record {
           may = record {
             thread = f.thread;
             marked = doing_it floor v s f (λ d. d.marked) ∙ first.marked;
-            stamped = doing_it floor v s f (λ d. d.unstamped) ∙ going.stamped;
+            stamped = doing_it floor v s f (λ d. d.unstamped) ∙ unstamped_waking v going;
           };
           has_out = (f.out.each (RecordOf u) u (Record first.box) (record_at floor u low)
               (ap (found u) first.last ∙ found_first u (Record first.box) (rest v.out))).0;
           has_seen = tt;
-          asks_of_thread = record {
-            runs = inl (awake_now floor v s f going);
-            owes = owes_settled floor v s f there going;
-          };
+          asks_of_thread = goes_on_waking floor v s f there going;
         };
         keeps_order = tt;
+        keeps_count = is_counted counted;
       },
       tt,
     )
+  where
+    is_counted : (v.share.doing.counting ≡ Some first.mark.thread) ⊎ (v.thread ≡ first.mark.thread)
+        → IsCountedIn s v.thread first.mark.thread
+    is_counted (inl e) = inl (doing_it floor v s f (λ d. d.counting) ∙ e)
+    is_counted (inr e) = inr e
 
 -- a thread that runs wakes others
 pub runners_mark : (v : Knowledge) → v.pose ≡ Runs → v.out ≡ [] → IsGoing v → v.share.doing.counting ≡ None → CanMark v
@@ -227,6 +371,7 @@ module _ (floor : Description) (v : Knowledge) (l : ℕ) (mode : Mode) (word : W
                 asks_of_thread = goes_on_settled floor v s f (off_the_way v there) going;
               };
               keeps_order = doing_it floor v s f (λ d. d.taking) ∙ takes;
+              keeps_count = tt;
             },
             tt,
           );
@@ -252,6 +397,7 @@ module _ (floor : Description) (v : Knowledge) (l : ℕ) (mode : Mode) (word : W
                 asks_of_thread = goes_on_settled floor v s f there going;
               };
               keeps_order = doing_it floor v s f (λ d. d.taking) ∙ takes;
+              keeps_count = tt;
             },
             tt,
           );

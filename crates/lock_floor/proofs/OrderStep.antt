@@ -189,6 +189,7 @@ module _ (floor : Description) (me : Me Slot Knowledge) (was : me.0.role ≡ OfT
         asks_of_thread = goes_on floor v s f may.runs may.going;
       };
       keeps_order = tt;
+      keeps_count = tt;
     }
     may_settle (Some k) a = record {
       fits = record {
@@ -202,6 +203,7 @@ module _ (floor : Description) (me : Me Slot Knowledge) (was : me.0.role ≡ OfT
         asks_of_thread = goes_on floor v s f may.runs may.going;
       };
       keeps_order = tt;
+      keeps_count = tt;
     }
 
     -- what the graph says behind it

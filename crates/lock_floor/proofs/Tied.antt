@@ -8,8 +8,6 @@ use Rattle.lock_history.specs.Books.{Book}
 use Rattle.lock_model.specs.Operations.{without_lock}
 use Rattle.lock_model.specs.Config.{Config}
 use Rattle.lock_model.specs.declared.event.Entry.{Entry}
-use Rattle.lock_model.specs.declared.event.Event.{Event}
-use Rattle.lock_model.specs.declared.numbers.ThreadNo.{ThreadNo}
 use Rattle.lock_model.specs.declared.event.Held.{Held}
 use Rattle.lock_model.specs.Queues.{Mark}
 use Rattle.lock_model.specs.Words.{word_of}
@@ -21,7 +19,7 @@ use Rattle.floor_table.specs.Places.{slot_of}
 use Rattle.floor_table.specs.Views.{Role, Knowledge, seeing}
 use Rattle.lock_floor.specs.Marks.{AreMarked}
 use Rattle.lock_floor.specs.Ties.{IsTied}
-use Rattle.lock_floor.specs.Views.{looked, put_down, took, gave, entry_by, stamped}
+use Rattle.lock_floor.specs.Views.{looked, put_down, took, gave, stamped}
 use Rattle.lock_floor.proofs.Looking.{Looked}
 use Rattle.lock_floor.proofs.Taking.{Taken}
 
@@ -54,6 +52,7 @@ tied_then who locks left marked others book fin me behind then going h v out sam
       done = λ e. absurd (let z : false ≡ true = sym going ∙ e in cc);
       runs = λ e. absurd (let z : false ≡ true = sym going ∙ e in cc);
       rests = λ e. absurd (let z : false ≡ true = sym going ∙ e in cc);
+      bare = λ e. absurd (let z : false ≡ true = sym going ∙ e in cc);
     }
 
 -- with its own
@@ -94,6 +93,7 @@ tied_without who l locks left marked book fin me behind h e items room =
       done = h.done;
       runs = h.runs;
       rests = h.rests;
+      bare = λ q. ap (without_lock l) (h.bare q);
     }
 
 -- after a try to take what a place has
@@ -128,13 +128,6 @@ tied_given who locks marked book fin me behind i going h is =
     tied_on who locks marked book fin me behind (gave me.0 i) going h v
     (ap (λ (m : Me Slot Knowledge). m.1) is ∙ ap rest h.out ∙ sym (ap (λ w. w.out) v)) refl refl refl
 
--- the entry that a call makes is that of its thread
-pub entry_made : (t : ℕ) (who : ThreadNo) (e : Entry) (event : Event) → who.0 ≡ t → e.thread ≡ who → e.event ≡ event
-    → entry_by t e.ticket event ≡ e
-entry_made t who e event its thread is =
-    let by : e.thread ≡ record { 0 = t } = thread ∙ (λ i. record { 0 = its i }) in
-    sym (λ i. record { ticket = e.ticket; thread = by i; event = is i })
-
 -- after an entry, by which values that are out may have changed
 pub tied_stamped : (who : ℕ) (locks : Vec Held) (marked : Marked) (book after : Book) (fin : Bool)
     (me behind : Me Slot Knowledge) (c : Config) (e : Entry) (out : List (ℕ × Slot)) → fin ≡ false
@@ -156,4 +149,5 @@ tied_stamped who locks marked book after fin me behind c e out going h put is =
       done = λ q. absurd (let z : false ≡ true = sym going ∙ q in cc);
       runs = λ q. absurd (let z : false ≡ true = sym going ∙ q in cc);
       rests = λ q. absurd (let z : false ≡ true = sym going ∙ q in cc);
+      bare = λ q. absurd (let z : false ≡ true = sym going ∙ q in cc);
     }

@@ -23,7 +23,8 @@ use Rattle.lock_floor.specs.Views.{gave}
 use Rattle.lock_floor.specs.Walks.{IsOnFloor, CanWalk, IsHop, IsStepAtThread, in_chain, with_record, Hops, HopsOn, HasTurnstilesOut, InHop, MayLendTo, MaySort, StepsInHop, hopped, walked, owner_of_head, record_and_chain, turnstiles, turnstiles_place}
 use Rattle.lock_floor.proofs.Priorities.{a_record}
 use Rattle.lock_floor.proofs.WalkChains.{turnstiles_at}
-use Rattle.lock_floor.proofs.WalkMay.{may_take_turnstiles, may_take_under, may_give_record, may_give_turnstiles, may_end_at_lock}
+use Rattle.floor_table.proofs.Known.{fits_made}
+use Rattle.lock_floor.proofs.WalkMay.{may_take_turnstiles, may_take_under, may_give_record, may_give_turnstiles, may_end_at_lock, uncounted_under}
 use Rattle.lock_floor.proofs.WalkRecords.{a_chain, owner_low, can_lend_to}
 
 -- 1. The chain, wherever its place is told
@@ -203,8 +204,15 @@ module _ (floor : Description) (a : Knowledge) (m : HasTurnstilesOut floor a) wh
       k_going = subst IsGoing (sym its.view)
           record { awake = b_going.awake; unended = b_going.unended; stamped = b_going.stamped }
 
+      -- it had counted nobody in when it took the record
+      k_uncounted : k.share.doing.counting ≡ None
+      k_uncounted = ap (λ (x : Knowledge). x.share.doing.counting) its.view
+          ∙ ap (λ (x : Knowledge). x.share.doing.counting) has.view
+          ∙ uncounted_under floor a m.one_chain (Turnstiles m.chain) m.out has.step.state
+          (fits_made floor (TakesItem a.thread (RecordOf o) ∷ []) a b has.step)
+
       pub may_give_it : MayMake floor k (λ s. Unit {0}) (GivesItem k.thread (RecordOf o) ∷ [])
-      may_give_it = may_give_record floor k m.one_chain k_settled k_going o (Record its.box) _ low k_out
+      may_give_it = may_give_record floor k m.one_chain k_settled k_going o (Record its.box) _ low k_out k_uncounted
 
       -- and the record was given back
       module _ (d : Knowledge) (gave_one : d ≡ seeing d.seen (gave k (RecordOf o))) where

@@ -32,7 +32,7 @@ use Rattle.floor_table.proofs.Items.{one_place}
 use Rattle.floor_table.proofs.Shelved.{found_first, found_later}
 use Rattle.lock_floor.specs.Passes.{IsGoing}
 use Rattle.lock_floor.specs.Walks.{CanWalk, InHop, MayLendTo, MaySort, StandsThere, StandsNowhere, owner_of_head, turnstiles, turnstiles_place}
-use Rattle.lock_floor.proofs.May.{doing_it, nothing_with, no_wanted_round}
+use Rattle.lock_floor.proofs.May.{doing_it, keeps_out, none_counted, nothing_with, no_wanted_round}
 use Rattle.lock_floor.proofs.Taking.{record_at}
 use Rattle.lock_floor.proofs.WalkChains.{turnstiles_at, apart_from, lock_chain}
 
@@ -102,6 +102,13 @@ module _ (floor : Description) (v : Knowledge) where
           | inr ne ↦ absurd (some-ne-none p.2.0 (sym p.2.1 ∙ ap (found p.0) out ∙ found_later j p.0 x [] ne))
         ]
 
+  -- with the chain alone out it has counted nobody in
+  pub uncounted_under : (one : floor.chains ≡ 1) (x : Slot) → v.out ≡ (turnstiles_place floor, x) ∷ []
+      → (s : State) → Fits floor v s → v.share.doing.counting ≡ None
+  uncounted_under one x out s f = none_counted floor v s f (λ u has.
+      let z : RecordOf u ≡ turnstiles =
+      only_one s f turnstiles (turnstiles_place floor) x (turnstiles_at floor one) out (RecordOf u) has in cc)
+
   -- 3. Both are taken and given back
 
   of_no_round : (i : Item) (r : Option Round) → r ≡ None → IsOfRound floor.chains c r i
@@ -129,6 +136,7 @@ module _ (floor : Description) (v : Knowledge) where
         };
       };
       keeps_order = λ _. no_wanted_round floor v s f can.no_round;
+      keeps_count = tt;
     },
     tt,
   )
@@ -154,13 +162,15 @@ module _ (floor : Description) (v : Knowledge) where
           asks_of_thread = record { runs = inl (awake settled s f going); owes = owes settled s f going };
         };
         keeps_order = λ is. absurd (let z : false ≡ true = is in cc);
+        keeps_count = tt;
       },
       tt,
     )
 
     pub may_give_record : (o : ℕ) (y : Slot) (xs : List (ℕ × Slot)) → o < length floor.threads
-        → v.out ≡ (o, y) ∷ xs → MayMake floor v (λ s. Unit {0}) (GivesItem t (RecordOf o) ∷ [])
-    may_give_record o y xs low out s f _ =
+        → v.out ≡ (o, y) ∷ xs → v.share.doing.counting ≡ None
+        → MayMake floor v (λ s. Unit {0}) (GivesItem t (RecordOf o) ∷ [])
+    may_give_record o y xs low out uncounted s f _ =
         let has = (out_first s f (RecordOf o) o y xs (record_at floor o low) out).0 in (
           record {
             fits = record {
@@ -170,6 +180,7 @@ module _ (floor : Description) (v : Knowledge) where
               asks_of_thread = record { unparked = unparked settled s f going; owes = owes settled s f going };
             };
             keeps_order = tt;
+            keeps_count = keeps_out floor v s f uncounted (RecordOf o);
           },
           tt,
         )
@@ -190,6 +201,7 @@ module _ (floor : Description) (v : Knowledge) where
               asks_of_thread = record { unparked = unparked settled s f going; owes = owes settled s f going };
             };
             keeps_order = tt;
+            keeps_count = λ u is _. let z : turnstiles ≡ RecordOf u = is in cc;
           },
           tt,
         )
@@ -238,6 +250,7 @@ module _ (floor : Description) (v : Knowledge) where
             asks_of_thread = goes_on hop.settled s f hop.going;
           };
           keeps_order = tt;
+          keeps_count = tt;
         },
         tt,
       )
@@ -264,6 +277,7 @@ module _ (floor : Description) (v : Knowledge) where
             asks_of_thread = goes_on settled s f going;
           };
           keeps_order = tt;
+          keeps_count = tt;
         },
         tt,
       )
@@ -335,6 +349,7 @@ module _ (floor : Description) (v : Knowledge) where
               asks_of_thread = goes_on hop.settled s f hop.going;
             };
             keeps_order = tt;
+            keeps_count = tt;
           },
           tt,
         )
@@ -360,6 +375,7 @@ module _ (floor : Description) (v : Knowledge) where
               asks_of_thread = goes_on hop.settled s f hop.going;
             };
             keeps_order = tt;
+            keeps_count = tt;
           },
           tt,
         )

@@ -2,9 +2,11 @@
 use Rattle.std.specs.Prelude.{◌≡◌, ◌≢◌, ℕ, ◌^◌, ◌<◌, ◌≤◌, true, false, List, [], length, map, reverse, slice_index_or, IsSome, None}
 use Rattle.std.specs.declared.alloc.Global.{Global}
 use Rattle.std.specs.declared.boxed.Box.{Box}
+use Rattle.lock_model.specs.BusyWords.{BusyIsExplained}
 use Rattle.lock_model.specs.Counts.{times}
+use Rattle.lock_model.specs.Halts.{HaltsAreHonest}
 use Rattle.lock_model.specs.History.{base_in, entries_of, tables_of}
-use Rattle.lock_model.specs.Law.{IsLegalSoFar}
+use Rattle.lock_model.specs.Legal.{IsLegalSoFar}
 use Rattle.lock_model.specs.Takes.{OrdersAreLegal}
 use Rattle.lock_model.specs.declared.event.Entry.{Entry}
 use Rattle.thread_records.specs.Records.{Record}
@@ -41,14 +43,16 @@ Differ part recs =
     (t u : ℕ) (d : Box ThreadRec Global) → t < length recs → u < length recs
     → part (record_at recs t d) ≡ part (record_at recs u d) → t ≡ u
 
--- What is left of a floor, which took in the passes of these threads, in that order: the logs of a history
--- that keeps the law as far as it says nothing of operations, and its part on lock orders; each thread's record, in its
--- place; and the tables that the history leaves. Nobody is halted yet.
+-- What is left of a floor, which took in the passes of these threads, in that order: the logs of a history that keeps
+-- the law, but for its part on operations; each thread's record, in its place; and the tables that the history leaves.
+-- Nobody is halted yet.
 pub record IsClosing (floor : Description) (threads : List ℕ) (x : Closing) : Type 0 where
   pub history : List Entry
   pub logs : AreLogsOf threads (map (λ b. b.entries) x.logs.items) history
   pub legal : IsLegalSoFar (config_in floor) true history
   pub orders_are_legal : OrdersAreLegal (config_in floor) history
+  pub halts_are_honest : HaltsAreHonest (config_in floor) history
+  pub busies_are_explained : BusyIsExplained (config_in floor) history
   pub few : length history < 2 ^ 32
   pub count : length x.recs.items ≡ length floor.threads
   pub home : (t : ℕ) (d : Box ThreadRec Global) → t < length floor.threads

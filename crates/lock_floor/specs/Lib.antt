@@ -8,6 +8,7 @@ pub mod Closings
 pub mod Changes
 pub mod Waits
 pub mod Marks
+pub mod Counts
 pub mod Resumes
 pub mod Opens
 pub mod Claims
@@ -16,4 +17,8 @@ pub mod Ordering
 pub mod Walks
 pub mod Sleeps
 pub mod SleepLocks
+pub mod Aborts
 pub mod Relocks
+pub mod Ends
+pub mod Halting
+pub mod Queues

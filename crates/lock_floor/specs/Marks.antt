@@ -1,5 +1,5 @@
 -- Those whom a thread took off a queue and has yet to wake, and how it wakes the first of them.
-use Rattle.std.specs.Prelude.{◌≡◌, ◌≢◌, ℕ, ◌<◌, List, [], ◌∷◌, ◌++◌, length, map, if◌then◌else◌, IsSome, None, Some}
+use Rattle.std.specs.Prelude.{◌≡◌, ◌≢◌, ◌⊎◌, ℕ, ◌<◌, true, List, [], ◌∷◌, ◌++◌, length, if◌then◌else◌, IsSome, None, Some}
 use Rattle.std.specs.Box.{with_value}
 use Rattle.std.specs.List.{All}
 use Rattle.std.specs.declared.alloc.Global.{Global}
@@ -8,10 +8,9 @@ use Rattle.atomic_table.specs.Table.{rest}
 use Rattle.lock_model.specs.Config.{Config}
 use Rattle.lock_model.specs.Queues.{Mark, is_turnstile_queue}
 use Rattle.lock_model.specs.declared.plan.QueueName.{QueueName}
-use Rattle.lock_objects.specs.Marked.{AreOfKind, places_of}
-use Rattle.lock_objects.specs.Represents.{mark_of}
+use Rattle.lock_objects.specs.Marked.{AreOfKind, places_of, marks_in}
 use Rattle.lock_objects.specs.declared.marked.Marked.{Marked}
-use Rattle.lock_state.specs.Steps.{Step, TakesItem, GivesItem, Marks}
+use Rattle.lock_state.specs.Steps.{Step, TakesItem, GivesItem, CountsIn, Marks, is_halting}
 use Rattle.lock_state.specs.Steps.Items.{RecordOf}
 use Rattle.lock_state.specs.Steps.Turnstiles.{phase_marked}
 use Rattle.thread_records.specs.Records.{Record as RecordSeen}
@@ -23,15 +22,16 @@ use Rattle.floor_table.specs.Views.{Knowledge, StandsOn, seeing}
 use Rattle.floor_table.specs.declared.description.Description.{Description}
 use Rattle.floor_table.specs.declared.slot.Slot.{Slot}
 use Rattle.floor_table.specs.declared.slot.Slot.TheVariants.{Record}
+use Rattle.lock_floor.specs.Counts.{counted_in_more}
 use Rattle.lock_floor.specs.Passes.{IsGoing, IsOffTheWay}
 
 -- 1. The marked list
 
 -- The objects of a marked list: each is that of its mark, of a thread of the floor, and has that thread's object with
--- it. All were taken off one queue by a signal, and are waiters or sleepers as that queue is
+-- it. All were taken off one queue by one cause, and are waiters or sleepers as that queue is
 pub record AreMarked (floor : Description) (objects : Marked) (marks : List Mark) : Type 0 where
   pub queue : QueueName
-  pub same : marks ≡ map (mark_of queue) (places_of objects)
+  pub same : marks ≡ marks_in queue objects
   pub kind : AreOfKind (config_in floor) objects queue
   pub held : All (λ p. IsSome p.object) (places_of objects)
   pub of_floor : All (λ m. m.thread < length floor.threads) marks
@@ -95,16 +95,22 @@ with_marks v ms =
     let after : Doing = record v.share.doing { marked = ms } in
     record v { share = record v.share { doing = after } }
 
--- the first one's record is taken, it is woken, and the record is given back
+-- the first one's record is taken, it is counted in and then woken, and the record is given back
 abbrev pub wakes : ℕ → Mark → List Mark → List (List Step)
 wakes t m ms =
-    (TakesItem t (RecordOf m.thread) ∷ []) ∷ (Marks t m ms ∷ [])
+    (TakesItem t (RecordOf m.thread) ∷ []) ∷ (CountsIn t m.thread ∷ []) ∷ (Marks t m ms ∷ [])
     ∷ (GivesItem t (RecordOf m.thread) ∷ []) ∷ []
 
 -- each in turn
 abbrev pub marking : ℕ → List Mark → List (List Step)
 marking t [] = []
 marking t (m ∷ ms) = wakes t m ms ++ marking t ms
+
+-- the thread goes on, or is at halting others, and has no wake to note
+abbrev pub MayWakeOthers : Knowledge → Type 0
+MayWakeOthers v =
+    IsGoing v
+    ⊎ ((is_halting v.share.doing.phase ≡ true) × (v.share.doing.unstamped ≡ None))
 
 -- A thread that goes on, has nothing out and counted in nobody yet may wake those of its marked list. It runs, or
 -- stands on another queue than they did: so it wakes others
@@ -116,11 +122,11 @@ pub record CanMark (v : Knowledge) : Type 0 where
   pub going : IsGoing v
   pub uncounted : v.share.doing.counting ≡ None
 
--- it woke the first of them, which is that thread
+-- it woke the first of them, which is that thread, and counted it in before
 pub record WakesFirst (floor : Description) (t : ℕ) (old new : Knowledge) : Type 0 where
   pub mark : Mark
   pub others : List Mark
   pub marked : old.share.doing.marked ≡ mark ∷ others
   pub thread : mark.thread ≡ t
-  pub view : new ≡ seeing new.seen (with_marks old others)
+  pub view : new ≡ seeing new.seen (counted_in_more t (with_marks old others))
   pub steps : MakesEach floor (wakes old.thread mark others) old new

@@ -9,7 +9,8 @@ use Rattle.lock_model.specs.declared.numbers.LockNo.{LockNo}
 use Rattle.lock_model.specs.declared.plan.Kind.TheVariants.{Mtx}
 use Rattle.lock_model.specs.declared.plan.Mode.{Mode}
 use Rattle.lock_model.specs.declared.plan.Mode.TheVariants.{Excl}
-use Rattle.lock_state.specs.State.{NoWalk}
+use Rattle.lock_state.specs.State.{NoWalk, SleepHalted}
+use Rattle.lock_state.specs.Steps.LockWords.{is_taking_back, round_of}
 use Rattle.floor_table.specs.Descriptions.{config_in}
 use Rattle.floor_table.specs.Shares.{is_among}
 use Rattle.floor_table.specs.Views.{Knowledge, Runs, StandsOn}
@@ -68,7 +69,16 @@ pub record GivesUp (l : ℕ) (old new : Knowledge) : Type 0 where
 
 -- 3. A taking back
 
--- the thread runs and wants the lock, which it doesn't hold, as it does behind its resume from a channel
+-- the thread's sleep on a channel was ended, by a signal or by an abort, which it has yet to note
+abbrev pub WasEnded : Knowledge → Type 0
+WasEnded v =
+    (d : ℕ)
+    × (((v.share.doing.woken_from ≡ Some d) × (v.share.doing.noted ≡ None))
+    ⊎ (v.share.doing.noted ≡ Some (SleepHalted (chan_queue d))))
+
+-- The thread runs and wants the lock, which it doesn't hold, as it does behind its resume from a channel: that began a
+-- round of the lock, and what ended its sleep is still to be noted. The sections open in its log are of just the locks
+-- that it holds
 pub record MayRetake (floor : Description) (l : ℕ) (mode : Mode) (v : Knowledge) : Type 0 where
   pub runs : v.pose ≡ Runs
   pub unburdened : IsUnburdened v
@@ -77,10 +87,14 @@ pub record MayRetake (floor : Description) (l : ℕ) (mode : Mode) (v : Knowledg
   pub mutex : (config_in floor).kind l ≡ Mtx → mode ≡ Excl
   pub wants : v.share.doing.wanted ≡ Some l
   pub takes : v.share.doing.taking ≡ Some l
+  pub round : v.share.doing.round ≡ Some (round_of l false)
   pub looks : v.share.doing.looks ≡ 0
+  pub back : is_taking_back v.share.log ≡ true
+  pub sections : (k : ℕ) → open_in (config_in floor) v.share.log v.thread k ≡ hold_in v.share.held k
+  pub ended : WasEnded v
 
--- It holds the lock again, as one that was gained by a blocking call; it wants nothing, and its looks are 0. Of the
--- other locks those had a section since their gain that had one before
+-- It holds the lock again, as one that was gained by a blocking call, which is still to be noted; it wants nothing, and
+-- its looks are 0. Of the other locks those had a section since their gain that had one before
 pub record TakesBack (l : LockNo) (mode : Mode) (old new : Knowledge) : Type 0 where
   pub keeps : KeepsLog old new
   pub unburdened : IsUnburdened new
@@ -88,5 +102,6 @@ pub record TakesBack (l : LockNo) (mode : Mode) (old new : Knowledge) : Type 0 w
   pub begun : (k : ℕ) → k ≢ l.0 → is_among k new.share.begun ≡ is_among k old.share.begun
   pub runs : new.pose ≡ Runs
   pub wants : new.share.doing.wanted ≡ None
+  pub takes : new.share.doing.taking ≡ Some l.0
   pub looks : new.share.doing.looks ≡ 0
   pub no_round : new.share.doing.round ≡ None

@@ -27,8 +27,8 @@ pub record IsLaid (floor : Description) (table : TableId) (own : Description) : 
   pub sized : IsSized floor
 
 -- the pass has the locks, those to be woken and the entries that its seat knows of, room for as many locks as its
--- thread may hold, and just those values out that its seat has out: none where it is finished, and then its thread runs
--- and takes no lock
+-- thread may hold, and just those values out that its seat has out: none where it is finished, and then its thread
+-- runs, takes no lock and holds none
 pub record IsTied (who : ℕ) (locks : Vec Held) (marked : Marked) (book : Book) (finished : Bool)
     (me : Me Slot Knowledge) : Type 0 where
   pub role : me.0.role ≡ OfThread
@@ -44,9 +44,10 @@ pub record IsTied (who : ℕ) (locks : Vec Held) (marked : Marked) (book : Book)
   pub done : finished ≡ true → me.0.out ≡ []
   pub runs : finished ≡ true → me.0.pose ≡ Runs
   pub rests : finished ≡ true → me.0.share.doing.taking ≡ None
+  pub bare : finished ≡ true → me.0.share.held ≡ []
 
--- The keeper has the logs of the passes that it took in, in that order, whose threads take no lock, and room for what
--- it has yet to take in: all logs, all records and the tables.
+-- The keeper has the logs of the passes that it took in, in that order, whose threads take no lock and hold none, and
+-- room for what it has yet to take in: all logs, all records and the tables.
 pub record IsKept (logs : Vec Book) (recs : Vec (Box ThreadRec Global)) (tables : Slots) (id : ℕ)
     (me : Me Slot Knowledge) : Type 0 where
   pub first : id ≡ 0
@@ -54,6 +55,7 @@ pub record IsKept (logs : Vec Book) (recs : Vec (Box ThreadRec Global)) (tables 
   pub none_out : me.1 ≡ []
   pub logs_are : map (λ b. b.entries) logs.items ≡ map (λ g. reverse g.1.log) me.0.gathered
   pub none_taken : All (λ g. g.1.doing.taking ≡ None) me.0.gathered
+  pub none_held : All (λ g. g.1.held ≡ []) me.0.gathered
   pub room_for_logs : length me.0.description.threads ≤ vec_capacity logs
   pub room_for_records : length me.0.description.threads ≤ vec_capacity recs
   pub no_records : recs.items ≡ []

@@ -44,10 +44,13 @@ pub enum TakeAt {
     /// It has both out and is ready for the lock's queue, and saw this word last: it gains the lock, or comes to stand
     /// on the queue.
     Contends(u64),
-    /// It stands on the queue, and its walk is there: it makes the next hop, or sleeps where the walk has ended.
+    /// It stands on the queue, and its walk is there: it makes the next hop, or where the walk has ended counts itself
+    /// out.
     Walks(Walk),
     /// The same within that hop: it has the chain of turnstiles out.
     Hops(Walk),
+    /// It has counted itself out: it runs again, if it was woken.
+    Sleeps,
 }
 
 /// Where in a try the thread is: its first exchange missed, and found a word that admits the mode.

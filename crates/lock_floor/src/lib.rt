@@ -19,18 +19,26 @@
 //! - `opening`: a release that takes waiters off a lock's turnstile, and `claiming`: a gain of a free lock that shows
 //!   waiters, by which the thread owns its turnstile.
 //! - `sleeping`: the same of sx locks, with sleep queues; `relock`: how a wait gives its lock up and takes it back.
-//! - `channels`: how a thread goes to sleep on a channel, and how sleepers are taken off one.
-//! - `marking`: how those are woken.
+//! - `channels`: how a thread goes to sleep on a channel, and how sleepers are taken off one; `aborting`: how one sleeper
+//!   is taken off a queue by an abort.
+//! - `marking`: how those are woken, and `counts`: how threads are counted that are awake.
+//! - `ends`: how a thread counts itself among those that have ended, and `halting`: how one whose counting out left
+//!   nobody awake sets the halt word, and finds the sleepers that it takes off their queues; `queues`: the queues that
+//!   it goes over.
 //! - `walking`: how a thread that stands on a turnstile lends its priority along the chain of owners.
 //! - `ties`: what is true of each floor and pass.
 #![tactic(auto)]
 
+mod aborting;
 mod calls;
 mod chains;
 mod channels;
 mod claiming;
 mod closing;
+mod counts;
+mod ends;
 mod floor;
+mod halting;
 mod keeper;
 mod latches;
 pub mod laws;
@@ -40,6 +48,7 @@ mod ordering;
 mod parking;
 mod pass;
 mod prios;
+mod queues;
 mod relock;
 mod rounds;
 mod sleeping;
@@ -52,9 +61,12 @@ mod walking;
 
 pub use calls::{Call, ReleaseAt, TakeAt, TryAt};
 pub use closing::Closing;
+pub use counts::Count;
 pub use floor::{Floor, FloorOf};
+pub use halting::Asleep;
 pub use keeper::Keeper;
 pub use pass::{Pass, PassOf};
+pub use queues::HaltAt;
 pub use relock::Relock;
 pub use tables::Change;
 pub use ties::Ties;

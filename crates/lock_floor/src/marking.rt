@@ -4,16 +4,20 @@
 ghost use Rattle.std.specs.Prelude.{◌≡◌, ◌<◌, true, false, [], ◌∷◌, length, IfNone, IfSome, IsSome};
 ghost use Rattle.std.specs.Box.{with_value};
 ghost use Rattle.atomic_table.specs.Table.{Allows, rest};
-ghost use Rattle.lock_objects.specs.Marked.{IsAway, node_of, places_of, record_woken};
+ghost use Rattle.lock_model.specs.declared.plan.QueueName.{QueueName};
+ghost use Rattle.lock_objects.specs.Marked.{IsAway, cause_by, node_of, places_of, record_woken};
+ghost use Rattle.lock_state.specs.State as state;
 ghost use Rattle.lock_state.specs.Steps.Items.{RecordOf};
 ghost use Rattle.floor_table.specs.declared.slot.Slot.TheVariants.{Record};
 ghost use Rattle.floor_table.specs.Places.{spot, wait_line};
+ghost use Rattle.floor_table.specs.Represents.{wait_number};
 ghost use Rattle.floor_table.specs.Rule.{FloorHolds};
 ghost use Rattle.floor_table.specs.Views.{seeing};
 ghost use Rattle.lock_floor.specs.Latches.{FindsOut};
 ghost use Rattle.lock_floor.specs.Marks.{CanMark, MarksFirst, MayMark, WakesFirst};
 ghost use Rattle.lock_floor.specs.Passes.{IsOf};
 
+use crate::counts::Count;
 use crate::floor::FloorOf;
 use crate::pass::{Pass, PassOf};
 use floor_table::{Board, Description, FloorSeat, Law, Slot, Tells, View, store, wait_spot};
@@ -23,6 +27,9 @@ use std::marker::Brand;
 
 // What a wait word says of a thread that a signal woke.
 const SIGNALLED: u64 = 2;
+
+// And of one that an abort woke.
+const ABORTED: u64 = 4;
 
 impl FloorOf<Slot, View, Description, Law> {
     /// Wakes the first of the marked list, whose record was taken last, by one atomic step, and never waits. Answers
@@ -37,15 +44,16 @@ impl FloorOf<Slot, View, Description, Law> {
             unreachable!()
         };
         let u = woken.thread();
+        let word = word_for(&woken);
         hand_back(&self.board, &mut pass.seat, usize::from(u.0), woken);
-        say_woken::<Brand>(&self.board, &mut pass.seat, u);
+        say_woken::<Brand>(&self.board, &mut pass.seat, u, word);
         u
     }
 
-    /// Wakes the first of the marked list, who is that thread, if its record is at home: it takes the record, marks the
-    /// thread, and gives the record back. Its sleep is still to be ended, by `unpark`. `false` comes only where another
-    /// thread had the record out at a moment between the pass's last step and this call's return, or the pass itself
-    /// has it. It never waits.
+    /// Wakes the first of the marked list, who is that thread, if its record is at home: it takes the record, counts the
+    /// thread in, marks it, and gives the record back. Its sleep is still to be ended, by `unpark`. `false` comes only
+    /// where another thread had the record out at a moment between the pass's last step and this call's return, or the
+    /// pass itself has it. It never waits.
     pub fn try_wake(&self, pass: &mut Pass, t: ThreadNo) -> bool
         requires own { IsOf self.now pass.old }
         requires may { CanMark pass.old.view }
@@ -63,6 +71,7 @@ impl FloorOf<Slot, View, Description, Law> {
         if !self.try_take_rec(pass, t) {
             return false;
         }
+        self.count(pass, Count::In(t));
         self.mark(pass);
         self.give_rec(pass, t);
         true
@@ -90,6 +99,17 @@ fn first_of(marked: &Marked) -> Option<ThreadNo>
     match marked {
         Marked::Waiters(waiters) => Some(waiters.first()?.thread()),
         Marked::Sleepers(sleepers) => Some(sleepers.first()?.thread()),
+        Marked::AbortedSleepers(sleepers) => Some(sleepers.first()?.thread()),
+    }
+}
+
+// What the wait word of a thread says that was taken off a queue, from its mark on: by what it was taken off.
+fn word_for(woken: &Woken) -> u64
+    ensures { (q : QueueName) → result ≡ wait_number (state.Woken q (cause_by woken.now)) }
+{
+    match woken {
+        Woken::Waiter(_) | Woken::Sleeper(_) => SIGNALLED,
+        Woken::AbortedSleeper(_) => ABORTED,
     }
 }
 
@@ -113,14 +133,15 @@ fn hand_back(board: &Board, seat: &mut FloorSeat, slot: usize, woken: Woken)
     }
 }
 
-// Makes the wait word of a thread say that a signal woke it.
-fn say_woken<J: Tells>(board: &Board, seat: &mut FloorSeat, u: ThreadNo)
+// Makes the wait word of a thread say that it was woken, by that word.
+fn say_woken<J: Tells>(board: &Board, seat: &mut FloorSeat, u: ThreadNo, word: u64)
     requires own { seat.old.table_id ≡ board.now.shared.table_id }
     requires within { spot (wait_line u.0) < board.now.shared.table_id.words }
     requires may { Allows (FloorHolds board.now.shared.key) board.now.shared.table_id.slots
-        seat.old.id seat.old.me (spot (wait_line u.0)) (λ _. 2) (λ _. J.told seat.old.me 2) }
+        seat.old.id seat.old.me (spot (wait_line u.0)) (λ _. word)
+        (λ _. J.told seat.old.me word) }
     ensures own { seat.new.table_id ≡ seat.old.table_id }
-    ensures told { J.told seat.old.me 2 seat.new.me }
+    ensures told { J.told seat.old.me word seat.new.me }
 {
-    store::<J>(board, seat, wait_spot(u), SIGNALLED);
+    store::<J>(board, seat, wait_spot(u), word);
 }

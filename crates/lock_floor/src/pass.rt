@@ -113,6 +113,7 @@ fn is_none(call: Call) -> bool
 }
 
 // Takes a lock that a thread releases off those that it holds. Mostly it is the last of them.
+#[inline(always)]
 pub(crate) fn leave(l: LockNo, held: &mut Vec<Held>)
     ensures left { held.new.items ≡ without_lock l.0 held.old.items }
     ensures room { vec_capacity held.new ≡ vec_capacity held.old }

@@ -12,10 +12,19 @@ use std::sync::Wait;
 
 /// The locks of a kind, as a wait needs them.
 pub trait Relock {
+    ghost use Rattle.std.specs.Prelude.{ℕ};
+    ghost use Rattle.floor_table.specs.Views.{Knowledge};
+    ghost use Rattle.floor_table.specs.declared.description.Description.{Description as FloorDescription};
     ghost use Rattle.lock_model.specs.declared.plan.Kind.{Kind};
+    ghost use Rattle.lock_model.specs.declared.plan.Mode.{Mode as InMode};
 
     /// The kind.
     ghost kind: { Kind };
+
+    /// The atomic steps by which a thread of a floor releases a lock, and those by which it takes one back in a mode.
+    ghost releases: { FloorDescription → ℕ → Knowledge → Knowledge → Type 0 };
+
+    ghost takes_back: { FloorDescription → ℕ → InMode → Knowledge → Knowledge → Type 0 };
 
     /// Releases a lock of the kind, which the thread gained last, and wakes those who may go on. The thread runs, or is
     /// queued on a channel; one that runs runs on.
@@ -25,14 +34,19 @@ pub trait Relock {
         requires kind { (config_in floor.now.description).kind l.0 ≡ kind }
         requires may { MayRelease floor.now.description l.0 pass.old.view }
         ensures own { IsOf floor.entry.now pass.new }
-        ensures gives_up { GivesUp l.0 pass.old.view pass.new.view };
+        ensures gives_up { GivesUp l.0 pass.old.view pass.new.view }
+        ensures steps { releases floor.entry.now.description l.0 pass.old.view pass.new.view };
 
-    /// Takes the lock back, as a blocking call that checks no order. A sleep of it that is aborted only looks again.
+    /// Takes the lock back, as a blocking call that checks no order. A sleep of it that is aborted only looks again. The
+    /// floor has one chain of turnstiles.
     fn retake<R: Wait>(&self, floor: &Floor, rt: &R, pass: &mut Pass, l: LockNo, mode: Mode)
         requires own { IsOf floor.now pass.old }
         requires lock { l.0 < length floor.now.description.locks }
         requires kind { (config_in floor.now.description).kind l.0 ≡ kind }
+        requires one_chain { floor.now.description.chains ≡ 1 }
         requires may { MayRetake floor.now.description l.0 mode pass.old.view }
         ensures own { IsOf floor.entry.now pass.new }
-        ensures takes_back { TakesBack l mode pass.old.view pass.new.view };
+        ensures back { TakesBack l mode pass.old.view pass.new.view }
+        ensures steps { takes_back floor.entry.now.description l.0 mode
+            pass.old.view pass.new.view };
 }

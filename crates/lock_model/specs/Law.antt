@@ -1,6 +1,6 @@
--- The law of a history: what is true of the entries of every run of a plan, however its threads' steps came. A
+-- Parts of the law of a history: what is true of the entries of every run of a plan, however its threads' steps came. A
 -- history is a list of entries, the newest first. The parts that speak of tables, sections and priorities stand in
--- `History`.
+-- `History`, those of orders, halts and busy words in `Takes`, `Halts` and `BusyWords`; `Legal` is the whole.
 use Rattle.std.specs.Prelude.{◌≡◌, ℕ, suc, Bool, true, false, not, ◌&&◌, ◌||◌, ◌==◌, nat_lt, if◌then◌else◌, List, [], ◌∷◌, length, reverse, slice_get, Option, Some, ⊤}
 use Rattle.lock_model.specs.Counts.{any_below, has_bit}
 use Rattle.lock_model.specs.Config.{Config}
@@ -10,9 +10,7 @@ use Rattle.lock_model.specs.Holds.{Holds}
 use Rattle.lock_model.specs.Words.{word_of, IsWellFormed, is_free, admits}
 use Rattle.lock_model.specs.Plans.{config_of, operations_of}
 use Rattle.lock_model.specs.Operations.{held_of, hold_in}
-unfoldable pub use Rattle.lock_model.specs.History.{TicketsRun, SectionsExclude, EditsInSections, ReadsReplay, ShownIsExplained}
 use Rattle.lock_model.specs.History.{entries_of, base_in}
-use Rattle.lock_model.specs.Takes.{OrdersAreLegal}
 use Rattle.lock_model.specs.declared.numbers.LockNo.{LockNo}
 use Rattle.lock_model.specs.declared.numbers.ChanNo.{ChanNo}
 use Rattle.lock_model.specs.declared.numbers.ClassNo.{ClassNo}
@@ -211,22 +209,3 @@ unfoldable pub HaltsOnlyWhenRunning : Bool → List Entry → Type 0
 HaltsOnlyWhenRunning is_run [] = ⊤
 HaltsOnlyWhenRunning is_run (e ∷ es) =
     (is_run ≡ false → is_halt e.event ≡ false) × HaltsOnlyWhenRunning is_run es
-
--- 4. The law, but for what it says of the causes of halts and of busy words. Is_run says whether threads ran, or the
--- run was a scheduled one; cut_short whether a scheduled run ended stuck or too long. Threads that ran come to their
--- end. Of lock orders the law speaks where each take has come to its end
-
--- the parts that hold behind each entry, whatever operations its threads have
-pub record IsLegalSoFar (c : Config) (is_run : Bool) (history : List Entry) : Type 0 where
-  pub tickets_run : TicketsRun history
-  pub sections_exclude : SectionsExclude c history
-  pub edits_in_sections : EditsInSections c history
-  pub reads_replay : ReadsReplay history
-  pub wakings_name_sleepers : WakingsNameSleepers c history
-  pub halts_only_when_running : HaltsOnlyWhenRunning is_run history
-  pub shown_is_explained : ShownIsExplained c history
-
-pub record IsLegal (plan : Plan) (is_run cut_short : Bool) (history : List Entry) : Type 0 where
-  pub so_far : IsLegalSoFar (config_of plan) is_run history
-  pub entries_follow_operations : EntriesFollowOperations plan (not is_run && cut_short) history
-  pub orders_are_legal : cut_short ≡ false → OrdersAreLegal (config_of plan) history

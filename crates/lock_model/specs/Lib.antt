@@ -18,5 +18,6 @@ pub mod Events
 pub mod Law
 pub mod Halts
 pub mod BusyWords
+pub mod Legal
 pub mod Text
 pub mod Keys

@@ -16,10 +16,10 @@ use Rattle.sleep_queues.specs.Changes.{lists_of, entries_of, without_thread}
 use Rattle.wait_objects.proofs.Best.{without_absent}
 use Rattle.wait_objects.proofs.Entries.{entries_on}
 use Rattle.chain_table.specs.Chains.{head_of, without}
-use Rattle.lock_objects.specs.Aborts.{IsSleeper, mark_by, aborted_from, chain_aborted, aborted}
-use Rattle.lock_objects.specs.Represents.{SleepColumns, RepresentsSleepQueue, RepresentsSleepers, sleepers_in, sleepers_of, mark_of}
+use Rattle.lock_objects.specs.Aborts.{IsSleeper, aborted_from, chain_aborted, aborted}
+use Rattle.lock_objects.specs.Represents.{SleepColumns, RepresentsSleepQueue, RepresentsSleepers, sleepers_in, sleepers_of, mark_by, mark_of}
 use Rattle.lock_objects.specs.Sleeps.{ChangesSleepers}
-use Rattle.lock_objects.proofs.SleepChains.{chain_left, fits_there}
+use Rattle.lock_objects.proofs.SleepChains.{ShowsSleepers, chain_left, fits_there}
 use Rattle.lock_objects.proofs.TakenOff as object
 
 -- 1. The entry of a thread
@@ -96,13 +96,13 @@ module _ (side : Side) (w : Waiter) (h : Contents)
   count : waiting rest + length off ≡ waiting (lists_of h)
   count = waiting_without t (lists_of h)
 
--- 3. The chain
+-- 3. The chain, which shows the columns of these queues
 
-module _ (c : Config) (s : State) (q : QueueName) (side : Side) (w : Waiter) (is : IsSleeper c s q side w)
-    {chain : List (QueueName × SleepQueue)} (shows : RepresentsSleepers c chain (sleepers_in s)) (h : SleepQueue)
-    (here : head_of q chain ≡ Some h) where
+module _ (P : QueueName → Type 0) (c : Config) (s : State) (q : QueueName) (side : Side) (w : Waiter)
+    (is : IsSleeper c s q side w) (there : P q) (chain : List (QueueName × SleepQueue))
+    (shows : ShowsSleepers P chain (sleepers_in s)) (h : SleepQueue) (here : head_of q chain ≡ Some h) where
   old : sleepers_in s q ≡ sleepers_of h.contents
-  old = subst (λ o. RepresentsSleepQueue o (sleepers_in s q)) here (shows.queue q is.sleeps)
+  old = subst (λ o. RepresentsSleepQueue o (sleepers_in s q)) here (shows q there)
 
   lists_are : s.lists q ≡ lists_of h.contents
   lists_are = ap (λ (a : SleepColumns). a.lists) old
@@ -113,22 +113,20 @@ module _ (c : Config) (s : State) (q : QueueName) (side : Side) (w : Waiter) (is
   once_there : stands w.thread (lists_of h.contents) ≤ 1
   once_there = subst (λ (a : Lists). stands w.thread a ≤ 1) lists_are is.once
 
-  pub aborted_chain : (n : State) {new : List (QueueName × SleepQueue)} → ChangesSleepers s n q (aborted side w)
+  pub shows_aborted : (n : State) {new : List (QueueName × SleepQueue)} → ChangesSleepers s n q (aborted side w)
       → head_of q (without q chain) ≡ None → new ≡ chain_aborted q w.thread h chain
-      → RepresentsSleepers c new (sleepers_in n)
-  aborted_chain n changes absent is_new =
-      subst (λ z. RepresentsSleepers c z (sleepers_in n)) (sym is_new) record {
-        queue = chain_left (λ r. is_turnstile_queue c r ≡ false) chain (sleepers_in s) (sleepers_in n) q
-            (aborted side w (sleepers_in s q)) changes shows.queue is.balanced is.sleeps absent h
-            (entries_of w.thread (lists_of h.contents)) (without_thread w.thread (lists_of h.contents)) here
-            (waiting_without w.thread (lists_of h.contents))
-            (columns_are side w h.contents stands_there once_there (sleepers_in s q) old);
-      }
+      → ShowsSleepers P new (sleepers_in n)
+  shows_aborted n changes absent is_new =
+      subst (λ z. ShowsSleepers P z (sleepers_in n)) (sym is_new)
+      (chain_left P chain (sleepers_in s) (sleepers_in n) q (aborted side w (sleepers_in s q)) changes shows is.balanced
+      there absent h (entries_of w.thread (lists_of h.contents)) (without_thread w.thread (lists_of h.contents)) here
+      (waiting_without w.thread (lists_of h.contents))
+      (columns_are side w h.contents stands_there once_there (sleepers_in s q) old))
 
-  pub aborted_marks : {ps : List Place} → ps ≡ aborted_from w.thread h.contents
+  pub marks_aborted : {ps : List Place} → ps ≡ aborted_from w.thread h.contents
       → (map (mark_by ByAbort q) ps ≡ by_abort (dealt q (w ∷ []) (s.free_list q) (s.head q)))
       × All (λ p. IsSome p.object) ps
-  aborted_marks are =
+  marks_aborted are =
       let shown = object.woken_shown (entries_of w.thread (lists_of h.contents))
       (without_thread w.thread (lists_of h.contents)) h.contents (waiting_without w.thread (lists_of h.contents))
       (fits_there h.contents (sleepers_in s q) is.balanced old) q in
@@ -139,3 +137,22 @@ module _ (c : Config) (s : State) (q : QueueName) (side : Side) (w : Waiter) (is
             ∙ (λ i. dealt q (w ∷ []) (sym old i).free_list (sym old i).head)),
         shown.1,
       )
+
+-- 4. A chain of all sleep queues
+
+module _ (c : Config) (s : State) (q : QueueName) (side : Side) (w : Waiter) (is : IsSleeper c s q side w)
+    {chain : List (QueueName × SleepQueue)} (shows : RepresentsSleepers c chain (sleepers_in s)) (h : SleepQueue)
+    (here : head_of q chain ≡ Some h) where
+  abbrev IsHere : QueueName → Type 0
+  IsHere r = is_turnstile_queue c r ≡ false
+
+  pub aborted_chain : (n : State) {new : List (QueueName × SleepQueue)} → ChangesSleepers s n q (aborted side w)
+      → head_of q (without q chain) ≡ None → new ≡ chain_aborted q w.thread h chain
+      → RepresentsSleepers c new (sleepers_in n)
+  aborted_chain n changes absent is_new =
+      record { queue = shows_aborted IsHere c s q side w is is.sleeps chain shows.queue h here n changes absent is_new }
+
+  pub aborted_marks : {ps : List Place} → ps ≡ aborted_from w.thread h.contents
+      → (map (mark_by ByAbort q) ps ≡ by_abort (dealt q (w ∷ []) (s.free_list q) (s.head q)))
+      × All (λ p. IsSome p.object) ps
+  aborted_marks are = marks_aborted IsHere c s q side w is is.sleeps chain shows.queue h here are

@@ -13,7 +13,7 @@ use Rattle.lock_state.specs.State.{State, put_queue}
 use Rattle.lock_state.specs.Facts.{Lawful, HeadsFitWaiters}
 use Rattle.lock_state.specs.Steps.Turnstiles.{after_enter, after_open}
 use Rattle.lock_state.specs.Steps.Lending.{after_shift}
-use Rattle.lock_state.specs.Steps.SleepQueues.{after_enter_sleep, after_open_sleep, after_add, after_wake}
+use Rattle.lock_state.specs.Steps.SleepQueues.{sleeper, after_enter_sleep, after_open_sleep, after_add, after_wake, after_abort}
 use Rattle.lock_laws.proofs.Kit.{is_queue_true, put_queue_same, put_queue_other, at_put_queue}
 use Rattle.lock_laws.proofs.Standing.{standing_named, asleep_out}
 use Rattle.lock_laws.proofs.Sums.{zero_unless}
@@ -27,6 +27,7 @@ use Rattle.thread_records.specs.Records.{Record}
 use Rattle.chain_table.specs.Chains.{head_of}
 use Rattle.lock_objects.specs.Represents.{SleepColumns, RepresentsQueues, RepresentsSleepQueue, RepresentsSleepers, RepresentsRecord, queue_in, sleepers_in, record_in, mark_of}
 use Rattle.lock_objects.specs.Enters.{CanStand}
+use Rattle.lock_objects.specs.Aborts.{aborted}
 use Rattle.lock_objects.specs.Sleeps.{IsBalanced, ChangesSleepers, sleeper_of, slept, woken}
 use Rattle.lock_objects.proofs.Queues.{queue_stays}
 
@@ -145,6 +146,10 @@ module _ (s : State) (t l : ℕ) where
   pub open_sleep_changes : (c : Config) → ChangesSleepers s (after_open_sleep c s t l) (lock_queue l) (woken true (side_woken (c.kind l) (s.word l)))
   unfolding after_open_sleep
   open_sleep_changes c = put_columns s (lock_queue l) (woken true (side_woken (c.kind l) (s.word l)) (sleepers_in s (lock_queue l)))
+
+pub abort_changes : (s : State) (t : ℕ) (q : QueueName) (side : Side) (u : ℕ) → ChangesSleepers s (after_abort s t q side u) q (aborted side (sleeper s u))
+unfolding after_abort
+abort_changes s t q side u = put_columns s q (aborted side (sleeper s u) (sleepers_in s q))
 
 module _ (s : State) (t d : ℕ) where
   pub add_changes : (x : ℕ) → ChangesSleepers s (after_add s t d x) (chan_queue d) (slept X x (record { thread = t; kept = s.base t }))

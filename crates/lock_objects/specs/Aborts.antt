@@ -1,9 +1,8 @@
--- What the taking off of one sleeper, whoever that is, makes of the chain of sleep queues, and what marks of waiters
--- say by which cause they were taken off.
-use Rattle.std.specs.Prelude.{◌≡◌, ℕ, ◌<◌, ◌≤◌, false, if◌then◌else◌, List, [], ◌∷◌, unwrap_or}
+-- What the taking off of one sleeper, whoever that is, makes of the chain of sleep queues.
+use Rattle.std.specs.Prelude.{◌≡◌, ℕ, ◌<◌, ◌≤◌, false, if◌then◌else◌, List, [], ◌∷◌}
 use Rattle.lock_model.specs.Config.{Config}
 use Rattle.lock_model.specs.Counts.{is_empty}
-use Rattle.lock_model.specs.Queues.{Waiter, Cause, Mark, is_turnstile_queue, list_of, with_list, times_waiting, stands, without as without_waiter, free_after, head_after}
+use Rattle.lock_model.specs.Queues.{Waiter, is_turnstile_queue, list_of, with_list, times_waiting, stands, without as without_waiter, free_after, head_after}
 use Rattle.lock_model.specs.declared.plan.QueueName.{QueueName}
 use Rattle.lock_model.specs.declared.plan.Side.{Side}
 use Rattle.lock_state.specs.State.{State}
@@ -14,14 +13,7 @@ use Rattle.chain_table.specs.Chains.{without}
 use Rattle.lock_objects.specs.Represents.{SleepColumns, sleepers_in}
 use Rattle.lock_objects.specs.Sleeps.{IsBalanced}
 
--- 1. Marks
-
--- a waiter that was taken off a queue, by a signal or by an abort, with the object that it takes back
-abbrev pub mark_by : Cause → QueueName → Place → Mark
-mark_by cause q p =
-    record { thread = p.thread; object = unwrap_or p.object 0; queue = q; cause = cause }
-
--- 2. What it asks
+-- 1. What it asks
 
 -- a thread sleeps once on a queue, on that side
 pub record IsSleeper (c : Config) (s : State) (q : QueueName) (side : Side) (w : Waiter) : Type 0
@@ -31,7 +23,7 @@ pub record IsSleeper (c : Config) (s : State) (q : QueueName) (side : Side) (w :
     pub there : 0 < times_waiting w.thread (list_of side (s.lists q))
     pub once : stands w.thread (s.lists q) ≤ 1
 
--- 3. What it makes
+-- 2. What it makes
 
 -- the sleep queue without the thread
 abbrev pub without_sleeper : ℕ → Contents → Contents

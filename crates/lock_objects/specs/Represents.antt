@@ -6,7 +6,7 @@ use Rattle.lock_model.specs.Config.{Config}
 use Rattle.lock_model.specs.Words.{is_turnstile}
 use Rattle.lock_state.specs.State as state
 use Rattle.lock_state.specs.State.{State, Loan}
-use Rattle.lock_model.specs.Queues.{Lists, Mark, BySignal, lock_queue, is_turnstile_queue}
+use Rattle.lock_model.specs.Queues.{Lists, Mark, Cause, BySignal, lock_queue, is_turnstile_queue}
 use Rattle.lock_model.specs.declared.plan.QueueName.{QueueName}
 use Rattle.wait_objects.specs.Seen as object
 use Rattle.turnstile_core.specs.Seen.{Place, Contents, Turnstile, Terms}
@@ -131,10 +131,14 @@ pub record RepresentsRecord (r : Record) (x : RecordColumns) : Type 0 where
 
 -- 4. Waiters that were taken off
 
--- a waiter that a signal took off a queue, with the object that it takes back
+-- a waiter that was taken off a queue, by a signal or by an abort, with the object that it takes back
+abbrev pub mark_by : Cause → QueueName → Place → Mark
+mark_by cause q p =
+    record { thread = p.thread; object = unwrap_or p.object 0; queue = q; cause = cause }
+
+-- the same of one that a signal took off
 abbrev pub mark_of : QueueName → Place → Mark
-mark_of q p =
-    record { thread = p.thread; object = unwrap_or p.object 0; queue = q; cause = BySignal }
+mark_of q p = mark_by BySignal q p
 
 -- 5. Walks, wait words and holds
 

@@ -9,8 +9,8 @@ ghost use Rattle.lock_state.specs.State.{State};
 ghost use Rattle.lock_state.specs.Steps.SleepQueues.{by_abort};
 ghost use Rattle.sleep_queues.specs.Changes.{waits};
 ghost use Rattle.chain_table.specs.Chains.{head_of};
-ghost use Rattle.lock_objects.specs.Aborts.{IsSleeper, mark_by, aborted_from, chain_aborted, aborted};
-ghost use Rattle.lock_objects.specs.Represents.{RepresentsSleepers, sleepers_in};
+ghost use Rattle.lock_objects.specs.Aborts.{IsSleeper, aborted_from, chain_aborted, aborted};
+ghost use Rattle.lock_objects.specs.Represents.{RepresentsSleepers, mark_by, sleepers_in};
 ghost use Rattle.lock_objects.specs.Sleeps.{ChangesSleepers};
 
 use crate::put_back::put_back;

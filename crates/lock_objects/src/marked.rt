@@ -9,11 +9,13 @@ use sleep_queues::{SleepTaken, Sleeper};
 use thread_records::ThreadRec;
 use turnstile_core::{Taken, Waiter};
 
-/// Those that were taken off a queue, of one kind, each with the object that it takes back.
+/// Those that were taken off a queue, of one kind and by one cause, each with the object that it takes back. An abort
+/// takes sleepers off, and never waiters on a turnstile.
 #[derive(Drop)]
 pub enum Marked {
     Waiters(Taken),
     Sleepers(SleepTaken),
+    AbortedSleepers(SleepTaken),
 }
 
 /// The node of one of them.
@@ -21,6 +23,7 @@ pub enum Marked {
 pub enum Woken {
     Waiter(Box<Waiter>),
     Sleeper(Box<Sleeper>),
+    AbortedSleeper(Box<Sleeper>),
 }
 
 impl Marked {
@@ -37,7 +40,7 @@ impl Marked {
     {
         match self {
             Marked::Waiters(waiters) => waiters.is_empty(),
-            Marked::Sleepers(sleepers) => sleepers.is_empty(),
+            Marked::Sleepers(sleepers) | Marked::AbortedSleepers(sleepers) => sleepers.is_empty(),
         }
     }
 
@@ -49,6 +52,7 @@ impl Marked {
         match self {
             Marked::Waiters(waiters) => Some(Woken::Waiter(waiters.pop()?)),
             Marked::Sleepers(sleepers) => Some(Woken::Sleeper(sleepers.pop()?)),
+            Marked::AbortedSleepers(sleepers) => Some(Woken::AbortedSleeper(sleepers.pop()?)),
         }
     }
 }
@@ -60,7 +64,7 @@ impl Woken {
     {
         match self {
             Woken::Waiter(node) => node.thread(),
-            Woken::Sleeper(node) => node.thread(),
+            Woken::Sleeper(node) | Woken::AbortedSleeper(node) => node.thread(),
         }
     }
 }
@@ -75,7 +79,7 @@ pub fn wake(rec: &mut ThreadRec, woken: Woken)
 {
     match woken {
         Woken::Waiter(node) => rec.take_back(node),
-        Woken::Sleeper(node) => rec.take_back_sleepq(node),
+        Woken::Sleeper(node) | Woken::AbortedSleeper(node) => rec.take_back_sleepq(node),
     }
     rec.set_on(None);
 }

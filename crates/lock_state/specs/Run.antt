@@ -17,7 +17,7 @@ use Rattle.lock_model.specs.Holds.{Hold, NotHeld, Holds, is_unheld}
 use Rattle.lock_model.specs.Queues.{Mark, lock_queue, chan_queue, stands, taken_off}
 use Rattle.lock_model.specs.Events.{of_sleep, fell_asleep}
 use Rattle.lock_model.specs.History.{tables_of, left_in}
-use Rattle.lock_model.specs.Law.{IsLegal}
+use Rattle.lock_model.specs.Legal.{IsLegal}
 use Rattle.lock_model.specs.Orders.{first_to_forbid}
 use Rattle.lock_model.specs.Takes.{has_reversal}
 use Rattle.lock_model.specs.Text.{Outcome, QueueLine, Ending, IsDone, IsStuck, IsReversed, IsTooLong}

@@ -6,7 +6,7 @@ ghost use Rattle.std.specs.String.{string_bytes};
 ghost use Rattle.command_line.specs.Forms.{is_form, words_of};
 ghost use Rattle.command_line.specs.Ranges.{HasRanges};
 ghost use Rattle.lock_io.specs.Faults.{Rose};
-ghost use Rattle.lock_top.specs.Calls.{TellsForms, WritesAll, WritesOutput};
+ghost use Rattle.lock_top.specs.Calls.{TellsForms, WritesOutput, WritesWhole};
 ghost use Rattle.lock_top.specs.Output.{has_text, IsFaultOf, IsOutputSaid};
 ghost use Rattle.top_ends.specs.Calls.{ReadsBytes, TellsFaults, Wrote};
 ghost use Rattle.top_ends.specs.Statuses.{reads_all};
@@ -55,7 +55,7 @@ pub fn serve<
         (K.contents sink.old) (K.contents sink.new) }
     ensures complete { is_form (map string_bytes words.now) ≡ true
         → ¬ (Rose (S.faults source.old) (S.faults source.new)) → ¬ (Rose (K.faults sink.old) (K.faults sink.new))
-        → WritesAll result.status (S.remaining source.old) }
+        → WritesWhole result.status (S.remaining source.old) }
     ensures source { IfSome result.source
         (λ kept. IfSome (S.remaining source.old) (λ bytes. kept.items ≡ bytes)) }
     ensures kept { reads_all result.status ≡ true → IsSome result.source }

@@ -6,7 +6,9 @@
 //! - `reads`: how much of the source was read.
 //! - `read_fault`, `write_fault`: at which status which end has failed.
 //! - `writes`: the status and the text that was written belong to the words and the bytes of the source.
-//! - `complete`: where nothing fails, there is such a text, save for want of memory.
+//! - `complete`: where nothing fails, there is such a text, save for want of memory; and the run of an ordered plan's
+//!   threads is done.
+//! - `ordered`: no run of an ordered plan is stuck or reversed.
 ghost use Rattle.std.specs.Prelude.{◌≡◌, true, false, map, IfSome, IsSome, List, ℕ};
 ghost use Rattle.std.specs.String.{string_bytes};
 ghost use Rattle.command_line.specs.Forms.{is_form, is_run};
@@ -14,7 +16,7 @@ ghost use Rattle.command_line.specs.Ranges.{HasRanges};
 ghost use Rattle.lock_io.specs.Faults.{Rose};
 ghost use Rattle.lock_model.specs.Script.{IsAccepted};
 ghost use Rattle.lock_model.specs.declared.plan.Plan.{Plan};
-ghost use Rattle.lock_top.specs.Calls.{TellsForms, WritesAll, WritesOutput};
+ghost use Rattle.lock_top.specs.Calls.{NeverStops, TellsForms, WritesAll, WritesOutput};
 ghost use Rattle.lock_top.specs.Output.{has_text, IsLawfulRun};
 ghost use Rattle.tick_sleep.specs.Expiry.{TimesOutWhereDue};
 ghost use Rattle.top_ends.specs.Calls.{ReadsBytes, TellsFaults, Wrote};
@@ -48,7 +50,8 @@ pub fn lockrun<R: Threads + Wait + Sync, S: Source, K: Sink, G: Gate>(
         (K.contents sink.old) (K.contents sink.new) }
     ensures complete { is_form (map string_bytes words.now) ≡ true
         → ¬ (Rose (S.faults source.old) (S.faults source.new)) → ¬ (Rose (K.faults sink.old) (K.faults sink.new))
-        → WritesAll result (S.remaining source.old) }
+        → WritesAll (map string_bytes words.now) result (S.remaining source.old) }
+    ensures ordered { NeverStops result (S.remaining source.old) }
     ensures lawful { (bytes : List ℕ) (plan : Plan) (chains turns : ℕ)
         → IsAccepted bytes plan → IsLawfulRun plan chains turns }
     ensures timeouts { TimesOutWhereDue }
@@ -77,7 +80,8 @@ pub fn lockrun_served<R: Threads + Wait + Sync, S: Source, K: Sink, G: Gate>(
         (K.contents sink.old) (K.contents sink.new) }
     ensures complete { is_form (map string_bytes words.now) ≡ true
         → ¬ (Rose (S.faults source.old) (S.faults source.new)) → ¬ (Rose (K.faults sink.old) (K.faults sink.new))
-        → WritesAll result.status (S.remaining source.old) }
+        → WritesAll (map string_bytes words.now) result.status (S.remaining source.old) }
+    ensures ordered { NeverStops result.status (S.remaining source.old) }
     ensures source { IfSome result.source
         (λ kept. IfSome (S.remaining source.old) (λ bytes. kept.items ≡ bytes)) }
     ensures kept { reads_all result.status ≡ true → IsSome result.source }
@@ -119,7 +123,8 @@ pub fn lockrun_plain<S: Source, K: Sink>(
         (K.contents sink.old) (K.contents sink.new) }
     ensures complete { is_form (map string_bytes words.now) ≡ true
         → ¬ (Rose (S.faults source.old) (S.faults source.new)) → ¬ (Rose (K.faults sink.old) (K.faults sink.new))
-        → WritesAll result (S.remaining source.old) }
+        → WritesAll (map string_bytes words.now) result (S.remaining source.old) }
+    ensures ordered { NeverStops result (S.remaining source.old) }
     ensures lawful { (bytes : List ℕ) (plan : Plan) (chains turns : ℕ)
         → IsAccepted bytes plan → IsLawfulRun plan chains turns }
     ensures timeouts { TimesOutWhereDue }
@@ -156,7 +161,8 @@ pub fn lockrun_live<R: Threads + Wait + Sync, S: Source, K: Sink, G: Gate>(
         (K.contents sink.old) (K.contents sink.new) }
     ensures complete { is_form (map string_bytes words.now) ≡ true
         → ¬ (Rose (S.faults source.old) (S.faults source.new)) → ¬ (Rose (K.faults sink.old) (K.faults sink.new))
-        → WritesAll result (S.remaining source.old) }
+        → WritesAll (map string_bytes words.now) result (S.remaining source.old) }
+    ensures ordered { NeverStops result (S.remaining source.old) }
 {
     serve(
         alloc,

@@ -12,7 +12,8 @@ use Rattle.lock_model.specs.Halts.{entries_below, entries_since, ends_asleep, is
 use Rattle.lock_model.specs.History.{TicketsRun, open_in, entries_of}
 use Rattle.lock_model.specs.Holds.{NotHeld, Holds, is_unheld}
 use Rattle.lock_model.specs.Law as law
-use Rattle.lock_model.specs.Law.{IsLegal, LeadsTo, Point, Before, Asleep, Cut, IsAtEnd, EntriesFollowOperations, FollowsOperations, is_halt, is_named}
+use Rattle.lock_model.specs.Law.{LeadsTo, Point, Before, Asleep, Cut, IsAtEnd, EntriesFollowOperations, FollowsOperations, is_halt, is_named}
+use Rattle.lock_model.specs.Legal.{IsLegal}
 use Rattle.lock_model.specs.Operations.{IsProper, hold_in}
 use Rattle.lock_model.specs.OrderedPlans.{IsOrdered}
 use Rattle.lock_model.specs.Plans.{config_of, operations_of}
@@ -132,7 +133,7 @@ none_at (x ∷ xs) zero le = absurd (omega (arith, le))
 none_at (x ∷ xs) (suc i) le = none_at xs i (omega (arith, le))
 
 -- a number that is no thread's has no operations,
-no_operations : (plan : Plan) (t : ℕ) → length plan.threads ≤ t → operations_of plan t ≡ []
+pub no_operations : (plan : Plan) (t : ℕ) → length plan.threads ≤ t → operations_of plan t ≡ []
 no_operations plan t le =
     ap (λ x. unwrap_or x []) (slice_get-map (λ d. d.ops) plan.threads t
     ∙ ap (option_map (λ (d : ThreadDecl). d.ops)) (none_at plan.threads t le))
@@ -215,7 +216,10 @@ module _ (plan : Plan) (p : IsProper plan) (o : IsOrdered plan) where
 
   -- 3. The moment
 
-  module _ (history : List Entry) (legal : IsLegal plan true false history) (h : HaltsAreHonest c history) where
+  module _ (history : List Entry) (legal : IsLegal plan true false history) where
+    abbrev h : HaltsAreHonest c history
+    h = legal.halts_are_honest
+
     abbrev past : List Entry
     past = entries_below h.moment history
 

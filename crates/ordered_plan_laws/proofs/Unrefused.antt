@@ -6,7 +6,8 @@ use Rattle.lock_model.specs.Config.{Config}
 use Rattle.lock_model.specs.Events.{facets}
 use Rattle.lock_model.specs.History.{open_in, entries_of}
 use Rattle.lock_model.specs.Holds.{Holds, is_unheld}
-use Rattle.lock_model.specs.Law.{IsLegal, Point, EntriesFollowOperations}
+use Rattle.lock_model.specs.Law.{Point, EntriesFollowOperations}
+use Rattle.lock_model.specs.Legal.{IsLegal}
 use Rattle.lock_model.specs.Operations.{IsProper}
 use Rattle.lock_model.specs.OrderedPlans.{IsOrdered}
 use Rattle.lock_model.specs.Orders.{IsEdge, Forbids}

@@ -3,11 +3,10 @@
 
 ghost use Rattle.std.specs.Prelude.{◌≡◌, List, false, true};
 ghost use Rattle.std.specs.List.{list_any};
-ghost use Rattle.lock_model.specs.Halts.{HaltsAreHonest};
-ghost use Rattle.lock_model.specs.Law.{IsLegal, is_halt};
+ghost use Rattle.lock_model.specs.Law.{is_halt};
+ghost use Rattle.lock_model.specs.Legal.{IsLegal};
 ghost use Rattle.lock_model.specs.Operations.{IsProper};
 ghost use Rattle.lock_model.specs.OrderedPlans.{IsOrdered};
-ghost use Rattle.lock_model.specs.Plans.{config_of};
 ghost use Rattle.lock_model.specs.Takes.{has_reversal};
 ghost use Rattle.lock_model.specs.declared.event.Entry.{Entry};
 ghost use Rattle.lock_model.specs.declared.plan.Plan as plans;
@@ -18,9 +17,8 @@ pub fn legal_histories_have_no_refusal()
         → IsLegal plan true false history → has_reversal history ≡ false }
 {}
 
-/// and where its halts are honest nobody is halted.
-pub fn honest_histories_have_no_halt()
+/// and nobody is halted.
+pub fn legal_histories_have_no_halt()
     ensures { (plan : plans.Plan) (history : List Entry) → IsProper plan → IsOrdered plan
-        → IsLegal plan true false history → HaltsAreHonest (config_of plan) history
-        → list_any (λ e. is_halt e.event) history ≡ false }
+        → IsLegal plan true false history → list_any (λ e. is_halt e.event) history ≡ false }
 {}

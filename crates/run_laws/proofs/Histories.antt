@@ -1,12 +1,14 @@
 -- Worked histories, held against the law of a history: what it lets through and what it refuses. A law that is turned
 -- so that it asks for less is proved all the same, and no scheduled run has halts: nothing else here notices such
 -- turns.
-use Rattle.std.proofs.Common.{◌≡◌, ℕ, zero, suc, true, false, List, [], ◌∷◌, slice_get, Some, refl, sym, ap, subst, arith, ◌∙◌}
+use Rattle.std.proofs.Common.{◌≡◌, ℕ, zero, suc, ◌≤◌, true, false, List, [], ◌∷◌, slice_get, Some, refl, sym, ap, subst, arith, ◌∙◌}
 use Rattle.std.proofs.lemmas.Option.{same_Some}
 use Rattle.lock_model.specs.Config.{Config}
 use Rattle.lock_model.specs.Law as law
 use Rattle.lock_model.specs.Law.{LeadsTo, Gives, Point, Before, Asleep, Cut, is_asleep, is_named, entries_up_to, is_passed_over, WakingsNameSleepers, HaltsOnlyWhenRunning}
 use Rattle.lock_model.specs.Counts.{any_below, has_bit}
+use Rattle.lock_model.specs.Halts.{HaltsAreHonest, HaltsComeSince, is_honest_to, entries_below, entries_since}
+use Rattle.lock_model.specs.History.{sections_in}
 use Rattle.lock_model.specs.Operations.{held_of}
 use Rattle.lock_model.specs.declared.numbers.LockNo.{LockNo}
 use Rattle.lock_model.specs.declared.numbers.ChanNo.{ChanNo}
@@ -206,3 +208,16 @@ wakes_passed_over w = let z : false ≡ true = w.1 refl in cc
 halts_in_scheduled_run : HaltsOnlyWhenRunning false (entry 3 0 (HaltedChan chan) ∷ asleep) → ⊥
 unfolding HaltsOnlyWhenRunning
 halts_in_scheduled_run h = let z : true ≡ false = h.0 refl in cc
+
+-- and where nobody was halted no waking passes over a sleeper: here at no moment had thread 3, which wakes, slept or
+-- waited for a lock
+passes_over_unhalted : HaltsAreHonest sleepers (entry 3 3 (WokeAll chan 3) ∷ asleep) → ⊥
+unfolding HaltsComeSince entries_below entries_since is_named is_asleep has_bit any_below sections_in sleepers asleep
+passes_over_unhalted h = go h.moment (h.comes_first.1 2 refl) (h.honest 3 (omega arith))
+  where
+    go : (p : ℕ) → p ≤ 3 → is_honest_to sleepers p (entry 3 3 (WokeAll chan 3) ∷ asleep) 3 ≡ true → ⊥
+    go zero le e = cc
+    go (suc zero) le e = cc
+    go (suc (suc zero)) le e = cc
+    go (suc (suc (suc zero))) le e = cc
+    go (suc (suc (suc (suc n)))) le e = omega (arith, le)

@@ -9,7 +9,8 @@ use Rattle.lock_model.specs.Holds.{Hold, NotHeld, Holds, is_unheld}
 use Rattle.lock_model.specs.Operations.{IsProper, hold_in}
 use Rattle.lock_model.specs.Plans.{config_of, operations_of}
 use Rattle.lock_model.specs.Text.{IsStuck, IsTooLong}
-use Rattle.lock_model.specs.Law.{IsLegal, IsAtEnd, EntriesFollowOperations}
+use Rattle.lock_model.specs.Law.{IsAtEnd, EntriesFollowOperations}
+use Rattle.lock_model.specs.Legal.{IsLegal}
 use Rattle.lock_model.specs.declared.plan.Plan.{Plan}
 use Rattle.lock_model.specs.declared.plan.ThreadDecl.{ThreadDecl}
 use Rattle.lock_model.specs.declared.event.Held.{Held}
@@ -22,6 +23,7 @@ use Rattle.lock_laws.proofs.Shown.{true-any_below}
 use Rattle.order_laws.proofs.TakeFacts.Whole.{legal as orders_legal}
 use Rattle.run_laws.proofs.Idle.{done_awake}
 use Rattle.run_laws.proofs.Turning.{behind_turns, behind_course}
+use Rattle.run_laws.proofs.Unhalted.{halts_honest}
 
 -- 1. The end of a run: each thread has made all its operations or was cut, and holds and takes nothing
 
@@ -112,6 +114,8 @@ legal_on_track plan r cut_short k whole = record {
     whole = λ e. at_end plan r k (whole e) t;
   };
   orders_are_legal = λ e. orders_legal (config_of plan) r.state k.ordered k.taken (takes_nothing plan r k (whole e));
+  halts_are_honest = halts_honest plan r k;
+  busies_are_explained = λ e. absurd cc;
 }
 
 pub runs_are_legal : (plan : Plan) (turns : List ℕ) → IsProper plan → All (λ t. t < length plan.threads) turns → IsLegal plan false true (after_turns plan turns).state.history

@@ -17,6 +17,7 @@ pub mod TurnsOfSleeps
 pub mod TurnsOfOrders
 pub mod Turning
 pub mod KeepingOrder
+pub mod Unhalted
 pub mod LegalRuns
 pub mod Reaching
 pub mod Stuck

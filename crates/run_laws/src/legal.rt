@@ -4,7 +4,7 @@
 ghost use Rattle.std.specs.Prelude.{ℕ, ◌<◌, true, false, List, length};
 ghost use Rattle.std.specs.List.{All};
 ghost use Rattle.lock_model.specs.Operations.{IsProper};
-ghost use Rattle.lock_model.specs.Law.{IsLegal};
+ghost use Rattle.lock_model.specs.Legal.{IsLegal};
 ghost use Rattle.lock_model.specs.declared.plan.Plan as plans;
 ghost use Rattle.lock_state.specs.Run.{after_turns, course_after, ending_of, is_cut_short};
 ghost use Rattle.lock_state.specs.Run.{HasLegalHistory, scheduled_run};

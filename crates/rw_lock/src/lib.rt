@@ -10,10 +10,14 @@
 //! `go_on_taking` and `go_on_releasing` go on with it until it is done. A try part by part is `begin_try` and
 //! `go_on_trying` of `lock_calls`.
 //!
+//! `RwRelock` is for calls that wait on a condition or a channel with such a lock: they give it up and take it back.
+//!
 //! Each call needs a pass at rest and leaves it at rest, and tells which atomic steps it made. No call takes memory.
 #![tactic(auto)]
 
 mod locks;
+mod relock;
 
 pub use lock_calls::{Next, go_on_releasing, go_on_taking};
 pub use locks::{begin_read, begin_unlock, begin_write, read, try_read, try_write, unlock, write};
+pub use relock::RwRelock;

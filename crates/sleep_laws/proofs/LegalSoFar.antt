@@ -1,7 +1,8 @@
 -- The history of each lawful state keeps the law as far as that says nothing of operations.
 use Rattle.std.proofs.Common.{ℕ, Bool, true, List, [], ◌∷◌, Option}
 use Rattle.lock_model.specs.Config.{Config}
-use Rattle.lock_model.specs.Law.{IsLegalSoFar, HaltsOnlyWhenRunning}
+use Rattle.lock_model.specs.Law.{HaltsOnlyWhenRunning}
+use Rattle.lock_model.specs.Legal.{IsLegalSoFar}
 use Rattle.lock_model.specs.declared.event.Entry.{Entry}
 use Rattle.lock_state.specs.Facts.{Lawful}
 use Rattle.lock_state.specs.State.{State}

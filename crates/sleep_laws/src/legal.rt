@@ -2,7 +2,7 @@
 
 ghost use Rattle.std.specs.Prelude.{ℕ, true};
 ghost use Rattle.lock_model.specs.Config.{Config};
-ghost use Rattle.lock_model.specs.Law.{IsLegalSoFar};
+ghost use Rattle.lock_model.specs.Legal.{IsLegalSoFar};
 ghost use Rattle.lock_state.specs.Facts.{LawfulFloor};
 ghost use Rattle.lock_state.specs.State.{State};
 ghost use Rattle.sleep_laws.specs.Sleepers.{SleepersFit, by_chain};

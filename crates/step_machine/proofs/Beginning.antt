@@ -28,7 +28,7 @@ use Rattle.step_machine.specs.Runs.{IsAsFar, RepresentsRun}
 use Rattle.lock_objects.specs.Held.{holds_of}
 use Rattle.lock_objects.specs.Marked.{places_of, AreOfKind}
 use Rattle.lock_objects.specs.declared.marked.Marked.{Marked}
-use Rattle.lock_objects.specs.declared.marked.Marked.TheVariants.{Waiters, Sleepers}
+use Rattle.lock_objects.specs.declared.marked.Marked.TheVariants.{Waiters, Sleepers, AbortedSleepers}
 use Rattle.lock_objects.specs.Represents.{columns_of, mark_of, walk_of, wait_of}
 use Rattle.step_machine.specs.Represents.{Represents, RepresentsWords, RepresentsThread, RepresentsThreads}
 use Rattle.step_machine.specs.Steps.{progress}
@@ -68,6 +68,7 @@ new_pushed decls ths n th d long at new each t u e is_u is_e =
 no_kind : (c : Config) (q : QueueName) (marked : Marked) → places_of marked ≡ [] → AreOfKind c marked q
 no_kind c q (Waiters ps) none = λ some. absurd (some none)
 no_kind c q (Sleepers ps) none = λ some. absurd (some none)
+no_kind c q (AbortedSleepers ps) none = λ some. absurd (some none)
 
 -- what a new thread shows
 shown : (plan : Plan) (t : ℕ) (th : Thread) (d : ThreadDecl) → slice_get plan.threads t ≡ Some d → IsNew t d.base.0 th → RepresentsThread th (config_of plan) (start_state (config_of plan)) t
@@ -87,7 +88,7 @@ shown plan t th d at new =
       };
       one_loan_each = λ l. omega (arith, ap (λ (r : Record). loans_for l r.loans) new.its_record);
       held = record { once = λ l. omega (arith, ap (λ hs. holds_of l hs) new.holds_none); room = new.held_room };
-      marked = record { filled = rw new.unmarked (All-nil (λ (p : Place). IsSome p.object)); kind = no_kind (config_of plan) th.marked_from th.marked new.unmarked };
+      marked = record { filled = rw new.unmarked (All-nil (λ (p : Place). IsSome p.object)); kind = no_kind (config_of plan) th.marked_from th.marked new.unmarked; by_signal = λ some. absurd (some new.unmarked) };
     }
 
 -- the declaration of a thread

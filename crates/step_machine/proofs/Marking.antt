@@ -1,5 +1,5 @@
 -- The first of a marked list has its object back and is woken.
-use Rattle.std.proofs.Common.{◌≡◌, ℕ, ◌<◌, Bool, true, false, not, List, [], get_or, ◌∷◌, map, slice_get, slice_set, Option, Some, None, IsSome, unwrap_or, refl, sym, ap, subst, ◌∙◌}
+use Rattle.std.proofs.Common.{◌≡◌, ◌≢◌, ℕ, ◌<◌, Bool, true, false, not, List, [], get_or, ◌∷◌, map, slice_get, slice_set, Option, Some, None, IsSome, unwrap_or, refl, sym, ap, subst, ◌∙◌}
 use Rattle.std.specs.Box.{with_value}
 use Rattle.std.specs.Vec.{with_item}
 use Rattle.std.proofs.lemmas.List.Elements.{All-head, All-tail, All-same}
@@ -14,10 +14,10 @@ use Rattle.lock_laws.proofs.Standing.{marked_named, marked_thread, named_out, as
 use Rattle.sleep_queues.specs.Seen.{Place}
 use Rattle.thread_records.specs.Records.{Record}
 use Rattle.lock_objects.specs.Represents.{record_in, mark_of}
-use Rattle.lock_objects.specs.Marked.{places_of, AreOfKind, node_of, like, IsFirst, IsAway, record_woken}
+use Rattle.lock_objects.specs.Marked.{places_of, cause_in, cause_by, AreOfKind, node_of, like, IsFirst, IsAway, record_woken}
 use Rattle.lock_objects.specs.declared.marked.Marked.{Marked}
 use Rattle.lock_objects.specs.declared.marked.Woken.{Woken}
-use Rattle.lock_objects.specs.declared.marked.Woken.TheVariants.{Waiter, Sleeper}
+use Rattle.lock_objects.specs.declared.marked.Woken.TheVariants.{Waiter, Sleeper, AbortedSleeper}
 use Rattle.step_machine.specs.declared.machine.Machine.{Machine}
 use Rattle.step_machine.specs.declared.thread.Thread.{Thread}
 use Rattle.lock_objects.specs.declared.wait.Wait.TheVariants as wait
@@ -38,10 +38,17 @@ woken th r q = record th { «record» = with_value th.record r; wait = wait.Woke
 abbrev is_waiter : Woken → Bool
 is_waiter (Waiter b) = true
 is_waiter (Sleeper b) = false
+is_waiter (AbortedSleeper b) = false
 
 places_like : (w : Woken) (ps : List Place) → places_of (like w ps) ≡ ps
 places_like (Waiter b) ps = refl
 places_like (Sleeper b) ps = refl
+places_like (AbortedSleeper b) ps = refl
+
+cause_like : (w : Woken) (ps : List Place) → cause_in (like w ps) ≡ cause_by w
+cause_like (Waiter b) ps = refl
+cause_like (Sleeper b) ps = refl
+cause_like (AbortedSleeper b) ps = refl
 
 not_empty : (p : Place) (ps : List Place) → p ∷ ps ≡ [] → ⊥
 not_empty p ps z = absurd (cc)
@@ -50,16 +57,19 @@ not_empty p ps z = absurd (cc)
 of_queue : (c : Config) (q : QueueName) (w : Woken) (p : Place) (ps : List Place) → AreOfKind c (like w (p ∷ ps)) q → is_turnstile_queue c q ≡ is_waiter w
 of_queue c q (Waiter b) p ps h = h (not_empty p ps)
 of_queue c q (Sleeper b) p ps h = h (not_empty p ps)
+of_queue c q (AbortedSleeper b) p ps h = h (not_empty p ps)
 
 of_kind : (c : Config) (q : QueueName) (w : Woken) (ps : List Place) → is_turnstile_queue c q ≡ is_waiter w → AreOfKind c (like w ps) q
 of_kind c q (Waiter b) ps k = λ _. k
 of_kind c q (Sleeper b) ps k = λ _. k
+of_kind c q (AbortedSleeper b) ps k = λ _. k
 
 -- whose record names the queue has its object out
 is_out : (c : Config) (s : State) (u : ℕ) (q : QueueName) (w : Woken) (r : Record) → Lawful c s → s.blocked_on u ≡ Some q → is_turnstile_queue c q ≡ is_waiter w
     → r.turnstile ≡ s.turnstile u → r.sleep_queue ≡ s.sleep_queue u → IsAway w r
 is_out c s u q (Waiter b) r lawful e k x y = x ∙ named_out c s u q lawful e k
 is_out c s u q (Sleeper b) r lawful e k x y = y ∙ asleep_out c s u q lawful e (ap not k)
+is_out c s u q (AbortedSleeper b) r lawful e k x y = y ∙ asleep_out c s u q lawful e (ap not k)
 
 -- the object of a place that has one
 its_object : (o : Option ℕ) → IsSome o → o ≡ Some (unwrap_or o 0)
@@ -127,6 +137,7 @@ wakes : (c : Config) (s : State) (t : ℕ) (q : QueueName) (f : Woken) (ms : Lis
     → RepresentsThread w c (shorter c s t q (node_of f).place ms) (node_of f).place.thread → RepresentsThread (woken w (record_woken f w.record.value) q) c (after c s t q (node_of f).place ms) (node_of f).place.thread
 wakes c s t q (Waiter b) ms k has h = wakes_waiter c s t q b.value.place ms k has h
 wakes c s t q (Sleeper b) ms k has h = wakes_sleeper c s t q b.value.place ms k has h
+wakes c s t q (AbortedSleeper b) ms k has h = wakes_sleeper c s t q b.value.place ms k has h
 
 -- 3. A machine that makes both
 
@@ -166,6 +177,12 @@ module _ {m : Machine} {c : Config} {s : State} {t : ℕ} {th : Thread} {f : Wok
   pub has_object : IsSome p.object
   has_object = All-head (λ x. IsSome x.object) p ps (All-same (λ x. IsSome x.object) (p ∷ ps) (places_of th.marked) (sym places_are) old.marked.filled)
 
+  -- and a signal took it off, and the others too
+  by_signal_left : cause_in left ≡ BySignal
+  by_signal_left =
+      let some : places_of th.marked ≢ [] = λ e. not_empty p ps (sym places_are ∙ e) in
+      ap cause_in is.left ∙ cause_like f ps ∙ sym (ap cause_in is.was ∙ cause_like f (p ∷ ps)) ∙ old.marked.by_signal some
+
   shortened : RepresentsThread (with_marked th left) c (shorter c s t queue p ks) t
   shortened = record {
     columns = λ i. record (old.columns i) { marked = (others_marks ∙ sym (put_same s.marked t ks)) i };
@@ -174,6 +191,7 @@ module _ {m : Machine} {c : Config} {s : State} {t : ℕ} {th : Thread} {f : Wok
     marked = record {
       filled = All-tail (λ x. IsSome x.object) p ps (All-same (λ x. IsSome x.object) (p ∷ ps) (places_of th.marked) (sym places_are) old.marked.filled);
       kind = subst (λ (x : Marked). AreOfKind c x queue) (sym is.left) (of_kind c queue f ps its_queue);
+      by_signal = λ _. by_signal_left;
     };
   }
 

@@ -7,7 +7,7 @@ use Rattle.std.specs.Box.{with_value}
 use Rattle.lock_model.specs.Config.{Config}
 use Rattle.lock_model.specs.Holds.{NotHeld}
 use Rattle.lock_model.specs.Operations.{hold_in, without_lock}
-use Rattle.lock_model.specs.Queues.{Mark, lock_queue, chan_queue, is_turnstile_queue, list_of, dealt, taken_off}
+use Rattle.lock_model.specs.Queues.{Mark, BySignal, lock_queue, chan_queue, is_turnstile_queue, list_of, dealt, taken_off}
 use Rattle.lock_model.specs.Words.{Holder, Free, HeldBy, SharedBy, word_of, is_free, is_turnstile, without_one, opened, side_opened, side_woken}
 use Rattle.lock_model.specs.declared.plan.Kind.{Kind}
 use Rattle.lock_model.specs.declared.plan.Mode.{Mode}
@@ -27,7 +27,7 @@ use Rattle.turnstile_core.specs.Seen.{Turnstile}
 use Rattle.sleep_queues.specs.Seen.{SleepQueue, Place}
 use Rattle.thread_records.specs.Records.{Record}
 use Rattle.lock_objects.specs.Held.{holds_of}
-use Rattle.lock_objects.specs.Marked.{places_of, AreOfKind}
+use Rattle.lock_objects.specs.Marked.{places_of, cause_in, AreOfKind}
 use Rattle.lock_objects.specs.declared.marked.Marked.{Marked}
 use Rattle.lock_objects.specs.declared.marked.Marked.TheVariants.{Waiters, Sleepers}
 use Rattle.lock_objects.specs.Represents.{RepresentsQueues, RepresentsSleepers, RepresentsRecord, queue_in, sleepers_in, record_in, mark_of}
@@ -88,7 +88,7 @@ module _ {m : Machine} {c : Config} {s : State} (d : ℕ) (all : Bool) (h : Repr
           columns = λ i. record (old.columns i) { marked = (marks.0 ∙ sym (put_same s.marked t (dealt q (taken_off all (s.lists q).exclusive) (s.free_list q) (s.head q)))) i };
           one_loan_each = old.one_loan_each;
           held = old.held;
-          marked = record { filled = marks.1; kind = λ _. refl };
+          marked = record { filled = marks.1; kind = λ _. refl; by_signal = λ _. refl };
         }) wake_others)
 
 -- 3. A release by the last holder
@@ -151,9 +151,9 @@ put_down_progress l th same items left = ap progress_of same ∙ (λ i. record {
 module _ {m : Machine} {c : Config} {s : State} {t : ℕ} (h : Represents c m s) {th : Thread} (at : slice_get m.threads.items t ≡ Some th) where
   released : {l : ℕ} {mode : Mode} {chain : List (QueueName × Turnstile)} {sleepers : List (QueueName × SleepQueue)} {r : Record} {p : Thread} (n : State) (marked : Marked) (v : ℕ) → IsLastHolder c s t l mode → Opened c s n t l
       → word_of v ≡ opened (c.kind l) (s.word l) → RepresentsQueues c chain (queue_in n) n.loan_home → RepresentsSleepers c sleepers (sleepers_in n) → RepresentsRecord r (record_in n t)
-      → AreDealt (lock_queue l) (n.marked t) (places_of marked) → AreOfKind c marked (lock_queue l) → PutsDown l th p
+      → AreDealt (lock_queue l) (n.marked t) (places_of marked) → AreOfKind c marked (lock_queue l) → cause_in marked ≡ BySignal → PutsDown l th p
       → Represents c (record m { words = with_item m.words l v; chain = chain; sleepers = sleepers; threads = with_item m.threads t (record p { «record» = with_value p.record r; marked = marked; marked_from = lock_queue l }) }) n
-  released {l = l} {r = r} {p = p} n marked v g o word queues sleepers rec marks of_kind down =
+  released {l = l} {r = r} {p = p} n marked v g o word queues sleepers rec marks of_kind signal down =
       let old = h.threads.thread t th at in
       shown_by n h o.history o.edges (subst (RepresentsWords (with_item m.words l v).items c) (sym o.word) (word_changed m.words.items c s.word l v (opened (c.kind l) (s.word l)) h.words g.lock word)) queues sleepers
       (thread_changed n (record p { «record» = with_value p.record r; marked = marked; marked_from = lock_queue l }) h.threads g.thread (record {
@@ -167,7 +167,7 @@ module _ {m : Machine} {c : Config} {s : State} {t : ℕ} (h : Represents c m s)
           once = λ k. subst (λ hs. holds_of k hs ≤ 1) (sym down.items) (once_without l th.held.items old.held.once k);
           room = subst (λ i. 8 ≤ i) (sym down.room) old.held.room;
         };
-        marked = record { filled = marks.1; kind = of_kind };
+        marked = record { filled = marks.1; kind = of_kind; by_signal = λ _. signal };
       }) o.others)
 
   -- on a turnstile
@@ -191,7 +191,7 @@ module _ {m : Machine} {c : Config} {s : State} {t : ℕ} (h : Represents c m s)
         → AreDealt (lock_queue l) ((after_open c s t l).marked t) ps → PutsDown l th p
         → Represents c (record m { words = with_item m.words l v; chain = chain; threads = with_item m.threads t (record p { «record» = with_value p.record r; marked = Waiters ps; marked_from = lock_queue l }) }) (after_open c s t l)
     turnstile_opened ps v rel word queues rec marks down =
-        released (after_open c s t l) (Waiters ps) v rel opens_turnstile word queues (sleepers_stay c s (after_open c s t l) (lock_queue l) _ (open_changes s t l c) g.turnstile h.sleepers) rec marks (λ _. g.turnstile) down
+        released (after_open c s t l) (Waiters ps) v rel opens_turnstile word queues (sleepers_stay c s (after_open c s t l) (lock_queue l) _ (open_changes s t l c) g.turnstile h.sleepers) rec marks (λ _. g.turnstile) refl down
 
   -- on a sleep queue
   module _ {l : ℕ} {mode : Mode} (lawful : Lawful c s) (g : MayOpenSleep c s t l mode) where
@@ -236,4 +236,4 @@ module _ {m : Machine} {c : Config} {s : State} {t : ℕ} (h : Represents c m s)
         let b = balanced c s (lock_queue l) lawful in
         released n (Sleepers ps) v rel opens_sleep word queues_open (off c s n g.sleeps b (open_sleep_changes s t l c) h.sleepers)
         (subst (λ (r : Record). RepresentsRecord r (record_in n t)) (sym rec) (subst (RepresentsRecord th.record.value) (sym record_stays) (record_of (h.threads.thread t th at))))
-        (subst (λ ms. AreDealt (lock_queue l) ms ps) (sym marks_are) (takes c s g.sleeps b h.sleepers)) (λ _. g.sleeps) down
+        (subst (λ ms. AreDealt (lock_queue l) ms ps) (sym marks_are) (takes c s g.sleeps b h.sleepers)) (λ _. g.sleeps) refl down

@@ -1,6 +1,6 @@
 -- Which state of `lock_state` the objects of a machine show. Columns of which the objects do not tell, as looks and
 -- counts, are free: the scheduled run makes nothing of them.
-use Rattle.std.specs.Prelude.{◌≡◌, ℕ, ◌≤◌, ◌<◌, Bool, List, length, reverse, map, slice_get, get_or, option_map, is_some, Option, Some, IsSome}
+use Rattle.std.specs.Prelude.{◌≡◌, ◌≢◌, ℕ, ◌≤◌, ◌<◌, Bool, List, [], length, reverse, map, slice_get, get_or, option_map, is_some, Option, Some, IsSome}
 use Rattle.std.specs.List.{All}
 use Rattle.std.specs.Global.{Vec}
 use Rattle.std.specs.Vec.{vec_capacity}
@@ -10,7 +10,7 @@ use Rattle.lock_model.specs.Config.{Config}
 use Rattle.lock_state.specs.State.{State}
 use Rattle.lock_model.specs.Holds.{Hold}
 use Rattle.lock_state.specs.Run.{waits_on, was_cut}
-use Rattle.lock_model.specs.Queues.{Mark}
+use Rattle.lock_model.specs.Queues.{Mark, BySignal}
 use Rattle.lock_model.specs.History.{tables_of}
 use Rattle.lock_model.specs.Operations.{hold_in}
 use Rattle.lock_model.specs.declared.event.Held.{Held}
@@ -18,7 +18,7 @@ use Rattle.lock_model.specs.declared.plan.QueueName.{QueueName}
 use Rattle.witness_orders.specs.Graph.{RepresentsGraph}
 use Rattle.thread_records.specs.Loans.{loans_for}
 use Rattle.lock_objects.specs.Held.{holds_of}
-use Rattle.lock_objects.specs.Marked.{places_of, AreOfKind}
+use Rattle.lock_objects.specs.Marked.{places_of, cause_in, AreOfKind}
 use Rattle.lock_objects.specs.declared.marked.Marked.{Marked}
 use Rattle.lock_objects.specs.Represents.{RecordColumns, RepresentsQueues, RepresentsSleepers, queue_in, sleepers_in, record_in, columns_of, mark_of, walk_of, wait_of}
 use Rattle.step_machine.specs.declared.thread.Thread.{Thread}
@@ -76,10 +76,12 @@ pub record HoldsEachOnce (held : Vec Held) : Type 0 where
   pub once : (l : ℕ) → holds_of l held.items ≤ 1
   pub room : 8 ≤ vec_capacity held
 
--- each of those that were taken off has the object that it takes back
+-- each of those that were taken off has the object that it takes back, and a signal took it off: nobody is halted in a
+-- scheduled run
 pub record AreFilled (c : Config) (marked : Marked) (q : QueueName) : Type 0 where
   pub filled : All (λ p. IsSome p.object) (places_of marked)
   pub kind : AreOfKind c marked q
+  pub by_signal : places_of marked ≢ [] → cause_in marked ≡ BySignal
 
 -- the objects of a thread say of it what the columns say
 pub record RepresentsThread (th : Thread) (c : Config) (s : State) (t : ℕ) : Type 0 where

@@ -169,5 +169,6 @@ fn first_of(marked: &Marked) -> Option<ThreadNo>
     match marked {
         Marked::Waiters(waiters) => Some(waiters.first()?.thread()),
         Marked::Sleepers(sleepers) => Some(sleepers.first()?.thread()),
+        Marked::AbortedSleepers(sleepers) => Some(sleepers.first()?.thread()),
     }
 }

@@ -15,12 +15,16 @@
 //! `Halted`. No call ends a sleep so yet. A plan without channels can't come there: its orders forbid that threads wait
 //! for one another in a circle.
 //!
+//! `SxRelock` is for calls that wait on a condition or a channel with such a lock: they give it up and take it back.
+//!
 //! Each call needs a pass at rest and leaves it at rest, and tells which atomic steps it made. No call takes memory.
 #![tactic(auto)]
 
 mod locks;
+mod relock;
 
 pub use lock_calls::{Next, go_on_releasing, go_on_taking};
 pub use locks::{
     begin_slock, begin_unlock, begin_xlock, slock, try_slock, try_xlock, unlock, xlock,
 };
+pub use relock::SxRelock;

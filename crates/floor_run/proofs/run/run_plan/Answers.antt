@@ -3,6 +3,7 @@ use Rattle.floor_table.specs.Shares.{Share}
 use Rattle.floor_table.specs.Views.{Knowledge}
 use Rattle.lock_floor.specs.Floors.{Pass}
 use Rattle.lock_history.specs.Outcomes.{outcome_seen}
+use Rattle.floor_run.proofs.Ordered.{ordered_done}
 use Rattle.floor_run.proofs.Running.{parts, written_back, all_done, is_closing, left_legal, is_run}
 use Rattle.floor_run.proofs.run.run_plan.Goals as goal
 
@@ -36,8 +37,8 @@ outcome_of-requires g c =
           done c.gather_all.new.keeper.view.gathered gathered c.close-closing.result c.close-closing.ensures.closing;
     }
 
-pub returns : goal.returns
-returns g c =
+pub returns-clause-run : goal.returns-clause-run
+returns-clause-run g c =
     let plan = c.args.plan.now in
     let chains = c.args.chains in
     let floor = c.in_ok-floor.floor in
@@ -58,3 +59,7 @@ returns g c =
     c.gather_all.new.keeper.view.gathered gathered c.close-closing.result c.close-closing.ensures.logs closing in
     is_run plan chains c.close-closing.result closing (outcome_seen c.in_ok-outcome.outcome) legal
     (c.in_ok-outcome.ensures closing)
+
+pub returns-clause-ordered : goal.returns-clause-ordered
+returns-clause-ordered g c = λ i.
+    ordered_done c.args.plan.now (outcome_seen c.in_ok-outcome.outcome) c.requires.proper i (returns-clause-run g c).run

@@ -1,6 +1,6 @@
 use Rattle.std.proofs.Common.{◌<◌, length, sym, subst}
 use Rattle.floor_table.specs.declared.description.Description.{Description}
-use Rattle.lock_calls.specs.Waiting.{IsCalling}
+use Rattle.lock_calls.specs.Waiting.{CanAcquire}
 use Rattle.lock_calls.proofs.There.{may_take_own_there, may_ready_there, come_kept, come_there, may_look_in_section}
 use Rattle.lock_calls.proofs.Spun.{stays_coming, comes_there_on}
 use Rattle.lock_calls.proofs.blocking.come_in.Goals as goal
@@ -40,7 +40,7 @@ look-requires-clause-may c =
     c.ready.ensures.view
     (subst (λ (d : Description). c.thread-who.result.0 < length d.threads) c.requires.own.description
     c.thread-who.ensures.of_floor))
-    (subst (IsCalling c.args.floor.now.description)
+    (subst (CanAcquire c.args.floor.now.description)
     (sym (come_kept c.args.floor.now.description c.args.l.0 c.args.pass.now.view c.requires.under_way.there
     c.requires.under_way.calling.going c.thread-who.result.0
     c.thread-who.ensures.same c.try_take_rec.new.pass.view (c.try_take_rec.ensures.out c.if-not-try_take_rec.false)

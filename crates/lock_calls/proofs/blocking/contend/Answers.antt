@@ -1,7 +1,6 @@
 use Rattle.std.proofs.Common.{inl, inr, arith}
 use Rattle.lock_model.specs.Queues.{lock_queue}
 use Rattle.lock_calls.proofs.Contended.{may_run_on, both_ran, runs_on, unbound_on, going_on, gained_there, ends_there, both_stands, stands_on, unbound_stands, going_stands, enters_on, misses_on}
-use Rattle.lock_calls.proofs.Noting.{may_note_lock, room_to_note, note_step, taken}
 use Rattle.lock_calls.proofs.blocking.contend.Goals as goal
 
 pub ready-requires-clause-may : goal.ready-requires-clause-may
@@ -34,48 +33,19 @@ give_both-requires-clause-going c =
     c.requires.under_way.calling c.requires.under_way.there.there
     (rw c.in-Ok-None.field-0-is at c.in-Ok-None.ensures.gained) c.ready.new.pass.view c.ready.ensures.view
 
-pub note_taken-requires-clause-room : goal.note_taken-requires-clause-room
-note_taken-requires-clause-room c =
-    room_to_note c.args.floor.now.description c.args.l c.args.mode c.args.pass.now.view c.give_both.new.pass.view
-    c.requires.under_way.calling c.requires.under_way.room
-    (gained_there c.args.floor.now.description c.args.l c.args.mode c.args.pass.now.view c.attempt_there.new.pass.view
+pub returns-in-Ok-None-clause-gained : goal.returns-in-Ok-None-clause-gained
+returns-in-Ok-None-clause-gained c =
+    gained_there c.args.floor.now.description c.args.l c.args.mode c.args.pass.now.view c.attempt_there.new.pass.view
     c.requires.under_way.calling c.requires.under_way.there.there
     (rw c.in-Ok-None.field-0-is at c.in-Ok-None.ensures.gained) c.ready.new.pass.view c.ready.ensures.view
-    c.give_both.new.pass.view c.give_both.ensures.view)
-
-pub note_taken-requires-clause-may : goal.note_taken-requires-clause-may
-note_taken-requires-clause-may c =
-    may_note_lock c.args.floor.now.description c.args.l c.args.mode c.args.pass.now.view c.give_both.new.pass.view
-    c.requires.under_way.calling c.requires.under_way.room
-    (gained_there c.args.floor.now.description c.args.l c.args.mode c.args.pass.now.view c.attempt_there.new.pass.view
-    c.requires.under_way.calling c.requires.under_way.there.there
-    (rw c.in-Ok-None.field-0-is at c.in-Ok-None.ensures.gained) c.ready.new.pass.view c.ready.ensures.view
-    c.give_both.new.pass.view c.give_both.ensures.view)
-
-pub returns-in-Ok-None-clause-taken : goal.returns-in-Ok-None-clause-taken
-returns-in-Ok-None-clause-taken c =
-    taken c.args.floor.now.description c.args.l c.args.mode c.args.pass.now.view c.give_both.new.pass.view
-    c.requires.under_way.calling c.requires.under_way.room
-    (gained_there c.args.floor.now.description c.args.l c.args.mode c.args.pass.now.view c.attempt_there.new.pass.view
-    c.requires.under_way.calling c.requires.under_way.there.there
-    (rw c.in-Ok-None.field-0-is at c.in-Ok-None.ensures.gained) c.ready.new.pass.view c.ready.ensures.view
-    c.give_both.new.pass.view c.give_both.ensures.view)
-    c.note_taken.new.pass.view c.note_taken.result c.note_taken.ensures.view c.note_taken.ensures.step
+    c.give_both.new.pass.view c.give_both.ensures.view
 
 pub returns-in-Ok-None-clause-end : goal.returns-in-Ok-None-clause-end
 returns-in-Ok-None-clause-end c =
     ends_there c.args.floor.now.description c.args.l c.args.mode c.args.pass.now.view c.attempt_there.new.pass.view
     c.requires.under_way.calling c.requires.under_way.there.there
     (rw c.in-Ok-None.field-0-is at c.in-Ok-None.ensures.gained) c.ready.new.pass.view c.ready.ensures.view
-    c.give_both.new.pass.view c.give_both.ensures.view c.args.seen c.note_taken.new.pass.view c.ready.ensures.step
-    c.give_both.ensures.steps
-    (note_step c.args.floor.now.description c.args.l c.args.mode c.args.pass.now.view c.give_both.new.pass.view
-    c.requires.under_way.calling c.requires.under_way.room
-    (gained_there c.args.floor.now.description c.args.l c.args.mode c.args.pass.now.view c.attempt_there.new.pass.view
-    c.requires.under_way.calling c.requires.under_way.there.there
-    (rw c.in-Ok-None.field-0-is at c.in-Ok-None.ensures.gained) c.ready.new.pass.view c.ready.ensures.view
-    c.give_both.new.pass.view c.give_both.ensures.view)
-    c.note_taken.new.pass.view c.note_taken.result c.note_taken.ensures.view c.note_taken.ensures.step)
+    c.give_both.new.pass.view c.give_both.ensures.view c.args.seen c.ready.ensures.step c.give_both.ensures.steps
 
 pub give_both-requires-in-Ok-Some-clause-both : goal.give_both-requires-in-Ok-Some-clause-both
 give_both-requires-in-Ok-Some-clause-both c =

@@ -3,7 +3,6 @@ use Rattle.lock_model.specs.declared.event.Reversal.{Reversal}
 use Rattle.floor_table.specs.Descriptions.{config_in}
 use Rattle.lock_floor.specs.Ordering.{ChecksOrder}
 use Rattle.lock_calls.proofs.Checked.{stays_checking, gained_checked, ends_checked, spins_checked}
-use Rattle.lock_calls.proofs.Noting.{may_note_lock, note_step, taken}
 use Rattle.lock_calls.proofs.Refused.{may_note_refusal, is_refused}
 use Rattle.lock_calls.proofs.checking.check.Goals as goal
 
@@ -23,32 +22,17 @@ returns-in-None-clause-on c =
 
 -- 1. It was admitted
 
-pub note_taken-requires-clause-may : goal.note_taken-requires-clause-may
-note_taken-requires-clause-may c =
+pub returns-then-seek-clause-gained : goal.returns-then-seek-clause-gained
+returns-then-seek-clause-gained c =
     let floor = c.args.floor.now.description in
     let l = c.args.l in
     let mode = c.args.mode in
     let old = c.args.pass.now.view in
     let mid = c.try_order.new.pass.view in
-    let u = c.requires.under_way in
     let checked = subst (λ r. IfOk r (λ x. ChecksOrder floor l.0 None old mid)) c.in-Some-Ok.field-0-is
     c.in-Some-Ok.ensures.admitted in
-    may_note_lock floor l mode old c.seek.new.pass.view u.calling u.room
-    (gained_checked floor l mode old mid u.there checked c.seek.new.pass.view (c.seek.ensures.gained c.if-seek.true))
-
-pub returns-then-seek-clause-taken : goal.returns-then-seek-clause-taken
-returns-then-seek-clause-taken c =
-    let floor = c.args.floor.now.description in
-    let l = c.args.l in
-    let mode = c.args.mode in
-    let old = c.args.pass.now.view in
-    let mid = c.try_order.new.pass.view in
-    let u = c.requires.under_way in
-    let checked = subst (λ r. IfOk r (λ x. ChecksOrder floor l.0 None old mid)) c.in-Some-Ok.field-0-is
-    c.in-Some-Ok.ensures.admitted in
-    taken floor l mode old c.seek.new.pass.view u.calling u.room
-    (gained_checked floor l mode old mid u.there checked c.seek.new.pass.view (c.seek.ensures.gained c.if-seek.true))
-    c.note_taken.new.pass.view c.note_taken.result c.note_taken.ensures.view c.note_taken.ensures.step
+    gained_checked floor l mode old mid c.requires.under_way.there checked c.seek.new.pass.view
+    (c.seek.ensures.gained c.if-seek.true)
 
 pub returns-then-seek-clause-end : goal.returns-then-seek-clause-end
 returns-then-seek-clause-end c =
@@ -57,14 +41,10 @@ returns-then-seek-clause-end c =
     let mode = c.args.mode in
     let old = c.args.pass.now.view in
     let mid = c.try_order.new.pass.view in
-    let v = c.seek.new.pass.view in
-    let u = c.requires.under_way in
     let checked = subst (λ r. IfOk r (λ x. ChecksOrder floor l.0 None old mid)) c.in-Some-Ok.field-0-is
     c.in-Some-Ok.ensures.admitted in
-    let gains = c.seek.ensures.gained c.if-seek.true in
-    ends_checked floor l mode old mid u.there checked v gains c.note_taken.new.pass.view
-    (note_step floor l mode old v u.calling u.room (gained_checked floor l mode old mid u.there checked v gains)
-    c.note_taken.new.pass.view c.note_taken.result c.note_taken.ensures.view c.note_taken.ensures.step)
+    ends_checked floor l mode old mid c.requires.under_way.there checked c.seek.new.pass.view
+    (c.seek.ensures.gained c.if-seek.true)
 
 pub returns-else-seek-clause-on : goal.returns-else-seek-clause-on
 returns-else-seek-clause-on c =

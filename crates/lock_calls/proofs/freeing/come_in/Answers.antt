@@ -11,14 +11,14 @@ try_take_rec-requires-clause-thread c =
 
 pub try_take_rec-requires-clause-may : goal.try_take_rec-requires-clause-may
 try_take_rec-requires-clause-may c =
-    may_take_own c.args.floor.now.description c.args.l c.args.mode c.args.pass.now.view c.requires.under_way.there
+    may_take_own c.args.floor.now.description c.args.l c.args.mode c.args.pass.now.view c.requires.there
     c.thread-who.result.0 c.thread-who.ensures.same
     (subst (λ (d : Description). c.thread-who.result.0 < length d.threads) c.requires.own.description
     c.thread-who.ensures.of_floor)
 
 pub returns-then-not-try_take_rec-clause-on : goal.returns-then-not-try_take_rec-clause-on
 returns-then-not-try_take_rec-clause-on c =
-    stays_coming_in c.args.floor.now.description c.args.l c.args.mode c.args.pass.now.view c.requires.under_way.there
+    stays_coming_in c.args.floor.now.description c.args.l c.args.mode c.args.pass.now.view c.requires.there
     c.thread-who.result.0 c.thread-who.ensures.same
     c.try_take_rec.new.pass.view (c.try_take_rec.ensures.left c.if-not-try_take_rec.true)
     (c.try_take_rec.ensures.elsewhere c.if-not-try_take_rec.true)
@@ -26,15 +26,15 @@ returns-then-not-try_take_rec-clause-on c =
 pub look-requires-clause-may : goal.look-requires-clause-may
 look-requires-clause-may c =
     may_look_own c.args.floor.now.description c.args.l.0 c.args.mode c.try_take_rec.new.pass.view
-    c.requires.under_way.covered
-    (may_let_now c.args.floor.now.description c.args.l c.args.mode c.args.pass.now.view c.requires.under_way.there
+    c.requires.lock
+    (may_let_now c.args.floor.now.description c.args.l c.args.mode c.args.pass.now.view c.requires.there
     c.thread-who.result.0 c.thread-who.ensures.same
     c.try_take_rec.new.pass.view (c.try_take_rec.ensures.out c.if-not-try_take_rec.false))
     c.try_take_rec.ensures.own.description
 
 pub returns-clause-on : goal.returns-clause-on
 returns-clause-on c =
-    comes_in_on c.args.floor.now.description c.args.l c.args.mode c.args.pass.now.view c.requires.under_way.there
+    comes_in_on c.args.floor.now.description c.args.l c.args.mode c.args.pass.now.view c.requires.there
     c.thread-who.result.0 c.thread-who.ensures.same
     c.try_take_rec.new.pass.view (c.try_take_rec.ensures.out c.if-not-try_take_rec.false) c.look.result
     c.look.new.pass.view c.look.ensures.word

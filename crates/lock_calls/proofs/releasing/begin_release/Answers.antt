@@ -3,7 +3,8 @@ use Rattle.floor_table.specs.Views.{Knowledge}
 use Rattle.lock_floor.specs.declared.calls.Call.TheVariants as calls
 use Rattle.lock_calls.specs.Releases.{ReleasesAtOnce}
 use Rattle.lock_calls.proofs.Calls.{own_noted, view_noted, call_noted}
-use Rattle.lock_calls.proofs.Released.{may_note_release, few_threads, own_drops, own_is_held, may_drop_own, may_look_held, leaving_noted, other_own, at_once, begins}
+use Rattle.lock_calls.proofs.Outside.{may_look_held}
+use Rattle.lock_calls.proofs.Released.{may_note_release, few_threads, own_drops, own_is_held, may_drop_own, leaving_noted, other_own, at_once, begins}
 use Rattle.lock_calls.proofs.releasing.begin_release.Goals as goal
 
 pub stamp-requires-clause-may : goal.stamp-requires-clause-may
@@ -35,7 +36,7 @@ put_down-requires-clause-may c =
     c.requires.may.covered.lock c.gained-own.ensures.word
     (leaving_noted c.args.floor.now.description c.args.l c.args.mode c.stamp.result c.args.pass.now.view
     c.stamp.new.pass.view c.args.pass.now.view
-    c.requires.ready.rest c.requires.may.held c.requires.may.room c.stamp.ensures.view).may
+    c.requires.ready.rest c.requires.may.held c.requires.may.room c.stamp.ensures.view)
 
 pub put_down-requires-clause-may_look : goal.put_down-requires-clause-may_look
 put_down-requires-clause-may_look c =
@@ -44,7 +45,7 @@ put_down-requires-clause-may_look c =
     c.requires.may.covered.lock
     (leaving_noted c.args.floor.now.description c.args.l c.args.mode c.stamp.result c.args.pass.now.view
     c.stamp.new.pass.view c.args.pass.now.view
-    c.requires.ready.rest c.requires.may.held c.requires.may.room c.stamp.ensures.view).may
+    c.requires.ready.rest c.requires.may.held c.requires.may.room c.stamp.ensures.view)
 
 pub returns-in-Ok-clause-own : goal.returns-in-Ok-clause-own
 returns-in-Ok-clause-own c =

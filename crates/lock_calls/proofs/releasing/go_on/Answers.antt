@@ -1,77 +1,52 @@
-use Rattle.std.proofs.Common.{sym, subst}
+use Rattle.std.proofs.Common.{subst}
 use Rattle.lock_floor.specs.declared.calls.Call.TheVariants as calls
-use Rattle.lock_floor.specs.declared.calls.ReleaseAt.TheVariants.{ComesTo, ComesIn, Frees}
-use Rattle.lock_calls.specs.Releases.{IsUnderRelease, GoesOnReleasing}
+use Rattle.lock_floor.specs.declared.calls.ReleaseAt.TheVariants.{Wakes}
+use Rattle.lock_calls.specs.Releases.{ReleasesPart}
 use Rattle.lock_calls.proofs.Calls.{own_noted}
-use Rattle.lock_calls.proofs.Woken.{release_stands}
+use Rattle.lock_calls.proofs.Woken.{release_ends, release_stands, release_wakes}
 use Rattle.lock_calls.proofs.releasing.go_on.Goals as goal
 
-pub drop_on-requires-clause-under_way : goal.drop_on-requires-clause-under_way
-drop_on-requires-clause-under_way c =
-    subst (λ a. IsUnderRelease c.args.floor.now.description c.args.l c.args.mode a c.args.pass.now.view) c.in-Drops.is
-    c.requires.under_way
+pub release_on-requires-clause-lock : goal.release_on-requires-clause-lock
+release_on-requires-clause-lock c = c.requires.under_way.covered.lock
 
-pub returns-in-Drops-clause-went : goal.returns-in-Drops-clause-went
-returns-in-Drops-clause-went c =
-    subst (λ a. GoesOnReleasing c.args.floor.now.description c.args.l c.args.mode a c.drop_on.result c.args.pass.now
-    c.drop_on.new.pass) (sym c.in-Drops.is)
-    c.drop_on.ensures.went
+pub release_on-requires-clause-there : goal.release_on-requires-clause-there
+release_on-requires-clause-there c = c.requires.under_way.there
 
-pub come_to-to-requires-clause-under_way : goal.come_to-to-requires-clause-under_way
-come_to-to-requires-clause-under_way c =
-    subst (λ a. IsUnderRelease c.args.floor.now.description c.args.l c.args.mode a c.args.pass.now.view) c.in-ComesTo.is
-    c.requires.under_way
+pub returns-in-Done-clause-own : goal.returns-in-Done-clause-own
+returns-in-Done-clause-own c =
+    own_noted c.args.floor.now c.release_on.new.pass c.set_call.new.self calls.None c.set_call.ensures
+    c.release_on.ensures.own
 
-pub returns-in-ComesTo-clause-own : goal.returns-in-ComesTo-clause-own
-returns-in-ComesTo-clause-own c =
-    own_noted c.args.floor.now c.come_to-to.new.pass c.stand.new.pass
-    (calls.Release c.args.l c.args.mode c.come_to-to.result) c.stand.ensures c.come_to-to.ensures.own
+pub returns-in-Done-clause-went : goal.returns-in-Done-clause-went
+returns-in-Done-clause-went c =
+    release_ends c.args.floor.now.description c.args.l c.args.mode c.args.at c.args.pass.now c.release_on.new.pass
+    c.set_call.new.self c.requires.under_way
+    (subst (λ n. ReleasesPart c.args.floor.now.description c.args.l c.args.mode c.args.at n c.args.pass.now.view
+    c.release_on.new.pass.view) c.in-Done.is c.release_on.ensures.part)
+    c.set_call.ensures
 
-pub returns-in-ComesTo-clause-went : goal.returns-in-ComesTo-clause-went
-returns-in-ComesTo-clause-went c =
-    release_stands c.args.floor.now.description c.args.l c.args.mode c.args.pass.now c.come_to-to.new.pass
-    c.stand.new.pass c.args.at ComesTo c.come_to-to.result
-    c.in-ComesTo.is c.come_to-to.ensures.on c.stand.ensures
+pub returns-in-At-clause-own : goal.returns-in-At-clause-own
+returns-in-At-clause-own c =
+    own_noted c.args.floor.now c.release_on.new.pass c.stand.new.pass
+    (calls.Release c.args.l c.args.mode c.in-At.to) c.stand.ensures c.release_on.ensures.own
 
-pub come_in-to-requires-clause-under_way : goal.come_in-to-requires-clause-under_way
-come_in-to-requires-clause-under_way c =
-    subst (λ a. IsUnderRelease c.args.floor.now.description c.args.l c.args.mode a c.args.pass.now.view) c.in-ComesIn.is
-    c.requires.under_way
+pub returns-in-At-clause-went : goal.returns-in-At-clause-went
+returns-in-At-clause-went c =
+    release_stands c.args.floor.now.description c.args.l c.args.mode c.args.at c.args.pass.now c.release_on.new.pass
+    c.stand.new.pass c.requires.under_way c.in-At.to
+    (subst (λ n. ReleasesPart c.args.floor.now.description c.args.l c.args.mode c.args.at n c.args.pass.now.view
+    c.release_on.new.pass.view) c.in-At.is c.release_on.ensures.part)
+    c.stand.ensures
 
-pub returns-in-ComesIn-clause-own : goal.returns-in-ComesIn-clause-own
-returns-in-ComesIn-clause-own c =
-    own_noted c.args.floor.now c.come_in-to.new.pass c.stand-in-ComesIn.new.pass
-    (calls.Release c.args.l c.args.mode c.come_in-to.result) c.stand-in-ComesIn.ensures c.come_in-to.ensures.own
+pub returns-in-Wake-clause-own : goal.returns-in-Wake-clause-own
+returns-in-Wake-clause-own c =
+    own_noted c.args.floor.now c.release_on.new.pass c.stand-in-Wake.new.pass
+    (calls.Release c.args.l c.args.mode Wakes) c.stand-in-Wake.ensures c.release_on.ensures.own
 
-pub returns-in-ComesIn-clause-went : goal.returns-in-ComesIn-clause-went
-returns-in-ComesIn-clause-went c =
-    release_stands c.args.floor.now.description c.args.l c.args.mode c.args.pass.now c.come_in-to.new.pass
-    c.stand-in-ComesIn.new.pass c.args.at ComesIn c.come_in-to.result
-    c.in-ComesIn.is c.come_in-to.ensures.on c.stand-in-ComesIn.ensures
-
-pub let_go-to-requires-clause-under_way : goal.let_go-to-requires-clause-under_way
-let_go-to-requires-clause-under_way c =
-    subst (λ a. IsUnderRelease c.args.floor.now.description c.args.l c.args.mode a c.args.pass.now.view) c.in-Frees.is
-    c.requires.under_way
-
-pub returns-in-Frees-clause-own : goal.returns-in-Frees-clause-own
-returns-in-Frees-clause-own c =
-    own_noted c.args.floor.now c.let_go-to.new.pass c.stand-in-Frees.new.pass
-    (calls.Release c.args.l c.args.mode c.let_go-to.result) c.stand-in-Frees.ensures c.let_go-to.ensures.own
-
-pub returns-in-Frees-clause-went : goal.returns-in-Frees-clause-went
-returns-in-Frees-clause-went c =
-    release_stands c.args.floor.now.description c.args.l c.args.mode c.args.pass.now c.let_go-to.new.pass
-    c.stand-in-Frees.new.pass c.args.at (Frees c.in-Frees.seen) c.let_go-to.result
-    c.in-Frees.is c.let_go-to.ensures.on c.stand-in-Frees.ensures
-
-pub wake_on-requires-clause-under_way : goal.wake_on-requires-clause-under_way
-wake_on-requires-clause-under_way c =
-    subst (λ a. IsUnderRelease c.args.floor.now.description c.args.l c.args.mode a c.args.pass.now.view) c.in-Wakes.is
-    c.requires.under_way
-
-pub returns-in-Wakes-clause-went : goal.returns-in-Wakes-clause-went
-returns-in-Wakes-clause-went c =
-    subst (λ a. GoesOnReleasing c.args.floor.now.description c.args.l c.args.mode a c.wake_on.result c.args.pass.now
-    c.wake_on.new.pass) (sym c.in-Wakes.is)
-    c.wake_on.ensures.went
+pub returns-in-Wake-clause-went : goal.returns-in-Wake-clause-went
+returns-in-Wake-clause-went c =
+    release_wakes c.args.floor.now.description c.args.l c.args.mode c.args.at c.args.pass.now c.release_on.new.pass
+    c.stand-in-Wake.new.pass c.requires.under_way c.in-Wake.t
+    (subst (λ n. ReleasesPart c.args.floor.now.description c.args.l c.args.mode c.args.at n c.args.pass.now.view
+    c.release_on.new.pass.view) c.in-Wake.is c.release_on.ensures.part)
+    c.stand-in-Wake.ensures

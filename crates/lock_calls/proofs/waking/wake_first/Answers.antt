@@ -2,14 +2,13 @@ use Rattle.std.proofs.Common.{◌<◌, length, refl, sym, subst}
 use Rattle.floor_table.specs.declared.description.Description.{Description}
 use Rattle.lock_state.specs.Steps.Items.{RecordOf}
 use Rattle.lock_floor.specs.Latches.{FindsOut}
-use Rattle.lock_calls.proofs.Leaving.{can_mark}
 use Rattle.lock_calls.proofs.waking.wake_first.Goals as goal
 
 pub returns-in-None-clause-wakes : goal.returns-in-None-clause-wakes
 returns-in-None-clause-wakes c = (c.in-None.ensures.none, refl)
 
 pub try_wake-requires-clause-may : goal.try_wake-requires-clause-may
-try_wake-requires-clause-may c = can_mark c.args.floor.now.description c.args.pass.now.view c.requires.rest
+try_wake-requires-clause-may c = c.requires.may
 
 pub try_wake-requires-clause-first : goal.try_wake-requires-clause-first
 try_wake-requires-clause-first c = c.in-Some.ensures.some
@@ -30,6 +29,7 @@ pub returns-else-try_wake-clause-wakes : goal.returns-else-try_wake-clause-wakes
 returns-else-try_wake-clause-wakes c =
     let first = c.in-Some.ensures.some in
     let missed = c.if-try_wake.false in (
+      refl,
       first.0,
       first.1,
       first.2,

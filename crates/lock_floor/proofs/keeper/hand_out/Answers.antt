@@ -72,6 +72,7 @@ invariant_of-push_reserved c =
       done = λ e. absurd cc;
       runs = λ e. absurd cc;
       rests = λ e. absurd cc;
+      bare = λ e. absurd cc;
     }
 
 pub loop-t-preserved : goal.loop-t-preserved

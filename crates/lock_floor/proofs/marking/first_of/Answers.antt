@@ -16,3 +16,13 @@ returns-in_ok-first-in-Sleepers-clause-some c =
           ∙ c.in_ok-first-in-Sleepers.ensures.some,
       sym c.thread-in-Sleepers.ensures,
     )
+
+pub returns-in_ok-first-in-AbortedSleepers-clause-some : goal.returns-in_ok-first-in-AbortedSleepers-clause-some
+returns-in_ok-first-in-AbortedSleepers-clause-some c =
+    let n = c.in_ok-first-in-AbortedSleepers.field-0.now in (
+      n.place,
+      n.next,
+      ap places_of c.in-AbortedSleepers.is
+          ∙ c.in_ok-first-in-AbortedSleepers.ensures.some,
+      sym c.thread-in-AbortedSleepers.ensures,
+    )

@@ -72,5 +72,6 @@ returns-clause-closing c =
       records = λ t d low. c.take_records.ensures.records t d (subst (λ n. t < n) (sym same) low);
       values = λ l k. values l k ∙ ap (λ ks. cond (list_any (is_cell l k) ks) (column l k) None) keys;
       none_taken = c.keeper.invariant.none_taken;
+      none_held = c.keeper.invariant.none_held;
       going = refl;
     })

@@ -1,4 +1,4 @@
-use Rattle.std.proofs.Common.{rules, ◌≡◌, ℕ, List, None, refl, ap, sym, ◌∙◌, subst, length, map, arith}
+use Rattle.std.proofs.Common.{rules, ◌≡◌, ℕ, List, [], None, refl, ap, sym, ◌∙◌, subst, length, map, arith}
 use Rattle.std.specs.List.{Contains}
 use Rattle.std.proofs.lemmas.List.Elements.{All-nil}
 use Rattle.atomic_table.specs.Table.{Me, opening}
@@ -35,6 +35,7 @@ invariant_of-keeper c =
       none_out = refl;
       logs_are = ap (map (λ b. b.entries)) c.in_ok-logs.ensures.items;
       none_taken = All-nil (λ (g : ℕ × Share). g.1.doing.taking ≡ None);
+      none_held = All-nil (λ (g : ℕ × Share). g.1.held ≡ []);
       room_for_logs = omega (arith, c.in_ok-logs.ensures.capacity, ap length c.as_slice-count.ensures);
       room_for_records = omega (arith, c.in_ok-recs.ensures.capacity, ap length c.as_slice-count.ensures);
       no_records = c.in_ok-recs.ensures.items;

@@ -74,6 +74,7 @@ invariant_of-self c =
     let w : Knowledge = c.pass.inside.seat.me.0 in
     let over = ap (λ (p : Pass Knowledge). p.finished) c.pass.view_is ∙ c.requires.finished.finished in
     let rests : ℕ × Share → Type 0 = λ g. g.1.doing.taking ≡ None in
+    let bares : ℕ × Share → Type 0 = λ g. g.1.held ≡ [] in
     subst (λ (m : Me Slot Knowledge). IsKept c.push_reserved.new.self c.self.inside.recs c.self.inside.tables c.ask.new.seat.id m) (sym (behind c)) record {
       first = c.ask.ensures.id ∙ c.join_seat.ensures.1 ∙ k.first;
       role = k.role;
@@ -85,6 +86,8 @@ invariant_of-self c =
           ∙ sym (map_push (λ (g : ℕ × Share). reverse g.1.log) v.gathered (w.thread, w.share));
       none_taken = All-append rests v.gathered ((w.thread, w.share) ∷ []) k.none_taken
           (All-cons rests (w.thread, w.share) [] (c.pass.invariant.rests over) (All-nil rests));
+      none_held = All-append bares v.gathered ((w.thread, w.share) ∷ []) k.none_held
+          (All-cons bares (w.thread, w.share) [] (c.pass.invariant.bare over) (All-nil bares));
       room_for_logs = omega (arith, k.room_for_logs, c.push_reserved.ensures.capacity);
       room_for_records = k.room_for_records;
       no_records = k.no_records;

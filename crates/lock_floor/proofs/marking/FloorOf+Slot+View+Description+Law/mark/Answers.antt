@@ -41,8 +41,8 @@ say_woken-requires-clause-may c =
     (are_inside _ _ _ _ c.self.view_is c.pass.view_is c.pass.inside.marked c.requires.own.description
     c.pass.invariant.marks)
     c.in-Some.ensures.some c.pass.invariant.out c.from.ensures c.thread-u.ensures c.hand_back.new.seat.me
-    c.hand_back.ensures.view c.hand_back.ensures.value c.pass.invariant.role
-    c.self.inside.board.shared.table_id.slots c.hand_back.new.seat.id
+    c.hand_back.ensures.view c.hand_back.ensures.value c.word_for-word.result c.word_for-word.ensures
+    c.pass.invariant.role c.self.inside.board.shared.table_id.slots c.hand_back.new.seat.id
 
 module _ (c : goal.After-say_woken) where
   abbrev key : Description
@@ -66,7 +66,7 @@ invariant_of-pass c =
     call_tied (key c) (me c) c.in-Some.woken c.pass.inside.marked c.pop.new.self c.from.result c.thread-u.result.0
     (need c) (are c) c.in-Some.ensures.some c.pass.invariant.out c.from.ensures c.thread-u.ensures
     c.hand_back.new.seat.me c.hand_back.ensures.view c.hand_back.ensures.value
-    c.say_woken.new.seat.me c.say_woken.ensures.told c.pass.inside.who.0 c.pass.inside.held c.pass.inside.log
+    c.word_for-word.result c.say_woken.new.seat.me c.say_woken.ensures.told c.pass.inside.who.0 c.pass.inside.held c.pass.inside.log
     c.pass.inside.finished (going c) (mine _ _ _ _ c.self.view_is c.pass.view_is c.requires.own.description)
     c.pass.invariant
 
@@ -79,7 +79,7 @@ returns-clause-own c = record {
       (call_view (key c) (me c) c.in-Some.woken c.pass.inside.marked c.pop.new.self c.from.result c.thread-u.result.0
       (need c) (are c) c.in-Some.ensures.some c.pass.invariant.out c.from.ensures c.thread-u.ensures
       c.hand_back.new.seat.me c.hand_back.ensures.view c.hand_back.ensures.value
-      c.say_woken.new.seat.me c.say_woken.ensures.told)
+      c.word_for-word.result c.say_woken.new.seat.me c.say_woken.ensures.told)
       ∙ ap (λ (p : Pass Knowledge). p.view.description) c.pass.view_is ∙ c.requires.own.description;
   unfinished = going c;
 }
@@ -91,4 +91,4 @@ returns-clause-marks c =
     (call_marks (key c) (me c) c.in-Some.woken c.pass.inside.marked c.pop.new.self c.from.result c.thread-u.result.0
     (need c) (are c) c.in-Some.ensures.some c.pass.invariant.out c.from.ensures c.thread-u.ensures
     c.hand_back.new.seat.me c.hand_back.ensures.view c.hand_back.ensures.value
-    c.say_woken.new.seat.me c.say_woken.ensures.told)
+    c.word_for-word.result c.say_woken.new.seat.me c.say_woken.ensures.told)

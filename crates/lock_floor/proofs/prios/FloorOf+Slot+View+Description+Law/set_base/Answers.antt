@@ -78,7 +78,9 @@ give-requires-clause-may g c =
           ∙ ap (λ (w : Knowledge). w.share.doing.phase) taken.view ∙ c.requires.ready.rest.going.awake)
           (ap (λ (w : Knowledge). w.share.doing.unstamped) c.stamp_change.ensures.view
           ∙ wake_gone (Base c.args.prio) _
-          (ap (λ (w : Knowledge). w.share.doing.unstamped) taken.view ∙ c.requires.ready.rest.going.stamped)),
+          (ap (λ (w : Knowledge). w.share.doing.unstamped) taken.view ∙ c.requires.ready.rest.going.stamped))
+          (ap (λ (w : Knowledge). w.share.doing.counting) c.stamp_change.ensures.view
+          ∙ ap (λ (w : Knowledge). w.share.doing.counting) taken.view ∙ c.requires.ready.rest.uncounted),
     )
 
 used : (g : given.Over) (c : goal.After-give g) → Used c.args.self.now (RecordOf c.args.pass.now.view.thread) (Base c.args.prio) c.args.pass.now c.give.new.pass

@@ -80,7 +80,10 @@ give-requires-clause-may g c =
           (ap (λ (w : Knowledge). w.share.doing.unstamped) c.stamp.ensures.view
           ∙ wake_gone (Shown c.priorities.result.0 c.priorities.result.1) _
           (ap (λ (p : Pass Knowledge). p.view.share.doing.unstamped) c.priorities.ensures.same
-          ∙ ap (λ (w : Knowledge). w.share.doing.unstamped) taken.view ∙ c.requires.ready.rest.going.stamped)),
+          ∙ ap (λ (w : Knowledge). w.share.doing.unstamped) taken.view ∙ c.requires.ready.rest.going.stamped))
+          (ap (λ (w : Knowledge). w.share.doing.counting) c.stamp.ensures.view
+          ∙ ap (λ (p : Pass Knowledge). p.view.share.doing.counting) c.priorities.ensures.same
+          ∙ ap (λ (w : Knowledge). w.share.doing.counting) taken.view ∙ c.requires.ready.rest.uncounted),
     )
 
 used : (g : given.Over) (c : goal.After-give g) → Used c.args.self.now (RecordOf c.args.pass.now.view.thread) (Shown c.priorities.result.0 c.priorities.result.1) c.args.pass.now c.give.new.pass

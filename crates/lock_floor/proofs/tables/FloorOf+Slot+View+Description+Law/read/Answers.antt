@@ -75,7 +75,11 @@ give-requires-clause-may g c =
           ∙ wake_gone (Got c.args.l c.args.key c.value-found.result) _
           (ap (λ (p : Pass Knowledge). p.view.share.doing.unstamped) c.value-found.ensures.same
           ∙ ap (λ (w : Knowledge). w.share.doing.unstamped) (c.take.ensures.out cell place).view
-          ∙ c.requires.ready.rest.going.stamped)),
+          ∙ c.requires.ready.rest.going.stamped))
+          (ap (λ (w : Knowledge). w.share.doing.counting) c.stamp.ensures.view
+          ∙ ap (λ (p : Pass Knowledge). p.view.share.doing.counting) c.value-found.ensures.same
+          ∙ ap (λ (w : Knowledge). w.share.doing.counting) (c.take.ensures.out cell place).view
+          ∙ c.requires.ready.rest.uncounted),
     )
 
 used : (g : given.Over) (c : goal.After-give g) → Used c.args.self.now (CellOf c.args.l.0 c.args.key) (Got c.args.l c.args.key c.value-found.result) c.args.pass.now c.give.new.pass

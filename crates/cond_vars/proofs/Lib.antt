@@ -1,0 +1,9 @@
+pub mod Coming
+pub mod TakenOff
+pub mod Bits
+pub mod Woken
+pub mod HeldLocks
+pub mod LyingDown
+pub mod SleptThrough
+pub mod Back
+pub mod Waited

@@ -1,0 +1,3 @@
+pub mod Wakes
+pub mod Waits
+pub mod Sleeping

@@ -1,0 +1,2 @@
+pub mod OneActs
+pub mod AllSeen

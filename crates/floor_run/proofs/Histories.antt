@@ -1,0 +1,106 @@
+-- Worked histories, held against the law of a run of threads as its text has it: what no run prints. There are two
+-- threads, p and q, and two sx locks, a and b, each with a class of its own. What the threads' operations are is left
+-- open: with none does a run print such a history.
+use Rattle.std.proofs.Common.{◌≡◌, ℕ, zero, suc, ◌≤◌, true, false, List, [], ◌∷◌, reverse, refl, sym, ap, subst, ◌∙◌, arith}
+use Rattle.std.proofs.lemmas.List.{reverse-reverse}
+use Rattle.lock_model.specs.BusyWords.{BusyWordsHaveHolders, has_section}
+use Rattle.lock_model.specs.Config.{Config}
+use Rattle.lock_model.specs.Counts.{any_below}
+use Rattle.lock_model.specs.Halts.{HaltsAreHonest, HaltsComeSince, is_honest_to, entries_below, entries_since}
+use Rattle.lock_model.specs.History.{sections_in}
+use Rattle.lock_model.specs.Legal.{IsLegal}
+use Rattle.lock_model.specs.Orders.{forbids}
+use Rattle.lock_model.specs.Plans.{config_of}
+use Rattle.lock_model.specs.Takes.{ReversalsHaveCause, classes_open, take_edges}
+use Rattle.lock_model.specs.Text.{Outcome}
+use Rattle.lock_model.specs.declared.plan.Kind.TheVariants.{Sx}
+use Rattle.lock_model.specs.declared.plan.LockDecl.{LockDecl}
+use Rattle.lock_model.specs.declared.plan.Mode.TheVariants.{Excl}
+use Rattle.lock_model.specs.declared.plan.Op.{Op}
+use Rattle.lock_model.specs.declared.plan.Plan.{Plan}
+use Rattle.lock_model.specs.declared.plan.ThreadDecl.{ThreadDecl}
+use Rattle.lock_model.specs.declared.event.Entry.{Entry}
+use Rattle.lock_model.specs.declared.event.Event.TheVariants.{Locked, Busy, Unlocked, HaltedLock, Reversed}
+use Rattle.run_laws.proofs.Histories.{entry, lock}
+use Rattle.floor_run.specs.Runs.{IsOutcome, outcome_of}
+
+abbrev lock_of : ℕ → LockDecl
+lock_of k = record { name = []; kind = Sx; class = record { 0 = k } }
+
+abbrev thread_of : List Op → ThreadDecl
+thread_of ops = record { name = []; base = record { 0 = 100 }; ops = ops }
+
+abbrev two : List Op → List Op → Plan
+two ps qs = record {
+  classes = [] ∷ [] ∷ [];
+  locks = lock_of 0 ∷ lock_of 1 ∷ [];
+  chans = [];
+  threads = thread_of ps ∷ thread_of qs ∷ [];
+  schedule = [];
+}
+
+-- a run prints the history
+abbrev Prints : List Op → List Op → List Entry → Type 0
+Prints ps qs history = IsOutcome (two ps qs) (outcome_of (two ps qs) history)
+
+-- which is then legal
+printed : (ps qs : List Op) (history : List Entry) → Prints ps qs history → IsLegal (two ps qs) true false history
+printed ps qs history run =
+    let same : run.history ≡ history = sym (reverse-reverse run.history)
+    ∙ ap (λ (o : Outcome). reverse o.history) (sym run.outcome) ∙ reverse-reverse history in
+    subst (IsLegal (two ps qs) true false) same run.legal
+
+-- 1. Q finds a busy with p's word, and p never has it
+
+invented_word : (ps qs : List Op) → Prints ps qs (entry 0 1 (Busy (lock 0) 4) ∷ []) → ⊥
+unfolding BusyWordsHaveHolders has_section any_below
+invented_word ps qs run =
+    let z : false ≡ true = ((printed ps qs _ run).busies_are_explained refl).0 in cc
+
+-- nor are all tries busy, each with the other's word
+all_busy : (ps qs : List Op) → Prints ps qs (entry 1 1 (Busy (lock 0) 4) ∷ entry 0 0 (Busy (lock 0) 12) ∷ []) → ⊥
+unfolding BusyWordsHaveHolders has_section any_below
+all_busy ps qs run = let z : false ≡ true = ((printed ps qs _ run).busies_are_explained refl).0 in cc
+
+-- 2. P is halted in its wait for a, which nobody has
+
+lone_halt : List Entry
+lone_halt = entry 0 0 (HaltedLock (lock 0)) ∷ []
+
+unheld_halt : (ps qs : List Op) → Prints ps qs lone_halt → ⊥
+unfolding lone_halt HaltsComeSince entries_below entries_since any_below sections_in
+unheld_halt ps qs run = go h.moment (h.comes_first.0 refl) (h.honest 0 (omega arith))
+  where
+    h : HaltsAreHonest (config_of (two ps qs)) lone_halt
+    h = (printed ps qs lone_halt run).halts_are_honest
+
+    go : (p : ℕ) → p ≤ 0 → is_honest_to (config_of (two ps qs)) p lone_halt 0 ≡ true → ⊥
+    go zero le e = cc
+    go (suc n) le e = omega (arith, le)
+
+-- or which q has, who is awake: its next entry gives a back
+awake_halt : List Entry
+awake_halt = entry 2 1 (Unlocked (lock 0) Excl) ∷ entry 1 0 (HaltedLock (lock 0)) ∷ entry 0 1 (Locked (lock 0) Excl) ∷ []
+
+holder_goes_on : (ps qs : List Op) → Prints ps qs awake_halt → ⊥
+unfolding awake_halt HaltsComeSince entries_below entries_since any_below sections_in
+holder_goes_on ps qs run = go h.moment (h.comes_first.2.0 refl) (h.honest 0 (omega arith)) (h.honest 1 (omega arith))
+  where
+    c : Config
+    c = config_of (two ps qs)
+
+    h : HaltsAreHonest c awake_halt
+    h = (printed ps qs awake_halt run).halts_are_honest
+
+    go : (p : ℕ) → p ≤ 1 → is_honest_to c p awake_halt 0 ≡ true → is_honest_to c p awake_halt 1 ≡ true → ⊥
+    go zero le e f = cc
+    go (suc zero) le e f = cc
+    go (suc (suc n)) le e f = omega (arith, le)
+
+-- 3. Q is refused a for b, and no take has given an edge from a to b
+
+without_an_edge : (ps qs : List Op)
+    → Prints ps qs (entry 1 1 (Reversed (lock 0) (record { 0 = 1 })) ∷ entry 0 1 (Locked (lock 1) Excl) ∷ []) → ⊥
+unfolding take_edges classes_open sections_in ReversalsHaveCause any_below forbids
+without_an_edge ps qs run =
+    let z : false ≡ true = ((printed ps qs _ run).orders_are_legal refl).reversals_have_cause.0.1 in cc

@@ -1,0 +1,278 @@
+-- An abort: a load of the latch of a queue's chain, by which one sleeper is taken off the queue. The chain, which the
+-- thread has out, is then what the work on it will make of it. The word of an sx lock stays, since another sleeper stays
+-- on that side.
+use Rattle.std.proofs.Common.{◌≡◌, ◌≢◌, ℕ, ◌<◌, ◌%◌, Bool, true, false, not, cond, lt-ltb, Some, IsSome, List, [], ◌∷◌, map, length, refl, sym, ap, ◌∙◌, subst, arith}
+use Rattle.std.specs.List.{All}
+use Rattle.atomic_table.specs.Table.{Me, keeps, rest, Allows}
+use Rattle.chain_table.specs.Chains.{without}
+use Rattle.chain_table.proofs.Lookups.{head_of-without_itself}
+use Rattle.lock_laws.proofs.Derived.{once}
+use Rattle.lock_laws.proofs.Kit.{put_same, put_other, put_back}
+use Rattle.lock_model.specs.Config.{Config}
+use Rattle.lock_model.specs.Counts.{is_empty}
+use Rattle.lock_model.specs.Queues.{Waiter, Lists, ByAbort, is_turnstile_queue, list_of, times_waiting, without as without_waiter}
+use Rattle.lock_model.specs.Words.{Word, with_bit}
+use Rattle.lock_model.specs.declared.plan.QueueName.{QueueName}
+use Rattle.lock_model.specs.declared.plan.QueueName.TheVariants.{Lock, Chan}
+use Rattle.lock_model.specs.declared.plan.Side.{Side}
+use Rattle.lock_model.specs.declared.plan.Side.TheVariants.{X, S}
+use Rattle.lock_objects.specs.Aborts.{IsSleeper, aborted_from, chain_aborted, aborted, without_sleeper}
+use Rattle.lock_objects.specs.Represents.{SleepColumns, RepresentsSleepQueue, mark_by, sleepers_in, sleepers_of}
+use Rattle.lock_objects.proofs.Aborts.{shows_aborted, marks_aborted}
+use Rattle.lock_objects.proofs.StepsOfSleepers.{balanced, abort_changes}
+use Rattle.lock_state.specs.Facts.{Lawful, BitsShowWaiters}
+use Rattle.lock_state.specs.Facts.Queues.{ShowsItsWaiters}
+use Rattle.lock_state.specs.State.{State, put}
+use Rattle.lock_state.specs.Steps.{Step, Aborts}
+use Rattle.lock_state.specs.Steps.Items.{Item, TurnstileChain, SleepChain, RecordOf, CellOf, ClassGraph}
+use Rattle.lock_state.specs.Steps.SleepQueues.{after_abort, phase_aborting, sleeper, word_showing}
+use Rattle.sleep_queues.specs.Changes.{all_waiters, waiters, waits}
+use Rattle.sleep_queues.specs.Seen.{SleepQueue, Place}
+use Rattle.floor_table.specs.Descriptions.{config_in}
+use Rattle.floor_table.specs.declared.description.Description.{Description}
+use Rattle.floor_table.specs.declared.slot.Slot.{Slot}
+use Rattle.floor_table.specs.declared.slot.Slot.TheVariants.{SleepQueues}
+use Rattle.floor_table.specs.Places.{spot, latch_line, latch_word, slots_for, slot_of, home_at}
+use Rattle.floor_table.specs.Represents.{Board, HasNames, RepresentsSleepChain, RepresentsObjects, RepresentsShare, StandsIn, objects_in, thread_in, words_in}
+use Rattle.floor_table.specs.Rule.{FloorHolds}
+use Rattle.floor_table.specs.Shares.{ShareColumns, columns_of, share_in}
+use Rattle.floor_table.specs.Shelves.{Shelves, found}
+use Rattle.floor_table.specs.Steps.{FitAll, IsSound, MayMake, Makes}
+use Rattle.floor_table.specs.Views.{Knowledge, OfThread, seeing}
+use Rattle.floor_table.proofs.Items.{place_low}
+use Rattle.floor_table.proofs.Made.{Finds, Steps, allows, latch_seen_with, own_out, OwnSteps}
+use Rattle.floor_table.proofs.Objects.{SaySame}
+use Rattle.floor_table.proofs.Seen.{one_own}
+use Rattle.floor_table.proofs.Shelved.{found_first, shelf_changed}
+use Rattle.floor_table.proofs.Sound.{sound_kept}
+use Rattle.lock_floor.specs.Aborts.{IsSleeping, KeepsWord, aborted_off, out_aborted}
+use Rattle.lock_floor.specs.Sleeps.{HasSleepersOut}
+use Rattle.lock_floor.specs.Waits.{its_chain, chain_place}
+use Rattle.lock_floor.proofs.Changing.{OnlyChanges, object_changed}
+use Rattle.lock_floor.proofs.ChainPlaces.{chain_at}
+use Rattle.lock_floor.proofs.OpenStep.{marked_low}
+use Rattle.lock_floor.proofs.ChainNames.{names_placed, names_without}
+use Rattle.lock_floor.proofs.SleepChanges.{turnstiles_same, sleepers_same, sleep_chain_shown}
+
+-- 1. The shares behind it
+
+pub abort_own : (s : State) (v : Knowledge) → RepresentsShare v.share s v.thread → (q : QueueName) (side : Side) (u : ℕ)
+    (ps : List Place) (out : List (ℕ × Slot))
+    → map (mark_by ByAbort q) ps ≡ (after_abort s v.thread q side u).marked v.thread
+    → RepresentsShare (aborted_off v q ps out).share (after_abort s v.thread q side u) v.thread
+unfolding after_abort
+abort_own s v fit q side u ps out marks =
+    let its : columns_of v.share ≡ share_in s v.thread = fit.columns in
+    record {
+      columns = λ i. record (its i) {
+        doing = record (its i).doing {
+          marked = marks i;
+          phase = (ap (λ (x : ShareColumns). phase_aborting x.doing.phase) its ∙ sym (put_same s.phase v.thread _)) i;
+        };
+      };
+      held_once = fit.held_once;
+    }
+
+pub abort_others : (s : State) (t w : ℕ) → w ≢ t → (q : QueueName) (side : Side) (u : ℕ)
+    → share_in (after_abort s t q side u) w ≡ share_in s w
+unfolding after_abort
+abort_others s t w other q side u =
+    let ne : t ≡ w → ⊥ = λ e. other (sym e) in
+    let marked_is : (after_abort s t q side u).marked w ≡ s.marked w = put_other s.marked t _ w ne in
+    let phase_is : (after_abort s t q side u).phase w ≡ s.phase w = put_other s.phase t _ w ne in
+    λ i. record (share_in s w) {
+      doing = record (share_in s w).doing { marked = marked_is i; phase = phase_is i };
+    }
+
+-- 2. The word stays
+
+bit_stays : (side : Side) (w : Word) (q : Lists) → ShowsItsWaiters w q → is_empty (list_of side q) ≡ false
+    → with_bit w side true ≡ w
+bit_stays X w q shows some = λ i. record w { exclusive_waiters = (ap not (sym some) ∙ sym shows.exclusive) i }
+bit_stays S w q shows some = λ i. record w { shared_waiters = (ap not (sym some) ∙ sym shows.shared) i }
+
+some_left : (ws : List Waiter) → ws ≢ [] → is_empty ws ≡ false
+some_left [] ne = absurd (ne refl)
+some_left (w ∷ ws) ne = refl
+
+pub some_there : (u : ℕ) (ws : List Waiter) → 0 < times_waiting u ws → is_empty ws ≡ false
+some_there u [] i = absurd (omega arith)
+some_there u (w ∷ ws) i = refl
+
+words_stay : (s : State) (q : QueueName) (side : Side) (u : ℕ) → BitsShowWaiters s.word s.lists
+    → 0 < times_waiting u (list_of side (s.lists q)) → KeepsWord q (without_waiter u (list_of side (s.lists q)))
+    → word_showing q side (without_waiter u (list_of side (s.lists q))) s.word ≡ s.word
+unfolding BitsShowWaiters
+words_stay s (Lock l) side u bits here stay =
+    let left : List Waiter = without_waiter u (list_of side (s.lists (Lock l))) in
+    let word_is : with_bit (s.word l.0) side (not (is_empty left)) ≡ s.word l.0 =
+    ap (λ b. with_bit (s.word l.0) side (not b)) (some_left left stay)
+    ∙ bit_stays side (s.word l.0) (s.lists (Lock l)) (bits l.0) (some_there u (list_of side (s.lists (Lock l))) here) in
+    put_back s.word l.0 (with_bit (s.word l.0) side (not (is_empty left))) (sym word_is)
+words_stay s (Chan d) side u bits here stay = refl
+
+-- 3. What else the columns say
+
+-- the chain of a queue that is no turnstile
+pub sleep_chain_of : (floor : Description) (q : QueueName) → is_turnstile_queue (config_in floor) q ≡ false
+    → (k : ℕ) × (its_chain floor q ≡ SleepChain k)
+sleep_chain_of floor (Lock l) e = (
+  l.0 % floor.chains,
+  ap (λ b. cond b (TurnstileChain (l.0 % floor.chains)) (SleepChain (l.0 % floor.chains))) e,
+)
+sleep_chain_of floor (Chan d) e = (d.0 % floor.chains, refl)
+
+module _ (floor : Description) (s : State) (t : ℕ) (q : QueueName) (side : Side) (u k : ℕ)
+    (in_chain : StandsIn floor (SleepChain k) q) where
+  pub abort_changes_only : OnlyChanges floor (objects_in s) (objects_in (after_abort s t q side u)) (SleepChain k)
+  unfolding after_abort
+  abort_changes_only = record { others = go; tables = λ l key ne. refl }
+    where
+      go : (i : Item) → i ≢ SleepChain k → SaySame floor (objects_in s) (objects_in (after_abort s t q side u)) i
+      go (TurnstileChain j) ne = turnstiles_same floor k q in_chain s (after_abort s t q side u)
+          (aborted side (sleeper s u) (sleepers_in s q)) (abort_changes s t q side u) refl refl j
+      go (SleepChain j) ne = sleepers_same floor k q in_chain s (after_abort s t q side u)
+          (aborted side (sleeper s u) (sleepers_in s q)) (abort_changes s t q side u) j ne
+      go (RecordOf w) ne = refl
+      go (CellOf l key) ne = refl
+      go ClassGraph ne = refl
+
+pub names_aborted : (floor : Description) (k : ℕ) (q : QueueName) → StandsIn floor (SleepChain k) q
+    → (chain : List (QueueName × SleepQueue)) → HasNames floor (SleepChain k) chain → (u : ℕ) (h : SleepQueue)
+    → HasNames floor (SleepChain k) (chain_aborted q u h chain)
+names_aborted floor k q there chain names u h = by (is_empty (all_waiters (without_sleeper u h.contents)))
+  where
+    by : (b : Bool) → HasNames floor (SleepChain k)
+        (cond b (without q chain) ((q, record h { contents = without_sleeper u h.contents }) ∷ without q chain))
+    by true = names_without floor (SleepChain k) q chain names
+    by false = names_placed floor (SleepChain k) q chain names (record h { contents = without_sleeper u h.contents })
+        there
+
+-- who sleeps there waits there
+pub waits_there : (side : Side) (u : ℕ) (h : SleepQueue) → 0 < times_waiting u (waiters side h.contents)
+    → waits u h.contents ≡ true
+waits_there X u h here = lt-ltb 0 _ (omega (arith, here))
+waits_there S u h here = lt-ltb 0 _ (omega (arith, here))
+
+-- 4. The step
+
+-- what it tells: the thread made it, the chain is such that the work on it can be done, and whom it took has its sleep
+-- queue with it
+pub record AbortedOff (floor : Description) (q : QueueName) (u : ℕ) (me behind : Me Slot Knowledge) : Type 0 where
+  pub sleepers : HasSleepersOut floor q me.0
+  pub side : Side
+  pub sleeps : IsSleeping q side u sleepers.chain
+  pub can : waits u sleeps.head.contents ≡ true
+  pub is : behind ≡ (
+    seeing behind.0.seen
+        (aborted_off me.0 q (aborted_from u sleeps.head.contents)
+        (out_aborted floor q u sleeps.head sleepers.chain me.0.out)),
+    me.1,
+  )
+  pub step : Makes floor (Aborts me.0.thread q side u ∷ []) me.0 behind.0
+  pub sleeps_there : is_turnstile_queue (config_in floor) q ≡ false
+  pub held : All (λ p. IsSome p.object) (aborted_from u sleeps.head.contents)
+  pub of_floor : All (λ m. m.thread < length floor.threads)
+      (map (mark_by ByAbort q) (aborted_from u sleeps.head.contents))
+
+abbrev pub ToldAborted : Description → QueueName → ℕ → Me Slot Knowledge → ℕ → Me Slot Knowledge → Type 0
+ToldAborted floor q u me found behind = AbortedOff floor q u me behind
+
+module _ (floor : Description) (me : Me Slot Knowledge) (was : me.0.role ≡ OfThread) (q : QueueName) (side : Side)
+    (u : ℕ) (sleepers : HasSleepersOut floor q me.0) (sleeps : IsSleeping q side u sleepers.chain) where
+  abbrev v : Knowledge
+  v = me.0
+
+  abbrev j : ℕ
+  j = chain_place floor q
+
+  abbrev chain : List (QueueName × SleepQueue)
+  chain = sleepers.chain
+
+  abbrev head : SleepQueue
+  head = sleeps.head
+
+  abbrev ps : List Place
+  ps = aborted_from u head.contents
+
+  aborts : (b : Board) (f : Finds floor v b) → FitAll floor f.state (Aborts v.thread q side u ∷ [])
+      → Steps floor me (spot (latch_line j)) (latch_word b.words j) (latch_word b.words j)
+      (ToldAborted floor q u me) b
+  unfolding after_abort
+  aborts b f allowed =
+      let c : Config = config_in floor in
+      let s : State = f.state in
+      let t : ℕ = v.thread in
+      let n : State = after_abort s t q side u in
+      let step : Step = Aborts t q side u in
+      let g = allowed.0.fits.may in
+      let lawful : Lawful c s = f.sound.facts.lawful in
+      let sized = f.represents.sizes.sized in
+      let which = sleep_chain_of floor q g.sleeps in
+      let k : ℕ = which.0 in
+      let in_chain : StandsIn floor (SleepChain k) q = which.1 in
+      let at : slot_of floor (SleepChain k) ≡ Some j =
+      subst (λ i. slot_of floor i ≡ Some j) in_chain (chain_at floor sized.some_chains q) in
+      let shows : RepresentsSleepChain floor k chain (objects_in s) =
+      (f.fits.out.each (SleepChain k) j (SleepQueues chain) at
+      (ap (found j) sleepers.last ∙ found_first j (SleepQueues chain) (rest v.out))).1 in
+      let old : sleepers_in s q ≡ sleepers_of head.contents =
+      subst (λ o. RepresentsSleepQueue o (sleepers_in s q)) sleeps.there (shows.queue q in_chain) in
+      let its_list = ap (λ (a : SleepColumns). list_of side a.lists) old in
+      let is : IsSleeper c s q side (sleeper s u) = record {
+        sleeps = g.sleeps;
+        balanced = balanced c s q lawful;
+        there = g.stands;
+        once = once c s u q lawful;
+      } in
+      let marks = marks_aborted (StandsIn floor (SleepChain k)) c s q side (sleeper s u) is in_chain chain shows.queue head sleeps.there refl in
+      let marked : map (mark_by ByAbort q) ps ≡ n.marked t = marks.0 ∙ sym (put_same s.marked t _) in
+      let out : List (ℕ × Slot) = out_aborted floor q u head chain v.out in
+      let new : Slot = SleepQueues (chain_aborted q u head chain) in
+      let w : Knowledge = seeing (step ∷ f.past) (aborted_off v q ps out) in
+      let own : OwnSteps v w f.past (step ∷ []) s n = record {
+        role = was;
+        seen = refl;
+        makers = one_own t step refl;
+        seat = record { thread = refl; share = abort_own s v f.fits.share q side u ps out marked };
+        others = λ x ne. abort_others s t x ne q side u;
+        pose = f.fits.pose;
+        other_poses = λ x ne p z. z;
+      } in
+      let r = f.represents in
+      let outs : ℕ → List (ℕ × Slot) = λ x. (thread_in b.views x).out in
+      let shelves : Shelves (slots_for floor) (latch_word b.words) (home_at b.homes) (put outs t out)
+      (put r.content j new) =
+      shelf_changed (slots_for floor) (latch_word b.words) (home_at b.homes) outs r.content r.shelves j t
+      (SleepQueues chain) new (rest v.out) (own_out floor (step ∷ []) b v w f was allowed own me.1 ∙ sleepers.last) in
+      let chain_then : RepresentsSleepChain floor k (chain_aborted q u head chain) (objects_in n) =
+      sleep_chain_shown floor k n (chain_aborted q u head chain)
+      (names_aborted floor k q in_chain chain shows.names u head)
+      (shows_aborted (StandsIn floor (SleepChain k)) c s q side (sleeper s u) is in_chain chain shows.queue head sleeps.there n
+      (abort_changes s t q side u) (head_of-without_itself q chain shows.names.distinct) refl) in
+      let objects : RepresentsObjects floor (put r.content j new) (objects_in n) =
+      object_changed floor r.content (objects_in s) (objects_in n) (SleepChain k) j new at
+      (abort_changes_only floor s t q side u k in_chain) chain_then r.objects in
+      let words = words_stay s q side u lawful.queues.bits_show_waiters g.stands
+      (subst (λ ws. KeepsWord q (without_waiter u ws)) (sym its_list) sleeps.keeps_word) in
+      let made = latch_seen_with floor (step ∷ []) b v w f was allowed own me.1 j (put r.content j new)
+      (place_low floor (SleepChain k) j at) (λ i. record (words_in s) { word = words i }) refl refl shelves objects in
+      let behind : IsSound floor (step ∷ f.past) n = sound_kept floor s (step ∷ []) allowed f.sound in
+      let told : AbortedOff floor q u me (w, me.1) = record {
+        sleepers = sleepers;
+        side = side;
+        sleeps = sleeps;
+        can = waits_there side u head sleeps.stands;
+        is = refl {a = (w, me.1)};
+        step = made.1;
+        sleeps_there = g.sleeps;
+        held = marks.1;
+        of_floor = marked_low floor n t behind.facts.lawful f.fits.thread (map (mark_by ByAbort q) ps) marked;
+      } in
+      (w, keeps, tt, made.0, told)
+
+  pub abort_allowed : (slots id : ℕ) → MayMake floor v (λ s. Unit {0}) (Aborts v.thread q side u ∷ [])
+      → Allows (FloorHolds floor) slots id me (spot (latch_line j)) (λ n. n) (ToldAborted floor q u me)
+  abort_allowed slots id may =
+      allows floor slots id me (spot (latch_line j)) (λ n. n) (ToldAborted floor q u me) was
+      (λ b f small. aborts b f (may f.state f.fits tt))

@@ -1,0 +1,60 @@
+-- The first sleeper of a queue, as an abort needs it: another stays on its side, or it is the last there.
+use Rattle.std.proofs.Common.{◌≡◌, ◌≢◌, ◌<◌, eqb, cond, Bool, true, false, List, [], ◌∷◌, refl, sym, ap, ◌∙◌, subst, arith, eq-eqb}
+use Rattle.lock_model.specs.Counts.{one, is_empty}
+use Rattle.lock_model.specs.Queues.{Waiter, times_waiting, without}
+use Rattle.lock_model.specs.declared.numbers.ChanNo.{ChanNo}
+use Rattle.lock_model.specs.declared.plan.QueueName.{QueueName}
+use Rattle.lock_model.specs.declared.plan.QueueName.TheVariants.{Lock, Chan}
+use Rattle.sleep_queues.specs.Changes.{waiters}
+use Rattle.sleep_queues.specs.Seen.{SleepQueue}
+use Rattle.lock_floor.specs.Aborts.{IsSleeping, KeepsWord}
+use Rattle.lock_floor.specs.Halting.{IsLastAsleep, SleepsFirst}
+use Rattle.lock_floor.specs.declared.halting.Asleep.{Asleep}
+
+none_there : (ws : List Waiter) → is_empty ws ≡ true → ws ≡ []
+none_there [] e = refl
+none_there (w ∷ ws) e = absurd cc
+
+some_there : (ws : List Waiter) → is_empty ws ≡ false → ws ≢ []
+some_there [] e none = cc
+some_there (w ∷ ws) e none = cc
+
+module _ (q : QueueName) (x : Asleep) (chain : List (QueueName × SleepQueue)) (h : SleepsFirst q x chain) where
+  itself : eqb x.thread.0 h.first.thread ≡ true
+  itself = eq-eqb x.thread.0 h.first.thread (sym h.thread)
+
+  -- it stands there,
+  pub first_stands : 0 < times_waiting x.thread.0 (waiters x.side h.head.contents)
+  first_stands =
+      let z : one (eqb x.thread.0 h.first.thread) ≡ 1 = ap one itself in
+      subst (λ ws. 0 < times_waiting x.thread.0 ws) (sym h.list) (omega (arith, z))
+
+  -- and the others are left
+  others_left : without x.thread.0 (waiters x.side h.head.contents) ≡ h.others
+  others_left = ap (without x.thread.0) h.list
+      ∙ ap (λ b. cond b h.others (h.first ∷ without x.thread.0 h.others)) itself
+
+  pub first_last : x.alone ≡ true → IsLastAsleep q x.side x.thread.0 chain
+  first_last alone = record {
+    head = h.head;
+    there = h.there;
+    stands = first_stands;
+    last = others_left ∙ none_there h.others (sym h.alone ∙ alone);
+  }
+
+  pub first_sleeps : (x.alone ≡ true → (d : ChanNo) × (q ≡ Chan d)) → IsSleeping q x.side x.thread.0 chain
+  first_sleeps stays = record {
+    head = h.head;
+    there = h.there;
+    stands = first_stands;
+    keeps_word = keeps q stays;
+  }
+    where
+      keeps : (r : QueueName) → (x.alone ≡ true → (d : ChanNo) × (r ≡ Chan d))
+          → KeepsWord r (without x.thread.0 (waiters x.side h.head.contents))
+      keeps (Chan d) stays = tt
+      keeps (Lock l) stays = by x.alone refl
+        where
+          by : (b : Bool) → x.alone ≡ b → without x.thread.0 (waiters x.side h.head.contents) ≢ []
+          by true e none = let z : Lock l ≡ Chan (stays e).0 = (stays e).1 in cc
+          by false e none = some_there h.others (sym h.alone ∙ e) (sym others_left ∙ none)

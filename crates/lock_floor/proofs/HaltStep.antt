@@ -1,0 +1,59 @@
+-- A thread sets the halt word: it becomes 1, and no share changes.
+use Rattle.std.proofs.Common.{◌≡◌, ℕ, true, [], ◌∷◌, refl}
+use Rattle.std.specs.Prelude.{slice_index}
+use Rattle.atomic_table.specs.Table.{Me, keeps, Allows}
+use Rattle.lock_state.specs.State.{State}
+use Rattle.lock_state.specs.Steps.{Step, Halts}
+use Rattle.lock_state.specs.Steps.Counting.{after_halt}
+use Rattle.floor_table.specs.declared.description.Description.{Description}
+use Rattle.floor_table.specs.declared.slot.Slot.{Slot}
+use Rattle.floor_table.specs.Places.{spot, halt_line}
+use Rattle.floor_table.specs.Represents.{Board, RepresentsShare}
+use Rattle.floor_table.specs.Rule.{FloorHolds}
+use Rattle.floor_table.specs.Steps.{MayMake, FitAll, Makes}
+use Rattle.floor_table.specs.Views.{Knowledge, OfThread, seeing}
+use Rattle.floor_table.proofs.Made.{Finds, Steps, allows, halt_made, OwnSteps}
+use Rattle.floor_table.proofs.Seen.{one_own}
+
+abbrev pub HasHalted : Description → Me Slot Knowledge → Me Slot Knowledge → Type 0
+HasHalted floor me behind =
+    (behind ≡ (seeing behind.0.seen me.0, me.1)) × Makes floor (Halts me.0.thread ∷ []) me.0 behind.0
+
+halt_own : (s : State) (v : Knowledge) → RepresentsShare v.share s v.thread
+    → RepresentsShare v.share (after_halt s) v.thread
+unfolding after_halt
+halt_own s v fit = record { columns = fit.columns; held_once = fit.held_once }
+
+module _ (floor : Description) (me : Me Slot Knowledge) (was : me.0.role ≡ OfThread) where
+  abbrev v : Knowledge
+  v = me.0
+
+  abbrev at : ℕ
+  at = spot halt_line
+
+  halts : (b : Board) (h : Finds floor v b) → FitAll floor h.state (Halts v.thread ∷ [])
+      → Steps floor me at (slice_index b.words at) 1 (λ found. HasHalted floor me) b
+  unfolding after_halt
+  halts b h allowed =
+      let s : State = h.state in
+      let t : ℕ = v.thread in
+      let step : Step = Halts t in
+      let w : Knowledge = seeing (step ∷ h.past) v in
+      let own : OwnSteps v w h.past (step ∷ []) s (after_halt s) = record {
+        role = was;
+        seen = refl;
+        makers = one_own t step refl;
+        seat = record { thread = refl; share = halt_own s v h.fits.share };
+        others = λ k ne. refl;
+        pose = h.fits.pose;
+        other_poses = λ k ne p z. z;
+      } in
+      let made = halt_made floor (step ∷ []) b v w h was allowed own me.1 true refl
+      (record { items = refl; objects = refl }) refl refl in
+      (w, keeps, tt, made.0, (refl, made.1))
+
+  pub halt_allowed : (slots id : ℕ) → MayMake floor v (λ s. Unit {0}) (Halts v.thread ∷ [])
+      → Allows (FloorHolds floor) slots id me at (λ found. 1) (λ found. HasHalted floor me)
+  halt_allowed slots id may =
+      allows floor slots id me at (λ found. 1) (λ found. HasHalted floor me) was
+      (λ b h small. halts b h (may h.state h.fits tt))

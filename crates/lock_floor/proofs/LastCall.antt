@@ -1,0 +1,106 @@
+-- What the call that takes the last sleeper of a side off an sx lock's queue by an abort leaves of the pass, and tells
+-- of it.
+use Rattle.std.proofs.Common.{◌≡◌, ℕ, Bool, true, false, Some, IsSomeAnd, List, [], ◌∷◌, map, refl, sym, ap, ◌∙◌, subst}
+use Rattle.std.specs.Global.{Vec}
+use Rattle.atomic_table.specs.Table.{Me, rest}
+use Rattle.chain_table.specs.Chains.{head_of}
+use Rattle.lock_history.specs.Books.{Book}
+use Rattle.lock_model.specs.Queues.{ByAbort, lock_queue}
+use Rattle.lock_model.specs.declared.event.Held.{Held}
+use Rattle.lock_model.specs.declared.plan.QueueName.{QueueName}
+use Rattle.lock_model.specs.declared.plan.Side.{Side}
+use Rattle.lock_objects.specs.Aborts.{aborted_from, chain_aborted}
+use Rattle.lock_objects.specs.Represents.{mark_by}
+use Rattle.lock_objects.specs.declared.marked.Marked.{Marked}
+use Rattle.lock_objects.specs.declared.marked.Marked.TheVariants.{AbortedSleepers}
+use Rattle.lock_state.specs.Steps.{Aborts}
+use Rattle.sleep_queues.specs.Changes.{waits}
+use Rattle.sleep_queues.specs.Seen.{SleepQueue, Place}
+use Rattle.floor_table.specs.Steps.{Makes}
+use Rattle.floor_table.specs.Views.{Knowledge, seeing}
+use Rattle.floor_table.specs.declared.description.Description.{Description}
+use Rattle.floor_table.specs.declared.slot.Slot.{Slot}
+use Rattle.floor_table.specs.declared.slot.Slot.TheVariants.{SleepQueues}
+use Rattle.lock_floor.specs.Aborts.{aborted_off, out_aborted}
+use Rattle.lock_floor.specs.Halting.{AbortsLast}
+use Rattle.lock_floor.specs.Marks.{AreMarked}
+use Rattle.lock_floor.specs.Ties.{IsTied}
+use Rattle.lock_floor.specs.Waits.{chain_place}
+use Rattle.lock_floor.proofs.LastStep.{LastOff}
+use Rattle.lock_floor.proofs.Tied.{tied_then}
+
+module _ (floor : Description) (me behind : Me Slot Knowledge) (l : ℕ) (side : Side) (u : ℕ)
+    (told : LastOff floor l side u me behind) (at : ℕ) (at_is : at ≡ chain_place floor (lock_queue l))
+    (out : me.1 ≡ me.0.out) where
+  abbrev q : QueueName
+  q = lock_queue l
+
+  abbrev chain : List (QueueName × SleepQueue)
+  chain = told.may.sleepers.chain
+
+  abbrev head : SleepQueue
+  head = told.may.sleeps.head
+
+  abbrev ps : List Place
+  ps = aborted_from u head.contents
+
+  -- before the work on the chain
+  last : behind.1 ≡ (at, SleepQueues chain) ∷ rest behind.1
+  last =
+      let same : behind.1 ≡ me.0.out = ap (λ (m : Me Slot Knowledge). m.1) told.is ∙ out in
+      same ∙ told.may.sleepers.last ∙ (λ i. (sym at_is i, SleepQueues chain) ∷ rest (sym same i))
+
+  pub before : (c : List (QueueName × SleepQueue)) × (behind.1 ≡ (at, SleepQueues c) ∷ rest behind.1)
+      × IsSomeAnd (head_of q c) (λ h. waits u h.contents ≡ true)
+  before = (
+    chain,
+    last,
+    subst (λ o. IsSomeAnd o (λ h. waits u h.contents ≡ true)) (sym told.may.sleeps.there) told.can,
+  )
+
+  -- behind it
+  module _ (new : Me Slot Knowledge) (woken : List Place) (view : new.0 ≡ behind.0)
+      (outs : (c : List (QueueName × SleepQueue)) (h : SleepQueue) → head_of q c ≡ Some h
+      → behind.1 ≡ (at, SleepQueues c) ∷ rest behind.1
+      → (new.1 ≡ (at, SleepQueues (chain_aborted q u h c)) ∷ rest behind.1)
+      × (woken ≡ aborted_from u h.contents)) where
+    woken_are : woken ≡ ps
+    woken_are = (outs chain head told.may.sleeps.there last).1
+
+    abbrev then : Knowledge
+    then = aborted_off me.0 q ps (out_aborted floor q u head chain me.0.out)
+
+    pub call_view : new.0 ≡ seeing new.0.seen then
+    call_view = view ∙ ap (λ (m : Me Slot Knowledge). m.0) told.is
+        ∙ ap (λ xs. seeing xs then) (ap (λ (k : Knowledge). k.seen) (sym view))
+
+    new_out : new.1 ≡ new.0.out
+    new_out =
+        let same : behind.1 ≡ me.0.out = ap (λ (m : Me Slot Knowledge). m.1) told.is ∙ out in
+        (outs chain head told.may.sleeps.there last).0
+        ∙ (λ i. (at_is i, SleepQueues (chain_aborted q u head chain)) ∷ rest (same i))
+        ∙ sym (ap (λ (k : Knowledge). k.out) call_view)
+
+    pub call_tied : (who : ℕ) (locks : Vec Held) (marked : Marked) (book : Book) (fin : Bool) → fin ≡ false
+        → IsTied who locks marked book fin me → me.0.description ≡ floor
+        → IsTied who locks (AbortedSleepers woken) book fin new
+    call_tied who locks marked book fin going h mine =
+        let are : AreMarked floor (AbortedSleepers ps) (map (mark_by ByAbort q) ps) = record {
+          queue = q;
+          same = refl;
+          kind = λ some. told.sleeps_there;
+          held = told.held;
+          of_floor = told.of_floor;
+        } in
+        subst (λ (xs : List Place). IsTied who locks (AbortedSleepers xs) book fin new) (sym woken_are)
+        (tied_then who locks locks marked (AbortedSleepers ps) book fin me new then going h call_view new_out refl h.held
+        h.room (subst (λ (k : Description). AreMarked k (AbortedSleepers ps) (map (mark_by ByAbort q) ps)) (sym mine)
+        are))
+
+    pub call_aborts : AbortsLast floor l side u me.0 new.0
+    call_aborts = record {
+      sleepers = told.may.sleepers;
+      sleeps = told.may.sleeps;
+      view = call_view;
+      step = subst (λ (k : Knowledge). Makes floor (Aborts me.0.thread q side u ∷ []) me.0 k) (sym view) told.step;
+    }

@@ -1,0 +1,192 @@
+-- In a scheduled run nobody is halted, and no waking passes over a sleeper: that would be passed over to the end, since
+-- its next entry would tell of a halt, and nobody was aborted. So the end of the history is a moment from which its
+-- halts come.
+use Rattle.std.proofs.Common.{◌≡◌, ℕ, Bool, true, false, List, [], ◌∷◌, length, refl, sym, ap, inl, inr, eq-eqb, arith, ◌∙◌, subst}
+use Rattle.std.proofs.lemmas.Bool.{cases_eq, cases_Bool, ne_eqb}
+use Rattle.lock_model.specs.Config.{Config}
+use Rattle.lock_model.specs.Events.{OfSleep, IsHalted, of_sleep, is_waking_of, ends_by_halt, is_by_halt, sleeps_on}
+use Rattle.lock_model.specs.Halts.{HaltsAreHonest}
+use Rattle.lock_model.specs.History.{entries_of}
+use Rattle.lock_model.specs.Law.{LeadsTo, Gives, Point, Before, Asleep, Cut, WakingsNameSleepers, HaltsOnlyWhenRunning, is_asleep, is_passed_over, passes_over}
+use Rattle.lock_model.specs.Law as law
+use Rattle.lock_model.specs.Operations.{held_of}
+use Rattle.lock_model.specs.Plans.{config_of, operations_of}
+use Rattle.lock_model.specs.Queues.{BySignal, ByAbort, Mark}
+use Rattle.lock_model.specs.declared.plan.Kind.{Kind}
+use Rattle.lock_model.specs.declared.plan.Op.{Op}
+use Rattle.lock_model.specs.declared.plan.Plan.{Plan}
+use Rattle.lock_model.specs.declared.plan.QueueName.TheVariants.{Lock, Chan}
+use Rattle.lock_model.specs.declared.event.Entry.{Entry}
+use Rattle.lock_model.specs.declared.event.Event.{Event}
+use Rattle.lock_model.specs.declared.event.Event.TheVariants.{Woke, HaltedChan, Unlocked, WokeOne, WokeAll}
+use Rattle.lock_model.specs.declared.event.Held.{Held}
+use Rattle.lock_state.specs.Facts.Halts.{NobodyIsHalted}
+use Rattle.lock_state.specs.Facts.Sleeps.{AreSignals, aborts, is_aborted, is_chan_halt, aborted}
+use Rattle.lock_state.specs.Run.{Run}
+use Rattle.lock_state.specs.State.{Wait, Running, Queued, Woken}
+use Rattle.lock_state.specs.Steps.SleepQueues.{has_slept}
+use Rattle.run_laws.specs.OnTrack.{IsOnTrack, point_in}
+use Rattle.sleep_laws.specs.Sleepers.{MarksAreSignals, WokenBySignal, PassedOverAreAborted, off}
+use Rattle.sleep_laws.proofs.SleepFacts.Entries.{asleep_slept}
+use Rattle.lock_laws.proofs.Kit.{sum_below-zero}
+use Rattle.count_laws.proofs.Moments.{none_since, halts_to_come}
+
+-- 1. A thread that sleeps makes no waking
+
+-- where the newest of its entries is a Sleeps entry, they have led it into a wait,
+abbrev is_in_wait : Point → Bool
+is_in_wait (Before n) = false
+is_in_wait (Asleep n) = true
+is_in_wait (Cut hs) = false
+
+slept_by : (kind : ℕ → Kind) (held : List Held) (n : ℕ) (op : Op) (e : Event) (p : Point) → Gives kind held n op e p
+    → (d : ℕ) → sleeps_on e d ≡ true → is_in_wait p ≡ true
+slept_by kind held n _ _ _ (law.sleeps k) d f = refl
+slept_by kind held n op e p g d f = absurd cc
+
+slept_waits : (kind : ℕ → Kind) (ops : List Op) (es : List Entry) (p : Point) → LeadsTo kind ops es p → (d : ℕ)
+    → has_slept d es ≡ true → is_in_wait p ≡ true
+slept_waits kind ops _ _ law.begins d f = absurd cc
+slept_waits kind ops _ p (law.goes_on {n = n} {o = o} e h next g) d f =
+    slept_by kind (held_of ops n) n o e.event p g d f
+slept_waits kind ops es _ (law.skips_endtry {n = n} h next) d f =
+    absurd (let z = slept_waits kind ops es (Before n) h d f in cc)
+slept_waits kind ops _ _ (law.wakes_up {d = k} e h next x) d f =
+    absurd (let z : sleeps_on (Woke k) d ≡ true = subst (λ v. sleeps_on v d ≡ true) x f in cc)
+slept_waits kind ops _ _ (law.is_woken_by_a_halt {d = k} e h next x) d f =
+    absurd (let z : sleeps_on (HaltedChan k) d ≡ true = subst (λ v. sleeps_on v d ≡ true) x f in cc)
+slept_waits kind ops _ _ (law.gives_back {h = h} e w x) d f =
+    absurd (let z : sleeps_on (Unlocked h.l h.mode) d ≡ true = subst (λ v. sleeps_on v d ≡ true) x f in cc)
+
+-- and the next one ends that, so it is no waking
+wakes_nobody : (kind : ℕ → Kind) (ops : List Op) (e : Entry) (es : List Entry) (p : Point)
+    → LeadsTo kind ops (e ∷ es) p → (d : ℕ) → has_slept d es ≡ true → is_waking_of (of_sleep e.event) ≡ false
+wakes_nobody kind ops _ es p (law.goes_on {n = n} e h next g) d f =
+    absurd (let z = slept_waits kind ops es (Before n) h d f in cc)
+wakes_nobody kind ops e es _ (law.skips_endtry {n = n} h next) d f = wakes_nobody kind ops e es (Before n) h d f
+wakes_nobody kind ops _ es _ (law.wakes_up e h next x) d f = ap (λ v. is_waking_of (of_sleep v)) x
+wakes_nobody kind ops _ es _ (law.is_woken_by_a_halt e h next x) d f = ap (λ v. is_waking_of (of_sleep v)) x
+wakes_nobody kind ops _ es _ (law.gives_back e h x) d f = ap (λ v. is_waking_of (of_sleep v)) x
+
+-- so no waking passes over its own thread
+own_passes : (c : Config) (es : List Entry) (t : ℕ) (e : Event)
+    → ((d : ℕ) → is_asleep es d t ≡ true → is_waking_of (of_sleep e) ≡ false) → passes_over c es e t ≡ false
+own_passes c es t (WokeOne d woken) f = elim (cases_Bool (is_asleep es d.0 t)) [
+  | inl a ↦ absurd (let z = f d.0 a in cc)
+  | inr a ↦ rw a refl
+]
+own_passes c es t (WokeAll d woken) f = elim (cases_Bool (is_asleep es d.0 t)) [
+  | inl a ↦ absurd (let z = f d.0 a in cc)
+  | inr a ↦ rw a refl
+]
+own_passes c es t other f = refl
+
+-- 2. Where nobody is passed over at the end, nobody was before
+
+-- an entry of a halted sleep on a channel is one of a halt
+chan_halts : (o : OfSleep) → ends_by_halt o ≡ true → is_by_halt o ≡ true
+chan_halts (IsHalted d) x = refl
+chan_halts other x = absurd cc
+
+-- entries that lead somewhere did so before the newest
+led_before : (kind : ℕ → Kind) (ops : List Op) (e : Entry) (es : List Entry) (p : Point)
+    → LeadsTo kind ops (e ∷ es) p → (q : Point) × LeadsTo kind ops es q
+led_before kind ops _ es p (law.goes_on {n = n} e h next g) = (Before n, h)
+led_before kind ops e es _ (law.skips_endtry {n = n} h next) = led_before kind ops e es (Before n) h
+led_before kind ops _ es _ (law.wakes_up {n = n} e h next x) = (Asleep n, h)
+led_before kind ops _ es _ (law.is_woken_by_a_halt {n = n} e h next x) = (Asleep n, h)
+led_before kind ops _ es _ (law.gives_back {h = h} {hs = hs} e w x) = (Cut (h ∷ hs), w)
+
+module _ (c : Config) (kind : ℕ → Kind) (ops : ℕ → List Op) where
+  abbrev Leads : List Entry → ℕ → Type 0
+  Leads es t = (p : Point) × LeadsTo kind (ops t) (entries_of es t) p
+
+  module _ (e : Entry) (es : List Entry) where
+    own_leads : Leads (e ∷ es) e.thread.0 → (p : Point) × LeadsTo kind (ops e.thread.0) (e ∷ entries_of es e.thread.0) p
+    own_leads f = rw (eq-eqb e.thread.0 e.thread.0 refl) at f
+
+    earlier : (t : ℕ) → Leads (e ∷ es) t → Leads es t
+    earlier t f = elim (cases_eq e.thread.0 t) [
+      | inl i ↦ subst (Leads es) i (
+          let own = own_leads (subst (Leads (e ∷ es)) (sym i) f) in
+          led_before kind (ops e.thread.0) e (entries_of es e.thread.0) own.0 own.1)
+      | inr i ↦ rw (ne_eqb e.thread.0 t i) at f
+    ]
+
+    itself : Leads (e ∷ es) e.thread.0 → passes_over c es e.event e.thread.0 ≡ false
+    itself f =
+        let own = own_leads f in
+        own_passes c es e.thread.0 e.event (λ d a.
+        wakes_nobody kind (ops e.thread.0) e (entries_of es e.thread.0) own.0 own.1 d (asleep_slept es d e.thread.0 a))
+
+  nobody_halted : (es : List Entry) → WakingsNameSleepers c es → HaltsOnlyWhenRunning false es
+      → ((t : ℕ) → Leads es t) → ((t : ℕ) → is_passed_over c es t ≡ false) → NobodyIsHalted c es
+  unfolding WakingsNameSleepers HaltsOnlyWhenRunning NobodyIsHalted is_passed_over
+  nobody_halted [] w r f n = tt
+  nobody_halted (e ∷ es) w r f n =
+      (r.0 refl, over, nobody_halted es w.2 r.1 (λ t. earlier e es t (f t)) unpassed)
+    where
+      over : (t : ℕ) → passes_over c es e.event t ≡ false
+      over t = elim (cases_eq e.thread.0 t) [
+        | inl i ↦ subst (λ u. passes_over c es e.event u ≡ false) i (itself e es (f e.thread.0))
+        | inr i ↦ grind (arith, n t)
+      ]
+
+      own : is_passed_over c es e.thread.0 ≡ false
+      own = elim (cases_Bool (is_passed_over c es e.thread.0)) [
+        | inl a ↦ absurd (let z : true ≡ false = sym (chan_halts (of_sleep e.event) (w.1 a)) ∙ r.0 refl in cc)
+        | inr a ↦ a
+      ]
+
+      unpassed : (t : ℕ) → is_passed_over c es t ≡ false
+      unpassed t = elim (cases_eq e.thread.0 t) [
+        | inl i ↦ subst (λ u. is_passed_over c es u ≡ false) i own
+        | inr i ↦ grind (arith, n t)
+      ]
+
+-- 3. A run on track
+
+no_aborts : (t : ℕ) (ms : List Mark) → AreSignals ms → aborts t ms ≡ 0
+no_aborts t [] a = refl
+no_aborts t (m ∷ ms) a = let rest = no_aborts t ms a.1 in let i = a.0 in grind (arith)
+
+module _ (plan : Plan) (r : Run) (k : IsOnTrack plan r) where
+  -- nobody is aborted, so nobody is passed over,
+  unaborted : (t : ℕ) → off (config_of plan) r.state t ≡ 0
+  unfolding aborted MarksAreSignals WokenBySignal
+  unaborted t =
+      let a = sum_below-zero (config_of plan).threads (λ u. aborts t (r.state.marked u))
+      (λ u lt. no_aborts t (r.state.marked u) (k.sleepers.marks_are_signals k.halted u)) in
+      let b = by_wait (r.state.wait t) refl in
+      let d = ap is_chan_halt (k.unnoted t) in
+      omega arith
+    where
+      by_wait : (w : Wait) → r.state.wait t ≡ w → is_aborted w ≡ 0
+      by_wait Running e = refl
+      by_wait Queued e = refl
+      by_wait (Woken (Lock l) cause) e = refl
+      by_wait (Woken (Chan d) BySignal) e = refl
+      by_wait (Woken (Chan d) ByAbort) e =
+          absurd (let z = k.sleepers.woken_by_signal k.halted t (Chan d) ByAbort e in cc)
+
+  unpassed : (t : ℕ) → is_passed_over (config_of plan) r.state.history t ≡ false
+  unfolding PassedOverAreAborted
+  unpassed t = elim (cases_Bool (is_passed_over (config_of plan) r.state.history t)) [
+    | inl a ↦ absurd (omega (arith, k.sleepers.passed_over_are_aborted t a, unaborted t))
+    | inr a ↦ a
+  ]
+
+  unhalted : NobodyIsHalted (config_of plan) r.state.history
+  unhalted =
+      nobody_halted (config_of plan) (config_of plan).kind (operations_of plan) r.state.history
+      k.sleepers.wakings_name_sleepers k.no_halts (λ t. (point_in plan r t, k.follows t)) unpassed
+
+  -- and the end of the history is before all halts
+  pub halts_honest : HaltsAreHonest (config_of plan) r.state.history
+  halts_honest =
+      let history = r.state.history in
+      record {
+        moment = length history;
+        comes_first = halts_to_come (config_of plan) (length history) history unhalted;
+        honest = λ t lt. rw (none_since (length history) history k.lawful.lawful.books.tickets_run (omega arith)) refl;
+      }
