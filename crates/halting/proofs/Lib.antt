@@ -1,0 +1,6 @@
+pub mod Finding
+pub mod Coming
+pub mod Aborted
+pub mod Woken
+pub mod Ended
+pub mod Whole

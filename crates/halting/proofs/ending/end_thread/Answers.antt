@@ -1,0 +1,51 @@
+use Rattle.std.proofs.Common.{◌∙◌, ap, subst}
+use Rattle.halting.specs.declared.ending.EndAt.{EndAt}
+use Rattle.halting.specs.declared.ending.EndAt.TheVariants.{Takes}
+use Rattle.halting.specs.declared.ending.EndNext.TheVariants.{Again}
+use Rattle.halting.specs.Ends.{GoesOnEnding}
+use Rattle.halting.proofs.Ended.{again, ends_whole, halts_whole, is_last}
+use Rattle.halting.proofs.ending.end_thread.Goals as goal
+
+pub returns-in-Done-clause-steps : goal.returns-in-Done-clause-steps
+returns-in-Done-clause-steps g c =
+    ends_whole c.args.floor.now.description c.args.pass.now.view c.loop.pass.view c.end.new.pass.view
+    c.loop.invariant.stands
+    (subst (λ n. GoesOnEnding c.args.floor.now.description Takes n c.loop.pass.view c.end.new.pass.view) c.in-Done.is
+    c.end.ensures.went)
+
+pub loop-preserved : goal.loop-preserved
+loop-preserved g c = record {
+  own = c.end.ensures.own;
+  stands = again c.args.floor.now.description c.args.pass.now.view c.loop.pass.view c.end.new.pass.view
+      c.loop.invariant.stands
+      (subst (λ n. GoesOnEnding c.args.floor.now.description Takes n c.loop.pass.view c.end.new.pass.view)
+      (c.in-Again-Takes.is ∙ ap (λ (a : EndAt). Again a) c.in-Again-Takes.field-0-is) c.end.ensures.went);
+}
+
+pub halt_others-requires-clause-last : goal.halt_others-requires-clause-last
+halt_others-requires-clause-last g c =
+    is_last c.args.floor.now.description c.args.pass.now.view c.loop.pass.view c.end.new.pass.view
+    c.loop.invariant.stands c.in-Again-Halts.field-0-0
+    (subst (λ n. GoesOnEnding c.args.floor.now.description Takes n c.loop.pass.view c.end.new.pass.view)
+    (c.in-Again-Halts.is ∙ ap (λ (a : EndAt). Again a) c.in-Again-Halts.field-0-is) c.end.ensures.went)
+
+pub returns-in-Again-Halts-clause-steps : goal.returns-in-Again-Halts-clause-steps
+returns-in-Again-Halts-clause-steps g c =
+    (halts_whole c.args.floor.now.description c.args.pass.now.view c.loop.pass.view c.end.new.pass.view
+    c.loop.invariant.stands c.in-Again-Halts.field-0-0
+    (subst (λ n. GoesOnEnding c.args.floor.now.description Takes n c.loop.pass.view c.end.new.pass.view)
+    (c.in-Again-Halts.is ∙ ap (λ (a : EndAt). Again a) c.in-Again-Halts.field-0-is) c.end.ensures.went)
+    c.halt_others.new.pass.view c.halt_others.ensures.halted c.halt_others.ensures.steps).1
+
+pub returns-in-Again-Halts-clause-ended : goal.returns-in-Again-Halts-clause-ended
+returns-in-Again-Halts-clause-ended g c =
+    (halts_whole c.args.floor.now.description c.args.pass.now.view c.loop.pass.view c.end.new.pass.view
+    c.loop.invariant.stands c.in-Again-Halts.field-0-0
+    (subst (λ n. GoesOnEnding c.args.floor.now.description Takes n c.loop.pass.view c.end.new.pass.view)
+    (c.in-Again-Halts.is ∙ ap (λ (a : EndAt). Again a) c.in-Again-Halts.field-0-is) c.end.ensures.went)
+    c.halt_others.new.pass.view c.halt_others.ensures.halted c.halt_others.ensures.steps).0
+
+pub returns-in-Done-clause-ended : goal.returns-in-Done-clause-ended
+returns-in-Done-clause-ended g c =
+    (subst (λ n. GoesOnEnding c.args.floor.now.description Takes n c.loop.pass.view c.end.new.pass.view) c.in-Done.is
+    c.end.ensures.went).0
