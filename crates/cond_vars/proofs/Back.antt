@@ -198,7 +198,8 @@ module _ (floor : Description) (d : ChanNo) (v : Knowledge) (ticket : ℕ) where
         };
         rest = subst (IsAtRest floor) (sym says) (rest_seeing floor then new.seen
             (at_rest floor then (idle_then cause b) refl
-            (λ k. opened_again floor d v ticket (ended_by cause d) k (sections_then cause k) b.held b.holds (b.others k))
+            (λ k. opened_again floor d v ticket (ended_by cause d) k (sections_then cause k) b.held b.holds
+            (b.others k))
             (begun_then cause b)));
         halt_word = halt_then floor d cause v.thread v new step;
       }

@@ -55,4 +55,9 @@ pub bits_counted : (floor : Description) (steps : List Step) (old new : Knowledg
     ≡ length (threads_woken all (m.state.lists q).exclusive)
 bits_counted floor steps old new m q all =
     counted (threads_woken all (m.state.lists q).exclusive)
-    (λ j. omega (arith, times-map j (taken_off all (m.state.lists q).exclusive), (best_or_all all (m.state.lists q).exclusive).times j, once (config_in floor) m.state j q m.sound.facts.lawful))
+    (λ j. omega (
+      arith,
+      times-map j (taken_off all (m.state.lists q).exclusive),
+      (best_or_all all (m.state.lists q).exclusive).times j,
+      once (config_in floor) m.state j q m.sound.facts.lawful,
+    ))

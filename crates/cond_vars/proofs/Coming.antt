@@ -58,12 +58,14 @@ module _ (floor : Description) (d : ℕ) (old : Knowledge) (r : IsAtRest floor o
     u_runs = ap (λ (k : Knowledge). k.pose) taken.view ∙ r.runs
 
     pub u_out : u.out ≡ (chain_place floor q, taken.value) ∷ []
-    u_out = ap (λ (k : Knowledge). k.out) taken.view ∙ ap (λ out. (chain_place floor q, taken.value) ∷ out) r.nothing_out
+    u_out = ap (λ (k : Knowledge). k.out) taken.view
+        ∙ ap (λ out. (chain_place floor q, taken.value) ∷ out) r.nothing_out
 
     low : u.thread < length floor.threads
     low = subst (λ t. t < length floor.threads) (sym u_thread) taken.step.may.0.fits.may.thread
 
-    pub may_take_own : MayMake floor u (λ s. s.record_with u.thread ≡ None) (TakesItem u.thread (RecordOf u.thread) ∷ [])
+    pub may_take_own : MayMake floor u (λ s. s.record_with u.thread ≡ None)
+        (TakesItem u.thread (RecordOf u.thread) ∷ [])
     may_take_own = may_take_record floor u q taken.value u_out u.thread low u_runs
         (record {
           awake = ap (λ (k : Knowledge). k.share.doing.phase) taken.view ∙ r.going.awake;
@@ -101,7 +103,8 @@ module _ (floor : Description) (d : ℕ) (old : Knowledge) (r : IsAtRest floor o
           ap with_none_out own.view
           ∙ ap (λ (k : Knowledge). seeing v.seen (with_none_out k)) taken.view in
           subst (IsAtRest floor) (sym knows)
-          (at_rest floor (seeing v.seen (with_none_out (took old (its_chain floor q) (chain_place floor q) taken.value)))
+          (at_rest floor (seeing v.seen
+          (with_none_out (took old (its_chain floor q) (chain_place floor q) taken.value)))
           (record {
             runs = r.runs;
             nothing_out = refl;

@@ -1,5 +1,5 @@
--- What a thread knows of the locks that it holds, where it makes a step: they are locks of the floor, none stands twice,
--- and a mutex is held exclusively.
+-- What a thread knows of the locks that it holds, where it makes a step: they are locks of the floor, none stands
+-- twice, and a mutex is held exclusively.
 use Rattle.std.proofs.Common.{◌≡◌, ◌≢◌, ℕ, ◌<◌, ◌≤◌, Bool, true, false, not, ◌&&◌, cond, eqb, length, suc, ◌-◌, slice_get, Some, List, [], ◌∷◌, ◌++◌, refl, sym, ap, ◌∙◌, arith}
 use Rattle.std.proofs.lemmas.Bool.{eqb-true}
 use Rattle.std.proofs.lemmas.Option.{same_Some}
@@ -56,7 +56,12 @@ module _ (floor : Description) (steps : List Step) (old new : Knowledge) (m : Ma
         go Shared e = absurd (nobody (m.state.word l).holder refl)
           where
             some_share : 1 ≤ sum_below (length floor.threads) (λ t. shares (m.state.held t l))
-            some_share = omega (arith, sum_below-at (length floor.threads) (λ t. shares (m.state.held t l)) old.thread low, ap shares e)
+            some_share = omega (
+              arith,
+              sum_below-at (length floor.threads) (λ t. shares (m.state.held t l)) old.thread
+                  low,
+              ap shares e,
+            )
 
             nobody : (x : Holder) → (m.state.word l).holder ≡ x → ⊥
             nobody Free is = omega (arith, some_share, counted, ap sharers is)

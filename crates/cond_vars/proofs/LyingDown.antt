@@ -128,7 +128,11 @@ module _ (floor : Description) (d : ChanNo) (v : Knowledge) (m : MayLieDown floo
 
         going_then : IsGoing y
         going_then = subst IsGoing (sym adds.view)
-            (record { awake = going_down.going.awake; unended = going_down.going.unended; stamped = going_down.going.stamped })
+            (record {
+              awake = going_down.going.awake;
+              unended = going_down.going.unended;
+              stamped = going_down.going.stamped;
+            })
 
         -- 4. Both go home
 

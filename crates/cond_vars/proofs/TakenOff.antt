@@ -147,7 +147,13 @@ module _ (floor : Description) (d : ChanNo) (all : Bool) (old : Knowledge) (r : 
       v_thread = ap (λ (k : Knowledge). k.thread) w.view ∙ u_thread
 
       pub room_for_it : 1 ≤ v.spare
-      room_for_it = omega (arith, may.room, ap (λ (k : Knowledge). k.spare) w.view, ap (λ (k : Knowledge). k.spare) taken.view)
+      room_for_it = omega (
+        arith,
+        may.room,
+        ap (λ (k : Knowledge). k.spare) w.view,
+        ap (λ (k : Knowledge). k.spare)
+            taken.view,
+      )
 
       pub may_note : MayMake floor v (λ s. Unit {0}) (Stamps v.thread e ∷ [])
       may_note = subst (λ x. MayMake floor v (λ s. Unit {0}) (Stamps v.thread x ∷ [])) (same_entry d woken all)

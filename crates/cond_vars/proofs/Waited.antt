@@ -57,7 +57,13 @@ module _ (floor : Description) (d : ChanNo) (old : Knowledge) (r : IsAtRest floo
         holds = subst (λ hs. hold_in hs l ≢ NotHeld) (sym held_there) (last_held l old.share.held may.last);
         others = last.0;
         last = ap gained_order held_there ∙ last.1;
-        room = omega (arith, may.room, ap (λ (k : Knowledge). k.spare) own.view, ap (λ (k : Knowledge). k.spare) taken.view);
+        room = omega (
+          arith,
+          may.room,
+          ap (λ (k : Knowledge). k.spare) own.view,
+          ap (λ (k : Knowledge). k.spare)
+              taken.view,
+        );
         rest = rests_with_both floor d.0 old r u taken v own;
         sleeper = sleeper_now floor d.0 old r u taken v own;
         own = (own_now floor d.0 old r u taken v own).0;
@@ -104,7 +110,8 @@ lies_down_then floor d old r may u taken v own new lies =
         ),
       );
       view = lies.view ∙ ap (λ (k : Knowledge). seeing new.seen (asleep (config_in floor) k lies.ticket d)) own.view
-          ∙ ap (λ (k : Knowledge). seeing new.seen (asleep (config_in floor) (took k (RecordOf u.thread) u.thread own.value)
+          ∙ ap (λ (k : Knowledge). seeing new.seen
+          (asleep (config_in floor) (took k (RecordOf u.thread) u.thread own.value)
           lies.ticket d)) taken.view
           ∙ same_round floor d old r taken.value own.value u.thread lies.ticket new.seen;
       entry = record {
@@ -248,7 +255,14 @@ module _ (floor : Description) (d : ChanNo) (old : Knowledge) (r : IsAtRest floo
           ∙ sym (ap (λ hs. hold_in hs j) held_now ∙ others_held k old.share.held own_apart j)
 
       fewer : length w.share.held < 8
-      fewer = omega (arith, may.few, ap length held_now, ap length at_end, length-append (without_lock k old.share.held) (as_held ∷ []))
+      fewer = omega (
+        arith,
+        may.few,
+        ap length held_now,
+        ap length at_end,
+        length-append (without_lock k old.share.held)
+            (as_held ∷ []),
+      )
 
       may_retake_it : MayRetake floor k mode a
       may_retake_it = subst (MayRetake floor k mode) (sym sleeps.view) record {

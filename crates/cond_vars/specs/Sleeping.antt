@@ -1,5 +1,5 @@
--- What a thread knows in the middle of a wait: when it lies down on a channel's queue, sleeps there, runs again, and has
--- its lock back.
+-- What a thread knows in the middle of a wait: when it lies down on a channel's queue, sleeps there, runs again, and
+-- has its lock back.
 use Rattle.std.specs.Prelude.{◌≡◌, ◌≢◌, ℕ, ◌<◌, ◌≤◌, true, false, List, [], ◌∷◌, length, Some, None}
 use Rattle.lock_model.specs.Config.{Config}
 use Rattle.lock_model.specs.History.{open_in, left_in}

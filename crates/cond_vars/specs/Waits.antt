@@ -37,8 +37,9 @@ pub record MayWait (floor : Description) (d : ℕ) (v : Knowledge) : Type 0 wher
 
 -- 2. Its steps
 
--- With the channel's chain and its own record out, the thread says in its wait word that it is queued, and notes that it
--- sleeps; by the next step it stands on the channel's queue, to which it lends its sleep queue, x; and it gives both back
+-- With the channel's chain and its own record out, the thread says in its wait word that it is queued, and notes that
+-- it sleeps; by the next step it stands on the channel's queue, to which it lends its sleep queue, x; and it gives
+-- both back
 abbrev pub lies_there : Description → ℕ → ChanNo → ℕ → List (List Step)
 lies_there floor t d x =
     (Readies t (chan_queue d.0) ∷ []) ∷ (Stamps t (Sleeps d) ∷ []) ∷ (Adds t d.0 x ∷ [])
@@ -57,10 +58,10 @@ ended_by ByAbort d = HaltedChan d
 
 -- 3. What the calls promise
 
--- The thread slept on the channel, to which its entry says that it went, and was woken by that cause. It came to stand on
--- the channel's queue, released the lock by such steps, counted itself out, and ran again once it was woken; it took the
--- lock back in its mode, by such steps, and noted that. In between it held all that it held before but the lock, and now
--- it holds just what it held. Where its sleep was ended by an abort, the halt word is 1
+-- The thread slept on the channel, to which its entry says that it went, and was woken by that cause. It came to stand
+-- on the channel's queue, released the lock by such steps, counted itself out, and ran again once it was woken; it
+-- took the lock back in its mode, by such steps, and noted that. In between it held all that it held before but the
+-- lock, and now it holds just what it held. Where its sleep was ended by an abort, the halt word is 1
 pub record Waits (Releases : Description → ℕ → Knowledge → Knowledge → Type 0)
     (TakesBack : Description → ℕ → Mode → Knowledge → Knowledge → Type 0) (floor : Description)
     (d : ChanNo) (cause : Cause) (old new : Knowledge) : Type 0 where

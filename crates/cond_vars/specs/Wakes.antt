@@ -1,5 +1,5 @@
--- How sleepers of a condition variable or a channel are woken: whom a wake takes off the channel's queue, what it notes,
--- and its steps.
+-- How sleepers of a condition variable or a channel are woken: whom a wake takes off the channel's queue, what it
+-- notes, and its steps.
 use Rattle.std.specs.Prelude.{◌≡◌, ◌↔◌, ℕ, ◌<◌, ◌≤◌, Bool, true, false, List, [], ◌∷◌, length, map, option_map, Option, None, count_ones}
 use Rattle.lock_model.specs.Queues.{Waiter, Mark, chan_queue, best_of, taken_off}
 use Rattle.lock_model.specs.declared.event.Event.{Event}

@@ -7,8 +7,8 @@
 //! The crate knows no kind of lock: how a wait gives its lock up and takes it back is what the lock's crate says
 //! (`Relock` of `lock_floor`).
 //!
-//! - `waking`: how sleepers are taken off and woken, part by part, and no part waits; and `signals`: the calls that do it
-//!   at once.
+//! - `waking`: how sleepers are taken off and woken, part by part, and no part waits; and `signals`: the calls that do
+//!   it at once.
 //! - `waits`: the calls that wait, and `sleeping`: their parts.
 //!
 //! Each call needs a pass at rest and leaves it at rest, and tells which atomic steps it made. No call takes memory.

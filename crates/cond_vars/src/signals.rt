@@ -1,5 +1,6 @@
 //! The calls that wake sleepers, as `cv_signal` and `cv_broadcast` of FreeBSD's kern_condvar.c, and `wakeup_one` and
-//! `wakeup` of its kern_synch.c. They need no lock. Each waits only for a chain or a record that another thread has out.
+//! `wakeup` of its kern_synch.c. They need no lock. Each waits only for a chain or a record that another thread has
+//! out.
 ghost use Rattle.std.specs.Prelude.{◌≡◌, [], IfNone, IfSome};
 ghost use Rattle.floor_table.specs.Steps.{MakesEach};
 ghost use Rattle.lock_floor.specs.Marks.{marking, with_marks};
@@ -20,7 +21,10 @@ pub fn cv_signal<R: Wait>(floor: &Floor, rt: &R, pass: &mut Pass, c: ChanNo) -> 
     ensures ready { IsReady floor.now pass.new }
     ensures signals { Signals floor.now.description c result pass.old.view pass.new.view }
 {
-    signal(floor, rt, pass, c)
+    take_off(floor, rt, pass, c, false);
+    let first = pass.first_marked();
+    wake_marked(floor, rt, pass);
+    first
 }
 
 /// Wakes all who wait on a condition variable, and tells how many they are: 0 exactly where nobody waited there when
@@ -31,7 +35,9 @@ pub fn cv_broadcast<R: Wait>(floor: &Floor, rt: &R, pass: &mut Pass, c: ChanNo) 
     ensures ready { IsReady floor.now pass.new }
     ensures broadcasts { Broadcasts floor.now.description c result pass.old.view pass.new.view }
 {
-    broadcast(floor, rt, pass, c)
+    let woken = take_off(floor, rt, pass, c, true);
+    wake_marked(floor, rt, pass);
+    woken.count_ones()
 }
 
 /// Wakes the most important of those who sleep on a channel. It goes as `cv_signal`.
@@ -41,7 +47,7 @@ pub fn wakeup_one<R: Wait>(floor: &Floor, rt: &R, pass: &mut Pass, c: ChanNo) ->
     ensures ready { IsReady floor.now pass.new }
     ensures signals { Signals floor.now.description c result pass.old.view pass.new.view }
 {
-    signal(floor, rt, pass, c)
+    cv_signal(floor, rt, pass, c)
 }
 
 /// Wakes all who sleep on a channel. It goes as `cv_broadcast`.
@@ -51,32 +57,7 @@ pub fn wakeup<R: Wait>(floor: &Floor, rt: &R, pass: &mut Pass, c: ChanNo) -> u32
     ensures ready { IsReady floor.now pass.new }
     ensures broadcasts { Broadcasts floor.now.description c result pass.old.view pass.new.view }
 {
-    broadcast(floor, rt, pass, c)
-}
-
-// Wakes the best sleeper of a channel.
-fn signal<R: Wait>(floor: &Floor, rt: &R, pass: &mut Pass, c: ChanNo) -> Option<ThreadNo>
-    requires ready { IsReady floor.now pass.old }
-    requires may { MayWakeUp floor.now.description c.0 pass.old.view }
-    ensures ready { IsReady floor.now pass.new }
-    ensures signals { Signals floor.now.description c result pass.old.view pass.new.view }
-{
-    take_off(floor, rt, pass, c, false);
-    let first = pass.first_marked();
-    wake_marked(floor, rt, pass);
-    first
-}
-
-// Wakes all sleepers of a channel.
-fn broadcast<R: Wait>(floor: &Floor, rt: &R, pass: &mut Pass, c: ChanNo) -> u32
-    requires ready { IsReady floor.now pass.old }
-    requires may { MayWakeUp floor.now.description c.0 pass.old.view }
-    ensures ready { IsReady floor.now pass.new }
-    ensures broadcasts { Broadcasts floor.now.description c result pass.old.view pass.new.view }
-{
-    let woken = take_off(floor, rt, pass, c, true);
-    wake_marked(floor, rt, pass);
-    woken.count_ones()
+    cv_broadcast(floor, rt, pass, c)
 }
 
 // Takes the best sleeper off a channel's queue, or all, when the channel's chain is at home, and notes that. Answers a

@@ -13,55 +13,10 @@ use lock_model::{ChanNo, Halted};
 use std::sync::Wait;
 
 /// Waits on a condition variable, with the lock that belongs to it, which the thread gained last, and not by a try: it
-/// gives the lock up, sleeps until another thread wakes it, and takes the lock back in the mode in which it held it. No
-/// order is checked again. `Halted` comes only where this call's own sleep was ended by an abort, while the halt word is
-/// 1; the thread holds the lock again then too. The floor has one chain of turnstiles.
+/// gives the lock up, sleeps until another thread wakes it, and takes the lock back in the mode in which it held it.
+/// No order is checked again. `Halted` comes only where this call's own sleep was ended by an abort, while the halt
+/// word is 1; the thread holds the lock again then too. The floor has one chain of turnstiles.
 pub fn cv_wait<K: Relock, R: Wait>(
-    floor: &Floor,
-    rt: &R,
-    pass: &mut Pass,
-    c: ChanNo,
-    how: &K,
-) -> Result<(), Halted>
-    requires ready { IsReady floor.now pass.old }
-    requires may { MayWait floor.now.description c.0 pass.old.view }
-    requires kind { (config_in floor.now.description).kind (lock_of floor.now.description c.0)
-        ≡ K.kind }
-    requires one_chain { floor.now.description.chains ≡ 1 }
-    ensures ready { IsReady floor.now pass.new }
-    ensures woke { IfOk result (λ _. Waits K.releases K.takes_back floor.now.description c BySignal
-        pass.old.view pass.new.view) }
-    ensures halted { IfErr result (λ _. Waits K.releases K.takes_back floor.now.description c
-        ByAbort pass.old.view pass.new.view) }
-{
-    wait(floor, rt, pass, c, how)
-}
-
-/// Sleeps on a channel, with the lock that belongs to it. It goes as `cv_wait`. FreeBSD's msleep takes a mutex, and has
-/// rw_sleep and sx_sleep beside it: here the lock may be of each kind.
-pub fn msleep<K: Relock, R: Wait>(
-    floor: &Floor,
-    rt: &R,
-    pass: &mut Pass,
-    c: ChanNo,
-    how: &K,
-) -> Result<(), Halted>
-    requires ready { IsReady floor.now pass.old }
-    requires may { MayWait floor.now.description c.0 pass.old.view }
-    requires kind { (config_in floor.now.description).kind (lock_of floor.now.description c.0)
-        ≡ K.kind }
-    requires one_chain { floor.now.description.chains ≡ 1 }
-    ensures ready { IsReady floor.now pass.new }
-    ensures woke { IfOk result (λ _. Waits K.releases K.takes_back floor.now.description c BySignal
-        pass.old.view pass.new.view) }
-    ensures halted { IfErr result (λ _. Waits K.releases K.takes_back floor.now.description c
-        ByAbort pass.old.view pass.new.view) }
-{
-    wait(floor, rt, pass, c, how)
-}
-
-// Waits on a channel.
-fn wait<K: Relock, R: Wait>(
     floor: &Floor,
     rt: &R,
     pass: &mut Pass,
@@ -87,4 +42,27 @@ fn wait<K: Relock, R: Wait>(
     how.retake(floor, rt, pass, l, mode);
     note_end(floor, pass, c, aborted);
     if aborted { Err(Halted) } else { Ok(()) }
+}
+
+/// Sleeps on a channel, with the lock that belongs to it. It goes as `cv_wait`. FreeBSD's msleep takes a mutex, and has
+/// rw_sleep and sx_sleep beside it: here the lock may be of each kind.
+pub fn msleep<K: Relock, R: Wait>(
+    floor: &Floor,
+    rt: &R,
+    pass: &mut Pass,
+    c: ChanNo,
+    how: &K,
+) -> Result<(), Halted>
+    requires ready { IsReady floor.now pass.old }
+    requires may { MayWait floor.now.description c.0 pass.old.view }
+    requires kind { (config_in floor.now.description).kind (lock_of floor.now.description c.0)
+        ≡ K.kind }
+    requires one_chain { floor.now.description.chains ≡ 1 }
+    ensures ready { IsReady floor.now pass.new }
+    ensures woke { IfOk result (λ _. Waits K.releases K.takes_back floor.now.description c BySignal
+        pass.old.view pass.new.view) }
+    ensures halted { IfErr result (λ _. Waits K.releases K.takes_back floor.now.description c
+        ByAbort pass.old.view pass.new.view) }
+{
+    cv_wait(floor, rt, pass, c, how)
 }

@@ -213,7 +213,8 @@ module _ (floor : Description) (over : ℕ) (itself : Bool) (v : Knowledge) (h :
                 at_resume = inl (ap is_parked asleep);
                 stood = λ e. absurd (let z : Asleep ≡ SelfAborted = sym asleep ∙ e in cc);
               };
-              end = subst (λ b. HaltEnd floor (at.Comes over b) v new) (sym others) (others_awake over none step asleep);
+              end = subst (λ b. HaltEnd floor (at.Comes over b) v new) (sym others)
+                  (others_awake over none step asleep);
             }
 
 -- 4. It gives the chain back
@@ -224,7 +225,8 @@ module _ (floor : Description) (over : ℕ) (itself : Bool) (v : Knowledge) (h :
   may_go_on = may_give_sleepers floor v (off_the_way (config_in floor) (kept_of v) h.aside.is_out) h.aside.stamped
       h.halting has.queue (SleepQueues has.chain) has.out has.sleeps h.aside.no_round
 
-  pub goes_on : NobodySleeps has.queue has.chain → (new : Knowledge) → new ≡ seeing new.seen (gave v (its_chain floor has.queue))
+  pub goes_on : NobodySleeps has.queue has.chain → (new : Knowledge)
+      → new ≡ seeing new.seen (gave v (its_chain floor has.queue))
       → Makes floor (GivesItem v.thread (its_chain floor has.queue) ∷ []) v new
       → HaltsOn floor (at.Aborts over itself) (at.Comes (over + 1) itself) v new
   goes_on nobody new view step = record {

@@ -171,7 +171,12 @@ module _ (floor : Description) (t : â„•) (v w new : Knowledge) (its : v.thread â
   waits_back at.Finds i needs view finds rest = absurd needs
   waits_back (at.Aborts over itself) i needs view finds rest = absurd needs
   waits_back (at.Comes over itself) i needs view finds rest =
-      record { more = rest.more; swept = rest.swept; sweeps = go over rest.more w rest.swept needs.1 refl rest.sweeps; closes = rest.closes }
+      record {
+        more = rest.more;
+        swept = rest.swept;
+        sweeps = go over rest.more w rest.swept needs.1 refl rest.sweeps;
+        closes = rest.closes;
+      }
     where
       since : IsSeenBy v.thread v.seen w.seen
       since = subst (IsSeenBy v.thread v.seen) (sym finds.moment.seen) finds.moment.since

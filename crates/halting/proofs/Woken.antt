@@ -1,5 +1,5 @@
--- The one that was taken off is woken: its record is taken, it is counted in, but for the thread itself, and marked, and
--- the record is given back.
+-- The one that was taken off is woken: its record is taken, it is counted in, but for the thread itself, and marked,
+-- and the record is given back.
 use Rattle.std.proofs.Common.{◌≡◌, ◌≢◌, ◌↔◌, ℕ, Bool, true, cond, None, List, [], ◌∷◌, refl, sym, ap, ◌∙◌, subst, inl, inr, eq-eqb}
 use Rattle.std.proofs.lemmas.Bool.{ne_eqb}
 use Rattle.std.specs.Box.{with_value}
@@ -377,7 +377,8 @@ module _ (floor : Description) (over : ℕ) (itself : Bool) (v : Knowledge) (h :
 marked_number : (floor : Description) (d b : Knowledge) (first : HasFirstOut d) (n : ℕ) → MarksFirst floor n d b
     → n ≡ first.mark.thread
 marked_number floor d b first n marks =
-    sym marks.thread ∙ ap (λ (k : Mark). k.thread) (ap (head_or marks.first.mark) (sym marks.first.marked ∙ first.marked))
+    sym marks.thread ∙ ap (λ (k : Mark). k.thread)
+    (ap (head_or marks.first.mark) (sym marks.first.marked ∙ first.marked))
 
 module _ (floor : Description) (over : ℕ) (itself : Bool) (v : Knowledge) (h : IsHalter floor itself v)
     (has : HasQueueOut floor over v) (off : HasTakenOff floor has.queue v) (t : ℕ)

@@ -36,8 +36,8 @@ use Rattle.halting.specs.declared.halting.Next.TheVariants as next
 
 -- 1. What stays
 
--- what a thread knows that stays through a halting: all but its counting, whom it counted in or has to wake, what is out
--- and what it saw under a chain
+-- what a thread knows that stays through a halting: all but its counting, whom it counted in or has to wake, what is
+-- out and what it saw under a chain
 pub record Kept : Type 0 where
   pub description : Description
   pub thread : ℕ
@@ -112,8 +112,8 @@ pub record IsLast (floor : Description) (v : Knowledge) : Type 0 where
   pub unmarked : v.share.doing.marked ≡ []
   pub last : v.share.doing.phase ≡ Last
 
--- it is at halting others, has seen that the halt word was set, and aborted itself or not: who aborted itself stood on a
--- queue
+-- it is at halting others, has seen that the halt word was set, and aborted itself or not: who aborted itself stood on
+-- a queue
 pub record IsHalter (floor : Description) (itself : Bool) (v : Knowledge) : Type 0 where
   pub aside : IsAside floor (kept_of v)
   pub uncounted : v.share.doing.counting ≡ None
@@ -174,8 +174,8 @@ Awaits floor (at.Wakes over itself) v i =
 
 -- A thread is left that hasn't ended: it counts itself in and sets the halt word. It takes the chain of a sleep queue,
 -- takes one sleeper off after the other, each by one abort, and wakes it; once nobody sleeps there it gives the chain
--- back and goes to the next queue. Behind the last one it counts itself out again, where it didn't abort itself: it may be the last once
--- more. Or it found out what it needs
+-- back and goes to the next queue. Behind the last one it counts itself out again, where it didn't abort itself: it
+-- may be the last once more. Or it found out what it needs
 pub data HaltLeg (floor : Description) : HaltAt → HaltAt → Knowledge → Knowledge → Type 0 where
   halts : {old mid new : Knowledge} → FindsWhetherLeft floor true old mid
       → MakesEach floor ((CountsSelfIn old.thread ∷ []) ∷ (Halts old.thread ∷ []) ∷ []) mid new
@@ -278,8 +278,8 @@ GoesOnHalting floor there (next.Wake t to) old new = WakesOn floor there to t.0 
 
 -- 6. The whole
 
--- it took sleepers off a queue, one after the other until nobody slept there any more, and woke each; whether it aborted
--- itself is told
+-- it took sleepers off a queue, one after the other until nobody slept there any more, and woke each; whether it
+-- aborted itself is told
 pub data AbortsEach (floor : Description) (q : QueueName) : Bool → Knowledge → Knowledge → Type 0
   where
     nobody_else : {v : Knowledge} → IsEmptied floor q v → AbortsEach floor q false v v

@@ -22,7 +22,8 @@ add-requires-clause-chan c = c.requires.may.chan
 pub add-requires-clause-may : goal.add-requires-clause-may
 add-requires-clause-may c =
     may_add c.args.floor.now.description c.args.c c.args.pass.now.view c.requires.may
-    c.ready.new.pass.view c.ready.ensures.view c.ready.ensures.step c.stamp.result c.stamp.new.pass.view c.stamp.ensures.view
+    c.ready.new.pass.view c.ready.ensures.view c.ready.ensures.step c.stamp.result c.stamp.new.pass.view
+    c.stamp.ensures.view
     c.stamp.ensures.step
 
 pub give_rec-requires-clause-thread : goal.give_rec-requires-clause-thread
@@ -33,13 +34,15 @@ give_rec-requires-clause-thread c =
 pub give_rec-requires-clause-last : goal.give_rec-requires-clause-last
 give_rec-requires-clause-last c =
     own_last c.args.floor.now.description c.args.c c.args.pass.now.view c.requires.may
-    c.ready.new.pass.view c.ready.ensures.view c.ready.ensures.step c.stamp.result c.stamp.new.pass.view c.stamp.ensures.view
+    c.ready.new.pass.view c.ready.ensures.view c.ready.ensures.step c.stamp.result c.stamp.new.pass.view
+    c.stamp.ensures.view
     c.stamp.ensures.step c.add.new.pass.view c.add.ensures.adds c.thread-who.result.0 c.thread-who.ensures.same
 
 pub give_rec-requires-clause-may : goal.give_rec-requires-clause-may
 give_rec-requires-clause-may c =
     may_give_own c.args.floor.now.description c.args.c c.args.pass.now.view c.requires.may
-    c.ready.new.pass.view c.ready.ensures.view c.ready.ensures.step c.stamp.result c.stamp.new.pass.view c.stamp.ensures.view
+    c.ready.new.pass.view c.ready.ensures.view c.ready.ensures.step c.stamp.result c.stamp.new.pass.view
+    c.stamp.ensures.view
     c.stamp.ensures.step c.add.new.pass.view c.add.ensures.adds c.thread-who.result.0 c.thread-who.ensures.same
 
 pub give_chain-requires-clause-queue : goal.give_chain-requires-clause-queue
@@ -48,21 +51,24 @@ give_chain-requires-clause-queue c = c.requires.may.chan
 pub give_chain-requires-clause-last : goal.give_chain-requires-clause-last
 give_chain-requires-clause-last c =
     chain_last c.args.floor.now.description c.args.c c.args.pass.now.view c.requires.may
-    c.ready.new.pass.view c.ready.ensures.view c.ready.ensures.step c.stamp.result c.stamp.new.pass.view c.stamp.ensures.view
+    c.ready.new.pass.view c.ready.ensures.view c.ready.ensures.step c.stamp.result c.stamp.new.pass.view
+    c.stamp.ensures.view
     c.stamp.ensures.step c.add.new.pass.view c.add.ensures.adds c.thread-who.result.0 c.thread-who.ensures.same
     c.give_rec.new.pass.view c.give_rec.ensures.view c.give_rec.ensures.step
 
 pub give_chain-requires-clause-may : goal.give_chain-requires-clause-may
 give_chain-requires-clause-may c =
     may_give_chain c.args.floor.now.description c.args.c c.args.pass.now.view c.requires.may
-    c.ready.new.pass.view c.ready.ensures.view c.ready.ensures.step c.stamp.result c.stamp.new.pass.view c.stamp.ensures.view
+    c.ready.new.pass.view c.ready.ensures.view c.ready.ensures.step c.stamp.result c.stamp.new.pass.view
+    c.stamp.ensures.view
     c.stamp.ensures.step c.add.new.pass.view c.add.ensures.adds c.thread-who.result.0 c.thread-who.ensures.same
     c.give_rec.new.pass.view c.give_rec.ensures.view c.give_rec.ensures.step
 
 pub returns-clause-lies : goal.returns-clause-lies
 returns-clause-lies c =
     lies c.args.floor.now.description c.args.c c.args.pass.now.view c.requires.may
-    c.ready.new.pass.view c.ready.ensures.view c.ready.ensures.step c.stamp.result c.stamp.new.pass.view c.stamp.ensures.view
+    c.ready.new.pass.view c.ready.ensures.view c.ready.ensures.step c.stamp.result c.stamp.new.pass.view
+    c.stamp.ensures.view
     c.stamp.ensures.step c.add.new.pass.view c.add.ensures.adds c.thread-who.result.0 c.thread-who.ensures.same
     c.give_rec.new.pass.view c.give_rec.ensures.view c.give_rec.ensures.step
     c.give_chain.new.pass.view c.give_chain.ensures.view c.give_chain.ensures.step

@@ -17,13 +17,15 @@ try_take_chain-requires-clause-first g c =
 
 pub try_take_chain-requires-clause-may : goal.try_take_chain-requires-clause-may
 try_take_chain-requires-clause-may g c =
-    may_still c.args.floor.now.description (its_chain c.args.floor.now.description (chan_queue c.args.c.0)) c.args.pass.now.view c.loop.pass.view
+    may_still c.args.floor.now.description (its_chain c.args.floor.now.description (chan_queue c.args.c.0))
+    c.args.pass.now.view c.loop.pass.view
     c.loop.invariant.waited c.requires.may
 
 pub loop-preserved : goal.loop-preserved
 loop-preserved g c = record {
   own = c.try_take_chain.ensures.own;
-  waited = waits_on c.args.floor.now.description (its_chain c.args.floor.now.description (chan_queue c.args.c.0)) c.args.pass.now.view
+  waited = waits_on c.args.floor.now.description (its_chain c.args.floor.now.description (chan_queue c.args.c.0))
+      c.args.pass.now.view
       c.loop.pass.view c.try_take_chain.new.pass.view c.loop.invariant.waited
       (c.try_take_chain.ensures.left c.if-try_take_chain.false)
       (c.try_take_chain.ensures.elsewhere c.if-try_take_chain.false);

@@ -31,13 +31,15 @@ pub stamp-requires-clause-room : goal.stamp-requires-clause-room
 stamp-requires-clause-room c =
     room_for_it c.args.floor.now.description c.args.c c.args.all c.args.pass.now.view
     c.requires.ready.rest c.requires.may c.try_take_chain.new.pass.view
-    (c.try_take_chain.ensures.out c.if-not-try_take_chain.false) c.wake-woken.result c.wake-woken.new.pass.view c.wake-woken.ensures.wakes
+    (c.try_take_chain.ensures.out c.if-not-try_take_chain.false) c.wake-woken.result c.wake-woken.new.pass.view
+    c.wake-woken.ensures.wakes
 
 pub stamp-requires-clause-base : goal.stamp-requires-clause-base
 stamp-requires-clause-base c = ap changes_base c.wake_of.ensures ∙ keeps_base c.args.c c.wake-woken.result c.args.all
 
 pub stamp-requires-clause-table : goal.stamp-requires-clause-table
-stamp-requires-clause-table c = ap changes_table c.wake_of.ensures ∙ keeps_tables c.args.c c.wake-woken.result c.args.all
+stamp-requires-clause-table c = ap changes_table c.wake_of.ensures
+    ∙ keeps_tables c.args.c c.wake-woken.result c.args.all
 
 pub stamp-requires-clause-may : goal.stamp-requires-clause-may
 stamp-requires-clause-may c =
@@ -45,7 +47,8 @@ stamp-requires-clause-may c =
     (Stamps c.wake-woken.new.pass.view.thread e ∷ [])) (sym c.wake_of.ensures)
     (may_note c.args.floor.now.description c.args.c c.args.all c.args.pass.now.view
     c.requires.ready.rest c.requires.may c.try_take_chain.new.pass.view
-    (c.try_take_chain.ensures.out c.if-not-try_take_chain.false) c.wake-woken.result c.wake-woken.new.pass.view c.wake-woken.ensures.wakes)
+    (c.try_take_chain.ensures.out c.if-not-try_take_chain.false) c.wake-woken.result c.wake-woken.new.pass.view
+    c.wake-woken.ensures.wakes)
 
 pub give_chain-requires-clause-queue : goal.give_chain-requires-clause-queue
 give_chain-requires-clause-queue c = c.requires.may.chan
@@ -54,35 +57,41 @@ pub give_chain-requires-clause-last : goal.give_chain-requires-clause-last
 give_chain-requires-clause-last c =
     last_now c.args.floor.now.description c.args.c c.args.all c.args.pass.now.view
     c.requires.ready.rest c.requires.may c.try_take_chain.new.pass.view
-    (c.try_take_chain.ensures.out c.if-not-try_take_chain.false) c.wake-woken.result c.wake-woken.new.pass.view c.wake-woken.ensures.wakes
+    (c.try_take_chain.ensures.out c.if-not-try_take_chain.false) c.wake-woken.result c.wake-woken.new.pass.view
+    c.wake-woken.ensures.wakes
     c.stamp.result c.stamp.new.pass.view
     (subst (λ e. c.stamp.new.pass.view ≡ seeing c.stamp.new.pass.view.seen
     (stamped (config_in c.args.floor.now.description) c.wake-woken.new.pass.view
     (entry_by c.wake-woken.new.pass.view.thread c.stamp.result e))) c.wake_of.ensures c.stamp.ensures.view)
-    (subst (λ e. Makes c.args.floor.now.description (Stamps c.wake-woken.new.pass.view.thread e ∷ []) c.wake-woken.new.pass.view
+    (subst (λ e. Makes c.args.floor.now.description (Stamps c.wake-woken.new.pass.view.thread e ∷ [])
+    c.wake-woken.new.pass.view
     c.stamp.new.pass.view) c.wake_of.ensures c.stamp.ensures.step)
 
 pub give_chain-requires-clause-may : goal.give_chain-requires-clause-may
 give_chain-requires-clause-may c =
     may_give c.args.floor.now.description c.args.c c.args.all c.args.pass.now.view
     c.requires.ready.rest c.requires.may c.try_take_chain.new.pass.view
-    (c.try_take_chain.ensures.out c.if-not-try_take_chain.false) c.wake-woken.result c.wake-woken.new.pass.view c.wake-woken.ensures.wakes
+    (c.try_take_chain.ensures.out c.if-not-try_take_chain.false) c.wake-woken.result c.wake-woken.new.pass.view
+    c.wake-woken.ensures.wakes
     c.stamp.result c.stamp.new.pass.view
     (subst (λ e. c.stamp.new.pass.view ≡ seeing c.stamp.new.pass.view.seen
     (stamped (config_in c.args.floor.now.description) c.wake-woken.new.pass.view
     (entry_by c.wake-woken.new.pass.view.thread c.stamp.result e))) c.wake_of.ensures c.stamp.ensures.view)
-    (subst (λ e. Makes c.args.floor.now.description (Stamps c.wake-woken.new.pass.view.thread e ∷ []) c.wake-woken.new.pass.view
+    (subst (λ e. Makes c.args.floor.now.description (Stamps c.wake-woken.new.pass.view.thread e ∷ [])
+    c.wake-woken.new.pass.view
     c.stamp.new.pass.view) c.wake_of.ensures c.stamp.ensures.step)
 
 pub returns-clause-off : goal.returns-clause-off
 returns-clause-off c =
     has_taken_off c.args.floor.now.description c.args.c c.args.all c.args.pass.now.view
     c.requires.ready.rest c.requires.may c.try_take_chain.new.pass.view
-    (c.try_take_chain.ensures.out c.if-not-try_take_chain.false) c.wake-woken.result c.wake-woken.new.pass.view c.wake-woken.ensures.wakes
+    (c.try_take_chain.ensures.out c.if-not-try_take_chain.false) c.wake-woken.result c.wake-woken.new.pass.view
+    c.wake-woken.ensures.wakes
     c.stamp.result c.stamp.new.pass.view
     (subst (λ e. c.stamp.new.pass.view ≡ seeing c.stamp.new.pass.view.seen
     (stamped (config_in c.args.floor.now.description) c.wake-woken.new.pass.view
     (entry_by c.wake-woken.new.pass.view.thread c.stamp.result e))) c.wake_of.ensures c.stamp.ensures.view)
-    (subst (λ e. Makes c.args.floor.now.description (Stamps c.wake-woken.new.pass.view.thread e ∷ []) c.wake-woken.new.pass.view
+    (subst (λ e. Makes c.args.floor.now.description (Stamps c.wake-woken.new.pass.view.thread e ∷ [])
+    c.wake-woken.new.pass.view
     c.stamp.new.pass.view) c.wake_of.ensures c.stamp.ensures.step)
     c.give_chain.new.pass.view c.give_chain.ensures.view c.give_chain.ensures.step

@@ -19,7 +19,8 @@ returns-then-try_wake-clause-wakes c = (
 
 pub returns-then-try_wake-clause-rest : goal.returns-then-try_wake-clause-rest
 returns-then-try_wake-clause-rest c =
-    rests_on c.args.floor.now.description (Wake c.in-Some.t) c.args.pass.now.view c.try_wake.new.pass.view c.requires.rest (
+    rests_on c.args.floor.now.description (Wake c.in-Some.t) c.args.pass.now.view c.try_wake.new.pass.view
+    c.requires.rest (
       subst (λ (d : Description). c.in-Some.t.0 < length d.threads) c.requires.own.description
           c.in-Some.ensures.of_floor,
       c.try_wake.ensures.woken c.if-try_wake.true,

@@ -33,7 +33,8 @@ pub returns-in-Wake-clause-went : goal.returns-in-Wake-clause-went
 returns-in-Wake-clause-went c =
     let h = subst (λ (a : EndAt). IsEnding c.args.floor.now.description a c.args.pass.now.view) c.in-Halts.is
     c.requires.there in
-    subst (λ (a : EndAt). GoesOnEnding c.args.floor.now.description a (Wake c.in-Wake.t (Halts c.in-Wake.to)) c.args.pass.now.view
+    subst (λ (a : EndAt). GoesOnEnding c.args.floor.now.description a (Wake c.in-Wake.t (Halts c.in-Wake.to))
+    c.args.pass.now.view
     c.go_on_halting.new.pass.view) (sym c.in-Halts.is)
     (halts_on c.args.floor.now.description c.in-Halts.there c.args.pass.now.view h c.in-Wake.to
     c.go_on_halting.new.pass.view

@@ -35,7 +35,8 @@ pub returns-else-first-clause-aborts : goal.returns-else-first-clause-aborts
 returns-else-first-clause-aborts c =
     took_off c.args.floor.now.description c.args.q c.args.first.thread.0 c.args.pass.now.view c.abort.new.pass.view
     (subst (λ (r : QueueName). AbortsSleeper c.args.floor.now.description r c.args.first.thread.0
-    c.args.pass.now.view c.abort.new.pass.view) (sym c.in-Lock.is) c.abort.ensures.aborts) c.requires.first.chain c.requires.first.out
+    c.args.pass.now.view c.abort.new.pass.view) (sym c.in-Lock.is) c.abort.ensures.aborts) c.requires.first.chain
+    c.requires.first.out
 
 pub abort-requires-in-Chan-clause-may : goal.abort-requires-in-Chan-clause-may
 abort-requires-in-Chan-clause-may c =

@@ -1,5 +1,5 @@
 use Rattle.cond_vars.proofs.Woken.{broadcasts}
-use Rattle.cond_vars.proofs.signals.broadcast.Goals as goal
+use Rattle.cond_vars.proofs.signals.cv_broadcast.Goals as goal
 
 pub returns-clause-broadcasts : goal.returns-clause-broadcasts
 returns-clause-broadcasts g c =

@@ -1,5 +1,5 @@
 use Rattle.cond_vars.proofs.Woken.{signals}
-use Rattle.cond_vars.proofs.signals.signal.Goals as goal
+use Rattle.cond_vars.proofs.signals.cv_signal.Goals as goal
 
 pub returns-clause-signals : goal.returns-clause-signals
 returns-clause-signals g c =

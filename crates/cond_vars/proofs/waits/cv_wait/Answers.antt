@@ -3,7 +3,7 @@ use Rattle.floor_table.specs.Descriptions.{config_in}
 use Rattle.lock_floor.specs.Resumes.{cause_of}
 use Rattle.cond_vars.specs.Waits.{Waits}
 use Rattle.cond_vars.proofs.Waited.{low, may_release, has_left, may_retake, is_back, waits}
-use Rattle.cond_vars.proofs.waits.wait.Goals as goal
+use Rattle.cond_vars.proofs.waits.cv_wait.Goals as goal
 
 pub last_held-l-requires : goal.last_held-l-requires
 last_held-l-requires g c = record { may = c.requires.may }
@@ -51,14 +51,16 @@ retake-requires-clause-may g c =
     may_retake c.args.floor.now.description c.args.c c.args.pass.now.view c.requires.ready.rest c.requires.may
     c.last_held-l.result c.last_held-l.ensures c.mode_of-mode.result c.mode_of-mode.ensures c.fall_asleep.new.pass.view
     c.fall_asleep.ensures.lies c.release.new.pass.view c.release.ensures.gives_up
-    (cause_of c.sleep_through-aborted.result) c.sleep_through-aborted.new.pass.view c.sleep_through-aborted.ensures.sleeps
+    (cause_of c.sleep_through-aborted.result) c.sleep_through-aborted.new.pass.view
+    c.sleep_through-aborted.ensures.sleeps
 
 pub note_end-requires-clause-back : goal.note_end-requires-clause-back
 note_end-requires-clause-back g c =
     is_back c.args.floor.now.description c.args.c c.args.pass.now.view c.requires.ready.rest c.requires.may
     c.last_held-l.result c.last_held-l.ensures c.mode_of-mode.result c.mode_of-mode.ensures c.fall_asleep.new.pass.view
     c.fall_asleep.ensures.lies c.release.new.pass.view c.release.ensures.gives_up
-    (cause_of c.sleep_through-aborted.result) c.sleep_through-aborted.new.pass.view c.sleep_through-aborted.ensures.sleeps
+    (cause_of c.sleep_through-aborted.result) c.sleep_through-aborted.new.pass.view
+    c.sleep_through-aborted.ensures.sleeps
     c.retake.new.pass.view c.retake.ensures.back
 
 pub returns-then-aborted-clause-halted : goal.returns-then-aborted-clause-halted
@@ -68,7 +70,8 @@ returns-then-aborted-clause-halted g c =
     (waits c.args.floor.now.description c.args.c c.args.pass.now.view c.requires.ready.rest c.requires.may
     c.last_held-l.result c.last_held-l.ensures c.mode_of-mode.result c.mode_of-mode.ensures c.fall_asleep.new.pass.view
     c.fall_asleep.ensures.lies c.release.new.pass.view c.release.ensures.gives_up
-    (cause_of c.sleep_through-aborted.result) c.sleep_through-aborted.new.pass.view c.sleep_through-aborted.ensures.sleeps
+    (cause_of c.sleep_through-aborted.result) c.sleep_through-aborted.new.pass.view
+    c.sleep_through-aborted.ensures.sleeps
     c.retake.new.pass.view c.retake.ensures.back g.K.Relock.releases g.K.Relock.takes_back c.release.ensures.steps
     c.retake.ensures.steps c.note_end.new.pass.view c.note_end.ensures.notes)
 
@@ -79,6 +82,7 @@ returns-else-aborted-clause-woke g c =
     (waits c.args.floor.now.description c.args.c c.args.pass.now.view c.requires.ready.rest c.requires.may
     c.last_held-l.result c.last_held-l.ensures c.mode_of-mode.result c.mode_of-mode.ensures c.fall_asleep.new.pass.view
     c.fall_asleep.ensures.lies c.release.new.pass.view c.release.ensures.gives_up
-    (cause_of c.sleep_through-aborted.result) c.sleep_through-aborted.new.pass.view c.sleep_through-aborted.ensures.sleeps
+    (cause_of c.sleep_through-aborted.result) c.sleep_through-aborted.new.pass.view
+    c.sleep_through-aborted.ensures.sleeps
     c.retake.new.pass.view c.retake.ensures.back g.K.Relock.releases g.K.Relock.takes_back c.release.ensures.steps
     c.retake.ensures.steps c.note_end.new.pass.view c.note_end.ensures.notes)
