@@ -4,9 +4,11 @@ own. A thread takes a lock by a blocking call only while every lock that it hold
 number; a try may be of any lock that it doesn't hold. So under `run` and under `step` every thread comes to its end,
 and no take is refused. With --any-order some takes are of any lock that the thread doesn't hold, and locks may share a
 class: then takes are refused, and still no run gets stuck. With --shared some locks are reader-writer locks, and no run
-gets stuck either.
+gets stuck either. With --waits some locks are sx locks, and threads sleep on condition variables and channels and wake
+each other: then runs get stuck, as they meet. With --small there are 2 or 3 threads with few operations, so that all
+orders can be gone through in which these may come (ends_of_run.py).
 
-    make_scripts.py [--any-order] [--shared] [--program PATH] N SEED DIR
+    make_scripts.py [--any-order] [--shared] [--waits] [--small] [--program PATH] N SEED DIR
 
 writes DIR/0000.script and so on, the same for the same N and SEED. Each is read by scripts.py, and with --program by
 `PATH check` too, which must say the same counts. Status 1 where one isn't accepted.
@@ -25,7 +27,11 @@ from scripts import MODULUS, MOST_BLOCKS, MOST_HELD, MOST_OPERATIONS, ScriptFaul
 WORDS = {
     "mutex": [("lock", "trylock", "unlock")],
     "rw": [("rlock", "tryrlock", "runlock"), ("wlock", "trywlock", "wunlock")],
+    "sx": [("slock", "tryslock", "sunlock"), ("xlock", "tryxlock", "xunlock")],
 }
+
+# What sleeps on a condition variable and on a channel, wakes one there, and wakes all.
+SLEEPS = {"cond": ("wait", "signal", "broadcast"), "chan": ("msleep", "wakeup_one", "wakeup")}
 
 
 class Held(NamedTuple):
@@ -37,12 +43,21 @@ class Held(NamedTuple):
     exclusive: bool
 
 
+class Channel(NamedTuple):
+    """A condition variable or a channel: its word, its number and its lock's."""
+
+    sort: str
+    number: int
+    lock: int
+
+
 class ThreadMaker:
     """Writes the operations of one thread, at most as many as it is given."""
 
-    def __init__(self, draw, sorts, most, style):
+    def __init__(self, draw, sorts, channels, most, style):
         self.draw = draw
         self.sorts = sorts
+        self.channels = channels
         self.locks = len(sorts)
         self.left = most
         self.style = style
@@ -82,17 +97,50 @@ class ThreadMaker:
         self.free = self.may_take()
         if room >= 2 and len(self.held) < MOST_HELD and self.free:
             choices[self.take] = self.style.takes
-        if room >= 3 and len(self.held) < min(MOST_HELD, self.locks) and self.blocks < MOST_BLOCKS:
+        if room >= 3 and len(self.held) < MOST_HELD and self.blocks < MOST_BLOCKS and self.may_try():
             choices[self.try_one] = self.style.tries
+        if self.channels:
+            choices[self.wake] = self.style.wakes
+            if self.may_sleep():
+                choices[self.sleep] = self.style.sleeps
         self.draw.choices(list(choices), list(choices.values()))[0](kept)
         return True
 
     def may_take(self):
         """The locks that a blocking call may take: those above all that are held, or now and then any others."""
         if self.style.against and self.draw.random() < self.style.against:
-            held = {hold.lock for hold in self.held}
-            return [lock for lock in range(self.locks) if lock not in held]
-        return range(1 + max((hold.lock for hold in self.held), default=-1), self.locks)
+            return self.may_try()
+        above = 1 + max((hold.lock for hold in self.held), default=-1)
+        return [lock for lock in range(above, self.locks) if self.may_be_under(lock)]
+
+    def may_be_under(self, lock):
+        """Whether the lock may be acquired with what is held: an sx lock not under a mutex or a reader-writer lock."""
+        return self.sorts[lock] != "sx" or all(self.sorts[hold.lock] == "sx" for hold in self.held)
+
+    def may_try(self):
+        """The locks that a try may be of: those that aren't held."""
+        held = {hold.lock for hold in self.held}
+        return [lock for lock in range(self.locks) if lock not in held and self.may_be_under(lock)]
+
+    def may_sleep(self):
+        """What the thread may sleep on: with the lock that it took last, by a blocking call, under sx locks alone."""
+        if not self.held or self.held[-1].by_try or any(self.sorts[hold.lock] != "sx" for hold in self.held[:-1]):
+            return []
+        return [channel for channel in self.channels if channel.lock == self.held[-1].lock]
+
+    def sleep(self, kept):
+        channel = self.draw.choice(self.may_sleep())
+        self.write(f"{SLEEPS[channel.sort][0]} c{channel.number}")
+
+    def wake(self, kept):
+        channel = self.draw.choice(self.channels)
+        self.write(f"{SLEEPS[channel.sort][1 if self.draw.random() < self.style.one else 2]} c{channel.number}")
+
+    def wake_all_along(self):
+        """Nothing but wakes."""
+        while self.left > 0:
+            self.wake(0)
+        return self.lines
 
     def hold(self, lock, by_try):
         """Takes or tries the lock, in one of its modes."""
@@ -131,8 +179,7 @@ class ThreadMaker:
         """A try and its block, behind which the held list is what it was before it. A lock that the block began with
         isn't given back in it, save at its end; the tried one may be."""
         before = len(self.held)
-        held = {hold.lock for hold in self.held}
-        self.hold(self.draw.choice([lock for lock in range(self.locks) if lock not in held]), True)
+        self.hold(self.draw.choice(self.may_try()), True)
         self.blocks += 1
         for _ in range(self.draw.randrange(self.style.block)):
             self.make_one(before)
@@ -154,7 +201,7 @@ class ThreadMaker:
 class Style:
     """How often a script's threads do what."""
 
-    def __init__(self, draw, any_order, shared):
+    def __init__(self, draw, any_order, shared, waits):
         self.takes = draw.choice((2, 4, 8))
         self.tries = draw.choice((0, 1, 2, 4))
         self.notes = draw.choice((0.2, 1))
@@ -165,23 +212,44 @@ class Style:
         self.against = draw.choice((0.003, 0.03, 0.3)) if any_order else 0
         # how many of the locks are reader-writer locks, and how many of the takes and tries of these are reads
         self.shared = draw.choice((0.3, 1)) if shared else 0
-        self.reads = draw.choice((0.2, 0.5, 0.9)) if shared else 0
+        self.reads = draw.choice((0.2, 0.5, 0.9)) if shared or waits else 0
+        if waits:
+            # how many locks are sx locks, how often a thread sleeps and wakes, and how many of the wakes are of one
+            self.sleepable = draw.choice((0.2, 0.5, 1))
+            self.sleeps = draw.choice((0.3, 2, 8))
+            self.wakes = draw.choice((0.5, 2, 4))
+            self.one = draw.choice((0.2, 0.5, 0.9))
 
 
-def make_script(seed, number, any_order=False, shared=False):
+def sort_of(draw, style, waits):
+    """The sort of a lock."""
+    if waits and draw.random() < style.sleepable:
+        return "sx"
+    return "rw" if style.shared and draw.random() < style.shared else "mutex"
+
+
+def make_script(seed, number, any_order=False, shared=False, waits=False, small=False):
     draw = random.Random(f"{seed} {number}")
     threads = draw.choice((2, 2, 3, 4, 4, 6, 8, 12, 16, 24, 32))
     locks = draw.choice((1, 1, 2, 3, 4, 6, 8))
     # few operations in most scripts, as many as there may be in some
     most = int(min(MOST_OPERATIONS / threads, 4 * 300 ** draw.random() if draw.random() < 0.97 else MOST_OPERATIONS))
-    style = Style(draw, any_order, shared)
-    sorts = ["rw" if style.shared and draw.random() < style.shared else "mutex" for _ in range(locks)]
+    if small:
+        threads, locks, most = draw.choice((2, 2, 3)), min(locks, 2), draw.randrange(6, 20)
+    style = Style(draw, any_order, shared, waits)
+    sorts = [sort_of(draw, style, waits) for _ in range(locks)]
+    channels = [Channel(draw.choice(list(SLEEPS)), n, draw.randrange(locks))
+                for n in range((3 if small else draw.choice((1, 1, 2, 4))) if waits else 0)]
+    # in some scripts the first thread does nothing but wake, so that more of the others come to their end
+    waker = waits and draw.random() < 0.4
     classes = draw.randrange(1, locks + 1) if any_order and draw.random() < 0.2 else locks
     lines = ["lockrun 1"]
     lines += [f"{sort} m{lock} c{lock % classes}" for lock, sort in enumerate(sorts)]
+    lines += [f"{channel.sort} c{channel.number} m{channel.lock}" for channel in channels]
     for thread in range(threads):
         lines.append(f"thread t{thread} {draw.randrange(256)}")
-        lines += ThreadMaker(draw, sorts, draw.randrange(most // 2, most + 1), style).make()
+        maker = ThreadMaker(draw, sorts, channels, draw.randrange(most // 2, most + 1), style)
+        lines += maker.wake_all_along() if waker and thread == 0 else maker.make()
         lines.append("end")
     if draw.random() < 0.5:
         for _ in range(draw.randrange(1, 30)):
@@ -219,8 +287,8 @@ def judge(source, program, any_order):
     if program is None:
         return None
     answer = subprocess.run([program, "check"], input=source, capture_output=True, timeout=20, check=False)
-    counts = (f"ok threads {len(plan.threads)} locks {len(plan.locks)} channels 0 classes {len(plan.classes)} "
-              f"operations {sum(len(thread.operations) for thread in plan.threads)}\n")
+    counts = (f"ok threads {len(plan.threads)} locks {len(plan.locks)} channels {len(plan.channels)} "
+              f"classes {len(plan.classes)} operations {sum(len(thread.operations) for thread in plan.threads)}\n")
     if answer.returncode != 0 or answer.stdout.decode() != counts:
         return f"{program} check: status {answer.returncode}, {answer.stdout.decode().strip()}"
     return None
@@ -230,6 +298,8 @@ def main():
     words = argparse.ArgumentParser(description="Makes random scripts of locks.")
     words.add_argument("--any-order", action="store_true", help="takes are of any locks, so some are refused")
     words.add_argument("--shared", action="store_true", help="some locks are reader-writer locks")
+    words.add_argument("--waits", action="store_true", help="threads sleep and wake, and some locks are sx locks")
+    words.add_argument("--small", action="store_true", help="there are 2 or 3 threads with few operations")
     words.add_argument("--program", help="a lockrun, whose check must accept each script")
     words.add_argument("count", type=int)
     words.add_argument("seed")
@@ -237,7 +307,7 @@ def main():
     given = words.parse_args()
     given.folder.mkdir(parents=True, exist_ok=True)
     for number in range(given.count):
-        source = make_script(given.seed, number, given.any_order, given.shared)
+        source = make_script(given.seed, number, given.any_order, given.shared, given.waits, given.small)
         file = given.folder / f"{number:04}.script"
         file.write_bytes(source)
         reason = judge(source, given.program, given.any_order)

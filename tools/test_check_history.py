@@ -274,7 +274,7 @@ class Checks(unittest.TestCase):
                 printed = out.read_bytes()
                 # under `run` the order of the entries is open, so mostly they aren't written; lockplan has none,
                 # lockchart tells them otherwise, and `profile` counts them
-                others = (b"thread ", b"line 0 ", b"lockrun 1\n", b"# ", b"{")
+                others = (b"thread ", b"lockrun 1\n", b"# ", b"{")
                 has_history = printed and not printed.startswith(others)
                 is_other = any(word in out.name for word in (".check.", ".ticks.", "profile."))
                 if has_history and not is_other:

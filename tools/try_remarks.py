@@ -1,9 +1,9 @@
 #!/usr/bin/env python3
-"""Holds what `lockrun step` says of refused takes and of stuck runs to the script and to the text that it prints, on
-random scripts: that a line is the operation that is named, that an entry is that operation's, that a lock was held
-then, and that the orders lead from the wanted lock's class to that of the held one, each asked for before the refusal,
-as far as entries tell. And of faulty scripts, made of the examples by random changes, that something is said of each,
-in lines that are few and short. It needs Python 3.8 or later.
+"""Holds what `lockrun step` and `lockrun run`, in turn, say of refused takes and of stuck runs to the script and to the
+text that they print, on random scripts: that a line is the operation that is named, that an entry is that operation's,
+that a lock was held then, and that the orders lead from the wanted lock's class to that of the held one, each asked for
+before the refusal, as far as entries tell. And of faulty scripts, made of the examples by random changes, that something
+is said of each, in lines that are few and short. It needs Python 3.8 or later.
 
     tools/try_remarks.py PROGRAM COUNT [SEED]
 
@@ -82,6 +82,8 @@ class Run:
                 thread = None
             self.thread_of[number] = thread
         self.class_of = {line.split()[1]: line.split()[2] for line in lines if line.split()[0] in CALLS}
+        # the entry by which each thread was halted that was
+        self.halted = {words[1]: at for at, words in self.entries.items() if words[2] == "halted"}
         # where each thread waits
         self.queue_of = {}
         for words in (line.split() for line in text if line.startswith("queue ")):
@@ -100,9 +102,29 @@ class Run:
                if at < ticket and words[1] == thread and words[3:4] == [lock]]
         return bool(own) and "unlock" not in own[-1][2]
 
+    def judge_halt(self, thread, number):
+        """The thread was halted in the operation of that line."""
+        words = self.operation(int(number), thread)
+        demand(words[0] in TAKES or words[0] == "wait", f"line {number} may sleep")
+        demand(self.entries[self.halted.get(thread, 0)][1:] == [thread, "halted", words[1]], f"{thread} was halted")
+
+    def last_before(self, thread, ticket):
+        """The ticket of the thread's last entry before that one, or -1."""
+        return max((at for at, own in self.entries.items() if own[1] == thread and at < ticket), default=-1)
+
     def judge_waits(self):
         told = set()
         for line in self.said:
+            for thread, number in re.findall(r"(\w+) was halted in line (\d+)", line):
+                told.add(thread)
+                self.judge_halt(thread, number)
+            halted = re.fullmatch(r"    (\w+) waited in line (\d+): (.*), and was halted \(entry (\d+)\)", line)
+            if halted:
+                thread, number, text, ticket = halted.groups()
+                told.add(thread)
+                self.judge_halt(thread, number)
+                demand(self.operation(int(number), thread) == text.split(), f"line {number}")
+                demand(self.halted[thread] == int(ticket), f"entry {ticket} halts {thread}")
             for thread, number in re.findall(r"(\w+) waits in line (\d+)", line):
                 told.add(thread)
                 words = self.operation(int(number), thread)
@@ -118,11 +140,13 @@ class Run:
                 name, thread, number, text, ticket = empty.groups()
                 demand(self.entries[int(ticket)][1:] == [thread] + text.split() + ["-"], f"entry {ticket} woke nobody")
                 demand(self.operation(int(number), thread) == text.split() and text.endswith(name), f"line {number}")
+                slept = [self.last_before(who, at) for who, at in self.halted.items() if self.entries[at][3] == name]
+                demand(not slept or int(ticket) < max(slept), f"entry {ticket} is before a sleep on {name}")
             none = re.fullmatch(r"    no line of the script wakes (\w+)", line)
             if none:
                 wakes = {f"{word} {none.group(1)}" for word in ("signal", "broadcast")}
                 demand(not wakes & set(self.lines), line)
-        demand(told == set(self.queue_of), "all who wait are told")
+        demand(told == set(self.queue_of) | set(self.halted), "all who wait or were halted are told")
 
     def judge_refusal(self, at):
         first = re.fullmatch(r"    (\w+) asks for (\w+), of class (\w+), in line (\d+), and holds (\w+), "
@@ -150,21 +174,21 @@ class Run:
             words = self.operation(int(number), thread)
             demand(words[0] in TAKES and words[1] == wanted, f"line {number} asks for {wanted}")
             if gained:
-                demand(self.entries[int(gained)][1:4] == [thread] + words, f"entry {gained}")
+                entry = self.entries[int(gained)][1:4]
+                demand(entry in ([thread] + words, [thread, "halted", wanted]), f"entry {gained}")
             else:
                 demand(thread in self.queue_of, f"{thread} waits still")
             until = int(gained) if gained else len(self.entries)
             demand(self.is_held(thread, held, until), f"{held} is held")
             # it asked behind that
-            last = max((at for at, own in self.entries.items() if own[1] == thread and at < until), default=-1)
-            demand(last < ticket, f"line {number} is reached before entry {ticket}")
+            demand(self.last_before(thread, until) < ticket, f"line {number} is reached before entry {ticket}")
             reached = behind
         demand(reached == held_class, "the orders lead to the held class")
 
 
-def judge_run(program, draw):
+def judge_run(program, draw, command):
     lines = random_script(draw)
-    done = subprocess.run([program, "step"], input="\n".join(lines).encode() + b"\n", capture_output=True, check=False)
+    done = subprocess.run([program, command], input="\n".join(lines).encode() + b"\n", capture_output=True, check=False)
     run = Run(lines, done.stdout.decode().split("\n"), done.stderr.decode().split("\n")[1:-1])
     asks = [at for at, line in enumerate(run.said) if " asks for " in line]
     try:
@@ -177,7 +201,7 @@ def judge_run(program, draw):
     except Wrong as wrong:
         print("\n".join(lines + run.said), wrong, sep="\n")
         return "wrong"
-    return f"status {done.returncode}"
+    return f"{command} status {done.returncode}"
 
 
 def changed(draw, sources):
@@ -224,7 +248,7 @@ def main(program, count, seed=1):
     draw = random.Random(int(seed))
     sources = [path.read_bytes() for path in sorted(EXAMPLES.glob("*.script"))]
     sources = [source for source in sources if 0 < len(source) < 3000]
-    figures = Counter(judge_run(program, draw) for _ in range(int(count)))
+    figures = Counter(judge_run(program, draw, "run" if n % 2 else "step") for n in range(int(count)))
     figures += Counter(judge_fault(program, draw, sources) for _ in range(int(count)))
     print(", ".join(f"{what} {number}" for what, number in sorted(figures.items())))
     return 1 if figures["wrong"] else 0

@@ -15,7 +15,7 @@ use Rattle.lock_calls.specs.Choices.{outside}
 use Rattle.lock_calls.specs.declared.answers.Next.{Next}
 use Rattle.lock_calls.specs.declared.answers.Next.TheVariants.{Done, Again, Sleep, Wake, Reversed, Halted}
 use Rattle.lock_calls.specs.Releases.{HasBegunRelease, IsInRelease, StandsInRelease, WakesOne, GoesOnReleasing}
-use Rattle.lock_calls.specs.Takes.{HasBegunTake, IsInTake, StandsInTake, GoesOnTaking}
+use Rattle.lock_calls.specs.Takes.{HasBegunTake, IsInTake, TakesOn, GoesOnTaking}
 use Rattle.lock_calls.proofs.Taken.{under_take_on}
 
 -- 1. A take
@@ -25,13 +25,14 @@ pub take_begun : (floor : Description) (l : LockNo) (mode : Mode) (p q : Pass Kn
 take_begun floor l mode p q b = record { l = l; mode = mode; at = Checks; call = b.call; there = b.there }
 
 module _ (floor : Description) (p q : Pass Knowledge) (m : IsInTake floor p) where
-  pub takes_still : (next : Next) → StandsInTake floor m.l m.mode m.at next p q → IsInTake floor q
-  takes_still next s = record {
+  takes_still : (to : TakeAt) → q.call ≡ calls.Take m.l m.mode to → TakesOn floor m.l m.mode m.at to p.view q.view
+      → IsInTake floor q
+  takes_still to call on = record {
     l = m.l;
     mode = m.mode;
-    at = s.to;
-    call = s.call;
-    there = under_take_on floor m.l m.mode m.at s.to p.view q.view m.there s.on;
+    at = to;
+    call = call;
+    there = under_take_on floor m.l m.mode m.at to p.view q.view m.there on;
   }
 
   pub take_goes_on : (next : Next) → (next ≡ Done → ⊥) → ((r : Reversal) → next ≡ Reversed r → ⊥) → (next ≡ Halted → ⊥)
@@ -39,9 +40,12 @@ module _ (floor : Description) (p q : Pass Knowledge) (m : IsInTake floor p) whe
       → GoesOnTaking floor l mode at next p q)
       → IsInTake floor q
   take_goes_on Done undone unrefused unhalted went = absurd (undone refl)
-  take_goes_on Again undone unrefused unhalted went = takes_still Again (went m.l m.mode m.at m.call)
-  take_goes_on Sleep undone unrefused unhalted went = takes_still Sleep (went m.l m.mode m.at m.call)
-  take_goes_on (Wake t) undone unrefused unhalted went = absurd (went m.l m.mode m.at m.call)
+  take_goes_on Again undone unrefused unhalted went =
+      let s = went m.l m.mode m.at m.call in takes_still s.to s.call s.on
+  take_goes_on Sleep undone unrefused unhalted went =
+      let s = went m.l m.mode m.at m.call in takes_still s.to s.call s.on
+  take_goes_on (Wake t) undone unrefused unhalted went =
+      let s = went m.l m.mode m.at m.call in takes_still s.to s.call s.wakes.on
   take_goes_on (Reversed r) undone unrefused unhalted went = absurd (unrefused r refl)
   take_goes_on Halted undone unrefused unhalted went = absurd (unhalted refl)
 

@@ -14,7 +14,7 @@ use std::alloc::{AllocError, Global};
 pub const HELP: &[&str] = &[
     "check         reads the script, runs nothing, and prints how much of each thing it has",
     "step          runs it turn by turn, the same way each time, and prints what happened",
-    "run           runs its threads beside each other, without conditions and channels so far",
+    "run           runs its threads beside each other",
     "ticks         runs a script of ticks: timed sleeps, wake-ups and signals",
     "profile       makes the run of `step`, and prints how often and how long each lock was held",
     "--turns N     the run has N turns at most: from 1 to 1000000, which is what there is without it",

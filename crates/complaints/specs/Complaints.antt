@@ -1,5 +1,5 @@
 -- The sentence for standard error, by the status and the text that was written. It is this project's own.
-use Rattle.std.specs.Prelude.{ℕ, Bool, not, ◌||◌, ◌&&◌, ◌==◌, nat_lt, nat_eq, slice_index, if◌then◌else◌, List, [], ◌∷◌, ◌++◌, find, length, Option, Some, None, codes, option_and_then, option_map}
+use Rattle.std.specs.Prelude.{ℕ, Bool, false, true, not, ◌||◌, ◌&&◌, ◌==◌, nat_lt, nat_eq, slice_index, if◌then◌else◌, List, [], ◌∷◌, ◌++◌, find, length, Option, Some, None, codes, option_and_then, option_map}
 use Rattle.std.specs.Option.{option_map_or}
 use Rattle.std.specs.List.{list_any, slice_index_or, starts_with}
 use Rattle.lock_model.specs.Script.Lines.{is_same, lines_of, number_up_to, onto_first, words_of}
@@ -49,11 +49,24 @@ abbrev pub is_reversal : Text → Bool
 is_reversal line = is_same (word_at 2 line) (codes "reversed")
     && not (is_same (word_at 0 line) (codes "order"))
 
+-- the line is `TICKET NAME halted QUEUE`, and of that thread
+abbrev pub halts_in : Text → Text → Bool
+halts_in name line = is_same (word_at 2 line) (codes "halted") && is_same (word_at 1 line) name
+
+-- in which queue a thread was halted
+abbrev pub halted_in : Text → Text → Option Text
+halted_in text name = option_map (word_at 3) (find (halts_in name) (lines_of text))
+
+-- the thread that a line `thread NAME base B eff E` is of, and the queue in which it was halted
+abbrev pub halt_of : Text → Text → Option (Text × Text)
+halt_of text line = if is_same (word_at 0 line) (codes "thread")
+    then option_map (λ queue. (word_at 1 line, queue)) (halted_in text (word_at 1 line)) else None
+
 -- 2. What is said
 
--- where the written text isn't known, which of the two it is isn't either
+-- where the written text isn't known
 abbrev pub unknown_said : Text
-unknown_said = codes "the source is no script, or its threads can't run yet"
+unknown_said = codes "the source is no script"
 
 -- of the line `line L code C`
 abbrev pub fault_by : Text → Option Text → Text
@@ -64,37 +77,43 @@ fault_by line (Some sentence) = codes "line " ++ (word_at 1 line ++ (codes ": "
 abbrev pub meaning_by : Text → Option Text
 meaning_by word = option_and_then meaning (number_up_to 255 word)
 
--- the one line of a plan whose threads can't run yet
-abbrev pub is_of_threads : Text → Bool
-is_of_threads line = is_same line (codes "line 0 code 0")
-
--- what is said of that plan
-abbrev pub threads_said : Text
-threads_said = codes "threads run on locks alone so far, and the script declares "
-    ++ codes "a condition variable or a channel"
-
 abbrev pub fault_said : Text → Text
-fault_said line = if is_of_threads line then threads_said
-    else fault_by line (meaning_by (word_at 3 line))
+fault_said line = fault_by line (meaning_by (word_at 3 line))
 
 abbrev pub first_line : List Text → Text
 first_line [] = []
 first_line (line ∷ lines) = line
 
--- who waits for what: `between` stands before the next wait, and `verb` in it
-abbrev pub wait_then : Text → Text → Option (Text × Text) → (Text → Text → Text) → Text
-wait_then between verb None rest = rest between verb
-wait_then between verb (Some w) rest =
-    between ++ (w.0 ++ (verb ++ (w.1 ++ rest (codes ", ") (codes " for "))))
+-- Who waits for what, or was halted on what. Of a line that says which: a thread and a queue
+abbrev pub found_in : Bool → Text → Text → Option (Text × Text)
+found_in false text line = wait_of text line
+found_in true text line = halt_of text line
 
-abbrev pub waits_said : Text → List Text → Text → Text → Text
-waits_said text [] between verb = []
-waits_said text (line ∷ lines) between verb =
-    wait_then between verb (wait_of text line) (waits_said text lines)
+-- by which words it is told, at first and further on
+abbrev pub verb_first : Bool → Text
+verb_first false = codes " waits for "
+verb_first true = codes " was halted on "
 
+abbrev pub verb_then : Bool → Text
+verb_then false = codes " for "
+verb_then true = codes " on "
+
+-- `between` stands before the next one, and `verb` in it
+abbrev pub told_then : Bool → Text → Text → Option (Text × Text) → (Text → Text → Text) → Text
+told_then halts between verb None rest = rest between verb
+told_then halts between verb (Some w) rest =
+    between ++ (w.0 ++ (verb ++ (w.1 ++ rest (codes ", ") (verb_then halts))))
+
+abbrev pub each_told : Bool → Text → List Text → Text → Text → Text
+each_told halts text [] between verb = []
+each_told halts text (line ∷ lines) between verb =
+    told_then halts between verb (found_in halts text line) (each_told halts text lines)
+
+-- of a scheduled run who waits, and of a run of threads, in which in the end nobody waits, who was halted
 abbrev pub stuck_said : Text → Text
-stuck_said text =
-    codes "stuck" ++ waits_said text (lines_of text) (codes ": ") (codes " waits for ")
+stuck_said text = codes "stuck"
+    ++ (each_told false text (lines_of text) (codes ": ") (verb_first false)
+    ++ each_told true text (lines_of text) (codes ": ") (verb_first true))
 
 -- which thread may not take which lock, under which class that it holds
 abbrev pub reversal_said : Text → Text

@@ -1,11 +1,11 @@
 //! The sentence for standard error.
-ghost use Rattle.std.specs.Prelude.{◌≡◌, ◌++◌, [], IfOk, OnOk, option_map, unwrap_or};
+ghost use Rattle.std.specs.Prelude.{◌≡◌, ◌++◌, [], IfOk, OnOk, codes, option_map, unwrap_or};
 ghost use Rattle.lock_model.specs.Script.Lines.{lines_of};
-ghost use Rattle.complaints.specs.Complaints.{complaint_of, fault_said, first_line, fixed_of, is_reversal, meaning_by, reversal_said, reversed_said, sentence_of, speaker_of, stuck_said, wait_of};
+ghost use Rattle.complaints.specs.Complaints.{complaint_of, each_told, fault_said, first_line, fixed_of, found_in, halt_of, is_reversal, meaning_by, reversal_said, reversed_said, sentence_of, speaker_of, stuck_said, verb_first, verb_then, wait_of};
 
 use crate::program::Program;
 use crate::status::Status;
-use crate::text::{queue_of, word_at};
+use crate::text::{halted_in, queue_of, word_at};
 use script_read::{meaning_of, number_of, split_line};
 use std::alloc::{AllocError, Global};
 
@@ -95,23 +95,15 @@ fn push_sentence(
     }
 }
 
-// What is said where a plan's threads can't run yet.
-const THREADS: &str =
-    "threads run on locks alone so far, and the script declares a condition variable or a channel";
-
-// Of the line `line L code C`, or of the line that tells of a plan whose threads can't run yet.
+// Of the line `line L code C`.
 fn push_fault(out: &mut Vec<u8>, text: &[u8]) -> Result<(), AllocError>
     ensures { OnOk result (out.new.items
         ≡ out.old.items ++ fault_said (first_line (lines_of text.now))) }
 {
     let line = first_line(text);
-    if line == "line 0 code 0".as_bytes() {
-        out.extend_from_slice(THREADS.as_bytes())?;
-        return Ok(());
-    }
     let code = word_at(line, 3);
     let Some(meaning) = meaning_by(code) else {
-        out.extend_from_slice(b"the source is no script, or its threads can't run yet")?;
+        out.extend_from_slice(b"the source is no script")?;
         return Ok(());
     };
     out.extend_from_slice(b"line ")?;
@@ -142,26 +134,63 @@ fn meaning_by(code: &[u8]) -> Option<&'static str>
     }
 }
 
-// Who waits for what, by the lines `thread NAME base B eff E` and those of the queues.
+// Who waits for what in a scheduled run, and who was halted on what in a run of threads.
 fn push_stuck(out: &mut Vec<u8>, text: &[u8]) -> Result<(), AllocError>
     ensures { OnOk result (out.new.items ≡ out.old.items ++ stuck_said text.now) }
 {
     out.extend_from_slice(b"stuck")?;
+    push_each(out, text, false)?;
+    push_each(out, text, true)?;
+    Ok(())
+}
+
+// Of each thread, by its line `thread NAME base B eff E`, for what it waits, or on what it was halted.
+fn push_each(out: &mut Vec<u8>, text: &[u8], halts: bool) -> Result<(), AllocError>
+    ensures { OnOk result (out.new.items ≡ out.old.items
+        ++ each_told halts text.now (lines_of text.now) (codes ": ") (verb_first halts)) }
+{
     let mut between: &[u8] = b": ";
-    let mut verb: &[u8] = b" waits for ";
+    let mut verb = verb_first(halts);
     let mut rest = text;
     while let Some((line, behind)) = split_line(rest) {
-        if let Some((thread, queue)) = wait_of(text, line) {
+        if let Some((thread, queue)) = found_in(halts, text, line) {
             out.extend_from_slice(between)?;
             out.extend_from_slice(thread)?;
             out.extend_from_slice(verb)?;
             out.extend_from_slice(queue)?;
             between = b", ";
-            verb = b" for ";
+            verb = verb_then(halts);
         }
         rest = behind;
     }
     Ok(())
+}
+
+fn verb_first(halts: bool) -> &'static [u8]
+    ensures { result.now ≡ verb_first halts }
+{
+    if halts {
+        b" was halted on "
+    } else {
+        b" waits for "
+    }
+}
+
+fn verb_then(halts: bool) -> &'static [u8]
+    ensures { result.now ≡ verb_then halts }
+{
+    if halts { b" on " } else { b" for " }
+}
+
+fn found_in<'a>(halts: bool, text: &'a [u8], line: &'a [u8]) -> Option<(&'a [u8], &'a [u8])>
+    ensures { option_map (λ w. (w.0.now, w.1.now)) result
+        ≡ found_in halts text.entry.now line.entry.now }
+{
+    if halts {
+        halt_of(text, line)
+    } else {
+        wait_of(text, line)
+    }
 }
 
 // The thread that a line is of, and the queue in which it waits.
@@ -173,6 +202,18 @@ fn wait_of<'a>(text: &'a [u8], line: &'a [u8]) -> Option<(&'a [u8], &'a [u8])>
     }
     let thread = word_at(line, 1);
     let queue = queue_of(text, thread)?;
+    Some((thread, queue))
+}
+
+// The thread that a line is of, and the queue in which it was halted.
+fn halt_of<'a>(text: &'a [u8], line: &'a [u8]) -> Option<(&'a [u8], &'a [u8])>
+    ensures { option_map (λ w. (w.0.now, w.1.now)) result ≡ halt_of text.entry.now line.entry.now }
+{
+    if word_at(line, 0) != "thread".as_bytes() {
+        return None;
+    }
+    let thread = word_at(line, 1);
+    let queue = halted_in(text, thread)?;
     Some((thread, queue))
 }
 

@@ -5,7 +5,7 @@
 pub enum Status {
     /// The run ended with every thread at its end.
     Done = 0,
-    /// The source is no script, or one whose threads can't run yet.
+    /// The source is no script.
     BadScript = 1,
     /// The source failed.
     ReadFault = 2,
@@ -13,7 +13,7 @@ pub enum Status {
     WriteFault = 3,
     /// Memory was wanting. Nothing was written.
     NoMemory = 4,
-    /// A whole round of turns was idle.
+    /// Of a scheduled run: a whole round of turns was idle. Of a run of threads: one was halted in its sleep.
     Stuck = 5,
     /// A lock order was refused.
     Reversed = 6,

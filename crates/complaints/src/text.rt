@@ -1,6 +1,6 @@
 //! The words of the text that was written: its lines are words with one space between them.
 ghost use Rattle.std.specs.Prelude.{◌≡◌, option_map};
-ghost use Rattle.complaints.specs.Complaints.{has_waiter, is_of, queue_of, waits_in, word_at};
+ghost use Rattle.complaints.specs.Complaints.{halted_in, halts_in, has_waiter, is_of, queue_of, waits_in, word_at};
 
 use script_read::{cut_word, split_at_byte, split_line};
 
@@ -39,6 +39,26 @@ fn waits_in(line: &[u8], thread: &[u8]) -> bool
 {
     word_at(line, 0) == "queue".as_bytes()
         && (has_waiter(word_at(line, 9), thread) || has_waiter(word_at(line, 11), thread))
+}
+
+/// The queue in which a thread was halted, by its line `TICKET NAME halted QUEUE`.
+pub fn halted_in<'a>(text: &'a [u8], thread: &[u8]) -> Option<&'a [u8]>
+    ensures { option_map (λ q. q.now) result ≡ halted_in text.entry.now thread.now }
+{
+    let mut rest = text;
+    while let Some((line, behind)) = split_line(rest) {
+        if halts_in(line, thread) {
+            return Some(word_at(line, 3));
+        }
+        rest = behind;
+    }
+    None
+}
+
+fn halts_in(line: &[u8], thread: &[u8]) -> bool
+    ensures { result ≡ halts_in thread.now line.now }
+{
+    word_at(line, 2) == "halted".as_bytes() && word_at(line, 1) == thread
 }
 
 // Whether a list such as `t1@100,t2@50` has the thread.

@@ -15,7 +15,7 @@ use Rattle.lock_model.specs.declared.numbers.ChanNo.{ChanNo}
 use Rattle.lock_model.specs.declared.numbers.LockNo.{LockNo}
 use Rattle.lock_model.specs.declared.plan.Mode.{Mode}
 use Rattle.lock_state.specs.State.{gained_order}
-use Rattle.lock_state.specs.Steps.{Step, TakesItem, Stamps, CountsOut, Resumes}
+use Rattle.lock_state.specs.Steps.{Step, TakesItem, Stamps, Resumes}
 use Rattle.lock_state.specs.Steps.Items.{RecordOf, in_its_chain}
 use Rattle.lock_state.specs.Steps.LockWords.{is_taking_back, after_stamp}
 use Rattle.lock_state.specs.Steps.Turnstiles.{wanted_after, noted_after, woken_from_by, round_for}
@@ -25,8 +25,6 @@ use Rattle.floor_table.specs.Steps.{Makes, MakesEach}
 use Rattle.floor_table.specs.Views.{Knowledge, seeing}
 use Rattle.floor_table.specs.declared.description.Description.{Description}
 use Rattle.floor_table.specs.declared.slot.Slot.{Slot}
-use Rattle.lock_floor.specs.Counts.{counted}
-use Rattle.lock_floor.specs.declared.counts.Count.TheVariants.{Out}
 use Rattle.lock_floor.specs.Latches.{Takes}
 use Rattle.lock_floor.specs.Passes.{IsAtRest}
 use Rattle.lock_floor.specs.Relocks.{WasEnded, MayRelease, GivesUp, MayRetake, TakesBack}
@@ -34,6 +32,7 @@ use Rattle.lock_floor.specs.Resumes.{resumed}
 use Rattle.lock_floor.specs.Views.{entry_by, took}
 use Rattle.lock_floor.specs.Waits.{its_chain, chain_place}
 use Rattle.lock_floor.proofs.Resting.{behind}
+use Rattle.halting.specs.Halts.{Kept, kept_of}
 use Rattle.cond_vars.specs.Sleeping.{MayLieDown, LiesThere, LiesDown, HasLeftLock, SleepsThrough, IsBack, IsToNote, NotesEnd, asleep}
 use Rattle.cond_vars.specs.Waits.{MayWait, Waits, lock_of, lies_there, ended_by}
 use Rattle.cond_vars.proofs.Coming.{sleeper_now, own_now, rests_with_both}
@@ -224,6 +223,7 @@ module _ (floor : Description) (d : ChanNo) (old : Knowledge) (r : IsAtRest floo
     has_left = record {
       stands = gives.pose ∙ ap (λ (x : Knowledge). x.pose) lies.view;
       unburdened = gives.unburdened;
+      no_round = gives.no_round;
       unheld = unheld_now;
       slept = ap is_taking_back log_now;
     }
@@ -231,34 +231,51 @@ module _ (floor : Description) (d : ChanNo) (old : Knowledge) (r : IsAtRest floo
     -- 4. It takes the lock back
 
     module _ (cause : Cause) (a : Knowledge) (sleeps : SleepsThrough floor d cause w a) where
-      abbrev woken : Knowledge
-      woken = resumed c (counted Out sleeps.found w) (chan_queue d.0) cause
+      -- what its halting kept
+      abbrev p : Knowledge
+      p = sleeps.parked
 
-      wants_it : (x : Cause) (b : Bool) → wanted_after c (chan_queue d.0) x b w.share.doing.wanted ≡ Some k
+      kept : kept_of p ≡ kept_of w
+      kept = sleeps.halted.kept
+
+      held_then : p.share.held ≡ without_lock k old.share.held
+      held_then = ap (λ (x : Kept). x.held) kept ∙ held_now
+
+      log_then : p.share.log ≡ then.share.log
+      log_then = ap (λ (x : Kept). x.log) kept ∙ log_now
+
+      thread_then : p.thread ≡ old.thread
+      thread_then = ap (λ (x : Kept). x.thread) kept ∙ thread_now
+
+      noted_before : p.share.doing.noted ≡ None
+      noted_before = ap (λ (x : Kept). x.noted) kept ∙ gives.keeps.noted
+          ∙ ap (λ (x : Knowledge). x.share.doing.noted) lies.view
+
+      abbrev woken : Knowledge
+      woken = resumed c p (chan_queue d.0) cause
+
+      wants_it : (x : Cause) (b : Bool) → wanted_after c (chan_queue d.0) x b p.share.doing.wanted ≡ Some k
       wants_it BySignal b = refl
       wants_it ByAbort b = refl
 
-      noted_before : w.share.doing.noted ≡ None
-      noted_before = gives.keeps.noted ∙ ap (λ (x : Knowledge). x.share.doing.noted) lies.view
-
       was_ended : (x : Cause) (b : Bool) (z : Knowledge)
-          → z.share.doing.woken_from ≡ woken_from_by (chan_queue d.0) x w.share.doing.woken_from
-          → z.share.doing.noted ≡ noted_after (chan_queue d.0) x b w.share.doing.noted → WasEnded z
+          → z.share.doing.woken_from ≡ woken_from_by (chan_queue d.0) x p.share.doing.woken_from
+          → z.share.doing.noted ≡ noted_after (chan_queue d.0) x b p.share.doing.noted → WasEnded z
       was_ended BySignal b z from noted = (d.0, inl (from, noted ∙ noted_before))
       was_ended ByAbort b z from noted = (d.0, inr noted)
 
-      sections_now : (j : ℕ) → open_in c w.share.log w.thread j ≡ hold_in w.share.held j
+      sections_now : (j : ℕ) → open_in c p.share.log p.thread j ≡ hold_in p.share.held j
       sections_now j =
-          (λ i. open_in c (log_now i) (thread_now i) j)
+          (λ i. open_in c (log_then i) (thread_then i) j)
           ∙ (sections_left c old.share.log old.thread lies.ticket j d).0
           ∙ ap (λ h. cond (eqb k j) NotHeld h) (r.sections j)
-          ∙ sym (ap (λ hs. hold_in hs j) held_now ∙ others_held k old.share.held own_apart j)
+          ∙ sym (ap (λ hs. hold_in hs j) held_then ∙ others_held k old.share.held own_apart j)
 
-      fewer : length w.share.held < 8
+      fewer : length p.share.held < 8
       fewer = omega (
         arith,
         may.few,
-        ap length held_now,
+        ap length held_then,
         ap length at_end,
         length-append (without_lock k old.share.held)
             (as_held ∷ []),
@@ -268,26 +285,26 @@ module _ (floor : Description) (d : ChanNo) (old : Knowledge) (r : IsAtRest floo
       may_retake_it = subst (MayRetake floor k mode) (sym sleeps.view) record {
         runs = refl;
         unburdened = record {
-          nothing_out = gives.unburdened.nothing_out;
-          no_walk = gives.unburdened.no_walk;
-          unmarked = gives.unburdened.unmarked;
-          uncounted = gives.unburdened.uncounted;
+          nothing_out = sleeps.halted.nothing_out;
+          no_walk = ap (λ (x : Kept). x.walk) kept ∙ gives.unburdened.no_walk;
+          unmarked = sleeps.halted.unmarked;
+          uncounted = sleeps.halted.uncounted;
           going = record {
             awake = refl;
-            unended = gives.unburdened.going.unended;
-            stamped = gives.unburdened.going.stamped;
+            unended = ap (λ (x : Kept). x.has_ended) kept ∙ gives.unburdened.going.unended;
+            stamped = ap (λ (x : Kept). x.unstamped) kept ∙ gives.unburdened.going.stamped;
           };
         };
-        unheld = unheld_now;
+        unheld = ap (λ (x : Kept). hold_in x.held k) kept ∙ unheld_now;
         few = fewer;
         mutex = held_alone floor (first ∷ []) old lies.steps.0 made k mode held_k made.may.0.fits.may.thread;
-        wants = wants_it cause (is_taking_back w.share.log);
+        wants = wants_it cause (is_taking_back p.share.log);
         takes = refl;
-        round = ap round_for (wants_it cause (is_taking_back w.share.log));
+        round = ap round_for (wants_it cause (is_taking_back p.share.log));
         looks = refl;
-        back = ap is_taking_back log_now;
+        back = ap is_taking_back log_then;
         sections = sections_now;
-        ended = was_ended cause (is_taking_back w.share.log) (seeing a.seen woken) refl refl;
+        ended = was_ended cause (is_taking_back p.share.log) (seeing a.seen woken) refl refl;
       }
 
       pub may_retake : MayRetake floor l.0 mode a
@@ -303,19 +320,20 @@ module _ (floor : Description) (d : ChanNo) (old : Knowledge) (r : IsAtRest floo
               mode = mode;
               by_try = false;
             } ∷ [])
-            ∙ ap (λ hs. hs ++ as_held ∷ []) held_now ∙ at_end
+            ∙ ap (λ hs. hs ++ as_held ∷ []) held_then ∙ at_end
 
         log_again : z.share.log ≡ then.share.log
-        log_again = back.keeps.log ∙ ap (λ (x : Knowledge). x.share.log) sleeps.view ∙ log_now
+        log_again = back.keeps.log ∙ ap (λ (x : Knowledge). x.share.log) sleeps.view ∙ log_then
 
         thread_again : z.thread ≡ old.thread
-        thread_again = back.keeps.thread ∙ ap (λ (x : Knowledge). x.thread) sleeps.view ∙ thread_now
+        thread_again = back.keeps.thread ∙ ap (λ (x : Knowledge). x.thread) sleeps.view ∙ thread_then
 
         spare_again : z.spare ≡ v.spare
-        spare_again = back.keeps.spare ∙ ap (λ (x : Knowledge). x.spare) sleeps.view ∙ gives.keeps.spare
+        spare_again = back.keeps.spare ∙ ap (λ (x : Knowledge). x.spare) sleeps.view
+            ∙ ap (λ (x : Kept). x.spare) kept ∙ gives.keeps.spare
 
-        woken_now : (x : Cause) → (a.share.doing.woken_from ≡ woken_from_by (chan_queue d.0) x w.share.doing.woken_from)
-            → (a.share.doing.noted ≡ noted_after (chan_queue d.0) x (is_taking_back w.share.log) w.share.doing.noted)
+        woken_now : (x : Cause) → (a.share.doing.woken_from ≡ woken_from_by (chan_queue d.0) x p.share.doing.woken_from)
+            → (a.share.doing.noted ≡ noted_after (chan_queue d.0) x (is_taking_back p.share.log) p.share.doing.noted)
             → IsToNote x d.0 z
         woken_now BySignal from noted = back.keeps.woken_from ∙ from
         woken_now ByAbort from noted = back.keeps.noted ∙ noted
@@ -343,7 +361,8 @@ module _ (floor : Description) (d : ChanNo) (old : Knowledge) (r : IsAtRest floo
               ∙ r.sections j ∙ sym (ap (λ hs. hold_in hs j) held_again);
           begun = λ j other held.
               back.begun j (λ e. other (e ∙ its))
-              ∙ ap (λ (x : Knowledge). is_among j x.share.begun) sleeps.view ∙ ap (is_among j) gives.begun
+              ∙ ap (λ (x : Knowledge). is_among j x.share.begun) sleeps.view
+              ∙ ap (λ (x : Kept). is_among j x.begun) kept ∙ ap (is_among j) gives.begun
               ∙ ap (λ (x : Knowledge). is_among j x.share.begun) lies.view
               ∙ r.begun j (λ e. held (ap (λ hs. hold_in hs j) held_again ∙ e));
           room = omega (arith, may.room, spare_again, lies.entry.spare);
@@ -373,7 +392,7 @@ module _ (floor : Description) (d : ChanNo) (old : Knowledge) (r : IsAtRest floo
               releases = subst (λ j. Releases floor j v w) its releases;
               unheld = unheld_now;
               parked = sleeps.parked;
-              parks = subst (λ t. Makes floor (CountsOut t ∷ []) w sleeps.parked) thread_now sleeps.parks;
+              counts = sleeps.counts;
               awake = a;
               resumes = subst (λ t. Makes floor (Resumes t (chan_queue d.0) cause ∷ []) sleeps.parked a) thread_now
                   sleeps.resumes;

@@ -9,20 +9,19 @@ use Rattle.lock_model.specs.Queues.{Cause, BySignal, ByAbort, chan_queue}
 use Rattle.lock_model.specs.declared.event.Event.TheVariants.{Sleeps}
 use Rattle.lock_model.specs.declared.numbers.ChanNo.{ChanNo}
 use Rattle.lock_state.specs.State.{HeldLock, SleepHalted, gained_order}
-use Rattle.lock_state.specs.Steps.{Stamps, CountsOut, Resumes}
+use Rattle.lock_state.specs.Steps.{Stamps, Resumes}
 use Rattle.lock_state.specs.Steps.LockWords.{is_taking_back}
 use Rattle.floor_table.specs.Descriptions.{config_in}
 use Rattle.floor_table.specs.Shares.{Doing, is_among}
 use Rattle.floor_table.specs.Steps.{Makes, MakesEach}
 use Rattle.floor_table.specs.Views.{Knowledge, Runs, StandsOn, seeing}
 use Rattle.floor_table.specs.declared.description.Description.{Description}
-use Rattle.lock_floor.specs.Counts.{counted}
-use Rattle.lock_floor.specs.declared.counts.Count.TheVariants.{Out}
 use Rattle.lock_floor.specs.Passes.{IsAtRest, MakesEntry}
 use Rattle.lock_floor.specs.Relocks.{IsUnburdened}
 use Rattle.lock_floor.specs.Resumes.{resumed}
 use Rattle.lock_floor.specs.Sleeps.{HasSleeperOut}
 use Rattle.lock_floor.specs.Views.{entry_by, stamped}
+use Rattle.halting.specs.Halts.{CountsItselfOut, HasHalted}
 use Rattle.cond_vars.specs.Waits.{lock_of, lies_there, lies_down, ended_by}
 
 -- 1. It lies down
@@ -72,23 +71,25 @@ pub record LiesDown (floor : Description) (d : ChanNo) (old new : Knowledge) : T
 
 -- 2. It sleeps
 
--- The thread stands on the channel's queue and has released the lock of its wait: it has nothing else to do, and its
--- newest entry is that of the sleep
+-- The thread stands on the channel's queue and has released the lock of its wait: it has nothing else to do and is in
+-- no round, and its newest entry is that of the sleep
 pub record HasLeftLock (floor : Description) (d : ChanNo) (v : Knowledge) : Type 0 where
   pub stands : v.pose ≡ StandsOn (chan_queue d.0)
   pub unburdened : IsUnburdened v
+  pub no_round : v.share.doing.round ≡ None
   pub unheld : hold_in v.share.held (lock_of floor d.0) ≡ NotHeld
   pub slept : is_taking_back v.share.log ≡ true
 
--- It counted itself out, where so many were awake; and once it was woken by that cause, it ran again
+-- It counted itself out, and halted others where that left nobody awake; and once it was woken by that cause, it ran
+-- again
 pub record SleepsThrough (floor : Description) (d : ChanNo) (cause : Cause) (old new : Knowledge) :
     Type 0 where
-  pub found : ℕ
   pub parked : Knowledge
-  pub parks : Makes floor (CountsOut old.thread ∷ []) old parked
+  pub counts : CountsItselfOut floor old parked
+  pub halted : HasHalted floor old parked
   pub resumes : Makes floor (Resumes old.thread (chan_queue d.0) cause ∷ []) parked new
   pub view : new ≡ seeing new.seen
-      (resumed (config_in floor) (counted Out found old) (chan_queue d.0) cause)
+      (resumed (config_in floor) parked (chan_queue d.0) cause)
 
 -- 3. It has its lock back
 

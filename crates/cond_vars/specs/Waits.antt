@@ -9,7 +9,7 @@ use Rattle.lock_model.specs.declared.event.Event.{Event}
 use Rattle.lock_model.specs.declared.event.Event.TheVariants.{Sleeps, Woke, HaltedChan}
 use Rattle.lock_model.specs.declared.numbers.ChanNo.{ChanNo}
 use Rattle.lock_model.specs.declared.plan.Mode.{Mode}
-use Rattle.lock_state.specs.Steps.{Step, TakesItem, GivesItem, Stamps, Readies, Adds, CountsOut, Resumes}
+use Rattle.lock_state.specs.Steps.{Step, TakesItem, GivesItem, Stamps, Readies, Adds, Resumes}
 use Rattle.lock_state.specs.Steps.Items.{RecordOf}
 use Rattle.floor_table.specs.Descriptions.{config_in}
 use Rattle.floor_table.specs.Steps.{Makes, MakesEach}
@@ -17,6 +17,7 @@ use Rattle.floor_table.specs.Views.{Knowledge}
 use Rattle.floor_table.specs.declared.description.Description.{Description}
 use Rattle.lock_floor.specs.Passes.{MakesEntry}
 use Rattle.lock_floor.specs.Waits.{its_chain}
+use Rattle.halting.specs.Halts.{CountsItselfOut}
 
 -- 1. Who may wait
 
@@ -59,9 +60,10 @@ ended_by ByAbort d = HaltedChan d
 -- 3. What the calls promise
 
 -- The thread slept on the channel, to which its entry says that it went, and was woken by that cause. It came to stand
--- on the channel's queue, released the lock by such steps, counted itself out, and ran again once it was woken; it
--- took the lock back in its mode, by such steps, and noted that. In between it held all that it held before but the
--- lock, and now it holds just what it held. Where its sleep was ended by an abort, the halt word is 1
+-- on the channel's queue, released the lock by such steps, counted itself out, and halted others where that left nobody
+-- awake. It ran again once it was woken; it took the lock back in its mode, by such steps, and noted that. In between
+-- it held all that it held before but the lock, and now it holds just what it held. Where its sleep was ended by an
+-- abort, the halt word is 1
 pub record Waits (Releases : Description → ℕ → Knowledge → Knowledge → Type 0)
     (TakesBack : Description → ℕ → Mode → Knowledge → Knowledge → Type 0) (floor : Description)
     (d : ChanNo) (cause : Cause) (old new : Knowledge) : Type 0 where
@@ -75,7 +77,7 @@ pub record Waits (Releases : Description → ℕ → Knowledge → Knowledge →
   pub releases : Releases floor (lock_of floor d.0) asleep without
   pub unheld : hold_in without.share.held (lock_of floor d.0) ≡ NotHeld
   pub parked : Knowledge
-  pub parks : Makes floor (CountsOut old.thread ∷ []) without parked
+  pub counts : CountsItselfOut floor without parked
   pub awake : Knowledge
   pub resumes : Makes floor (Resumes old.thread (chan_queue d.0) cause ∷ []) parked awake
   pub again : Knowledge

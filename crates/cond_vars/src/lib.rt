@@ -11,6 +11,8 @@
 //!   it at once.
 //! - `waits`: the calls that wait, and `sleeping`: their parts.
 //!
+//! A thread that waits counts itself out before it sleeps, and halts others where that left nobody awake (`halting`).
+//!
 //! Each call needs a pass at rest and leaves it at rest, and tells which atomic steps it made. No call takes memory.
 #![tactic(auto)]
 

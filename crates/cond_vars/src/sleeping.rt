@@ -15,7 +15,7 @@ ghost use Rattle.cond_vars.specs.Sleeping.{MayLieDown, LiesThere, LiesDown, HasL
 ghost use Rattle.cond_vars.specs.Waits.{MayWait, lock_of};
 
 use crossbeam_utils::Backoff;
-use lock_floor::{Count, Floor, Pass};
+use lock_floor::{Floor, Pass};
 use lock_model::{ChanNo, Event, LockNo, Mode, QueueName};
 use std::sync::Wait;
 
@@ -92,7 +92,7 @@ pub fn lie_down(floor: &Floor, pass: &mut Pass, c: ChanNo)
 }
 
 /// Sleeps on the channel's queue until the thread is woken, and runs again. Answers whether an abort woke it. It counts
-/// itself out before.
+/// itself out before, and halts others where that left nobody awake.
 pub fn sleep_through<R: Wait>(floor: &Floor, rt: &R, pass: &mut Pass, c: ChanNo) -> bool
     requires own { IsOf floor.now pass.old }
     requires left { HasLeftLock floor.now.description c pass.old.view }
@@ -100,7 +100,7 @@ pub fn sleep_through<R: Wait>(floor: &Floor, rt: &R, pass: &mut Pass, c: ChanNo)
     ensures sleeps { SleepsThrough floor.now.description c (cause_of result)
         pass.old.view pass.new.view }
 {
-    floor.count(pass, Count::Out);
+    halting::count_out(floor, rt, pass);
     for _ in rt.forever() {
         match floor.try_resume(pass) {
             Some(aborted) => return aborted,

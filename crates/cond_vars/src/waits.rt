@@ -14,8 +14,9 @@ use std::sync::Wait;
 
 /// Waits on a condition variable, with the lock that belongs to it, which the thread gained last, and not by a try: it
 /// gives the lock up, sleeps until another thread wakes it, and takes the lock back in the mode in which it held it.
-/// No order is checked again. `Halted` comes only where this call's own sleep was ended by an abort, while the halt
-/// word is 1; the thread holds the lock again then too. The floor has one chain of turnstiles.
+/// No order is checked again. Where its sleep would leave nobody awake, the call halts those who sleep, and itself too.
+/// `Halted` comes only where this call's own sleep was ended by an abort, while the halt word is 1; the thread holds
+/// the lock again then too. The floor has one chain of turnstiles.
 pub fn cv_wait<K: Relock, R: Wait>(
     floor: &Floor,
     rt: &R,

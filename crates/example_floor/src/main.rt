@@ -82,7 +82,8 @@ fn work<R: Wait>(rt: &R, floor: &Floor, pass: &mut Pass)
     for _ in 0..ROUNDS {
         add_one(rt, floor, pass);
     }
-    floor.finish(rt, pass);
+    halting::end_thread(floor, rt, pass);
+    floor.finish(pass);
 }
 
 // Adds 1 while it holds the mutex.

@@ -22,7 +22,7 @@ use Rattle.lock_calls.specs.declared.answers.Next.TheVariants.{Done, Again, Slee
 use Rattle.lock_calls.specs.Choices.{outside}
 use Rattle.lock_calls.specs.Releases.{ReleaseEnd, puts_down, nobody_left, ReleaseLeg, misses, takes_chain, comes_in, looks, makes_free, finds_out, HasBegunRelease, StandsInRelease, GoesOnReleasing}
 use Rattle.lock_calls.specs.Steps.{as_taken}
-use Rattle.lock_calls.specs.Takes.{HasBegunTake, HasTaken, StandsInTake, GoesOnTaking}
+use Rattle.lock_calls.specs.Takes.{HasBegunTake, HasTaken, TakesOn, GoesOnTaking}
 use Rattle.lock_calls.specs.Waiting.{Kept}
 use Rattle.lock_calls.proofs.Refused.{bare_admitted}
 use Rattle.lock_calls.proofs.Taken.{under_take_on}
@@ -119,22 +119,23 @@ module _ (f : Floor Description) (p q : Pass Knowledge) (own : IsOf f q) where
   take_begins_admitted (Reversed r) begun = begun
   take_begins_admitted Halted begun = begun
 
-  takes_still : (next : Next) (was : IsTaking f p)
-      → StandsInTake f.description was.under_way.l was.under_way.mode was.under_way.at next p q → IsTaking f q
-  takes_still next was s =
+  takes_still : (was : IsTaking f p) (to : TakeAt)
+      → q.call ≡ calls.Take was.under_way.l was.under_way.mode to
+      → TakesOn f.description was.under_way.l was.under_way.mode was.under_way.at to p.view q.view → IsTaking f q
+  takes_still was to call on =
       let m = was.under_way in
       record {
         own = own;
         under_way = record {
           l = m.l;
           mode = m.mode;
-          at = s.to;
-          call = s.call;
-          there = under_take_on f.description m.l m.mode m.at s.to p.view q.view m.there s.on;
+          at = to;
+          call = call;
+          there = under_take_on f.description m.l m.mode m.at to p.view q.view m.there on;
         };
         lock = was.lock;
-        unheld = ap (λ (k : Kept). k.held) s.on.kept ∙ was.unheld;
-        room = omega (arith, was.room, ap (λ (k : Kept). k.spare) s.on.kept);
+        unheld = ap (λ (k : Kept). k.held) on.kept ∙ was.unheld;
+        room = omega (arith, was.room, ap (λ (k : Kept). k.spare) on.kept);
       }
 
   -- the mutex has a turnstile
@@ -170,11 +171,14 @@ module _ (f : Floor Description) (p q : Pass Knowledge) (own : IsOf f q) where
       (m.there.covered.mutex (ap (λ (k : LockNo). (config_in f.description).kind k.0) was.lock ∙ two.mutex.kind))
       was.unheld was.room (went m.l m.mode m.at m.call).1
   take_goes_on Again two was went =
-      takes_still Again was (went was.under_way.l was.under_way.mode was.under_way.at was.under_way.call)
+      let s = went was.under_way.l was.under_way.mode was.under_way.at was.under_way.call in
+      takes_still was s.to s.call s.on
   take_goes_on Sleep two was went =
-      takes_still Sleep was (went was.under_way.l was.under_way.mode was.under_way.at was.under_way.call)
+      let s = went was.under_way.l was.under_way.mode was.under_way.at was.under_way.call in
+      takes_still was s.to s.call s.on
   take_goes_on (Wake t) two was went =
-      absurd (went was.under_way.l was.under_way.mode was.under_way.at was.under_way.call)
+      let s = went was.under_way.l was.under_way.mode was.under_way.at was.under_way.call in
+      takes_still was s.to s.call s.wakes.on
   take_goes_on (Reversed r) two was went = absurd (take_admitted (Reversed r) two was went)
   take_goes_on Halted two was went = absurd (take_admitted Halted two was went)
 

@@ -1,4 +1,5 @@
--- A take that is refused or halted cuts its thread short: it gives back what it holds, the lock gained last first.
+-- A take that is refused or halted and a wait that is halted cut their thread short: it gives back what it holds, the
+-- lock gained last first.
 use Rattle.std.proofs.Common.{◌≡◌, ℕ, zero, suc, ◌+◌, ◌-◌, ◌<◌, ◌≤◌, Bool, true, false, cond, eqb, arith, List, [], ◌∷◌, ◌++◌, length, length-append, reverse, slice_get, take, Option, Some, None, sym, ap, ◌∙◌, subst, refl}
 use Rattle.std.proofs.lemmas.List.{take_all, reverse-append}
 use Rattle.std.proofs.lemmas.Option.{slice_get_within}
@@ -7,6 +8,8 @@ use Rattle.lock_model.specs.Law.{LeadsTo, Gives, Cut}
 use Rattle.lock_model.specs.Law as law
 use Rattle.lock_model.specs.Operations.{IsProper, held_of, held_behind, held_after, of_locks, hold_in, without_lock}
 use Rattle.lock_model.specs.Plans.{config_of, operations_of}
+use Rattle.lock_model.specs.Queues.{ByAbort}
+use Rattle.lock_model.specs.declared.numbers.ChanNo.{ChanNo}
 use Rattle.lock_model.specs.declared.numbers.LockNo.{LockNo}
 use Rattle.lock_model.specs.Words.{is_turnstile}
 use Rattle.lock_model.specs.declared.event.Entry.{Entry}
@@ -19,7 +22,7 @@ use Rattle.lock_model.specs.declared.plan.Kind.{Kind}
 use Rattle.lock_model.specs.declared.plan.Kind.TheVariants.{Mtx, Rw, Sx}
 use Rattle.lock_model.specs.declared.plan.Mode.{Mode}
 use Rattle.lock_model.specs.declared.plan.Op.{Op}
-use Rattle.lock_model.specs.declared.plan.Op.TheVariants.{Take}
+use Rattle.lock_model.specs.declared.plan.Op.TheVariants.{Take, Sleep}
 use Rattle.lock_model.specs.declared.plan.OfLocks.{OfLocks}
 use Rattle.lock_model.specs.declared.plan.OfLocks.TheVariants.{NoLock, Acquires, ClosesBlock, Releases, EditsAt, ReadsAt, SleepsOn, WakesOn}
 use Rattle.lock_model.specs.declared.plan.Plan.{Plan}
@@ -36,8 +39,10 @@ use Rattle.lock_floor.specs.Views.{entry_by}
 use Rattle.lock_calls.specs.Steps.{MayRelease}
 use Rattle.lock_calls.specs.Takes.{WasNotTaken}
 use Rattle.floor_run.specs.Progress.{IsBefore, IsCut}
-use Rattle.floor_run.specs.Workers.{IsWhole}
-use Rattle.floor_run.proofs.Operating.{was_stamped, is_covered, same_kind}
+use Rattle.floor_run.specs.Workers.{WereStamped, IsWhole}
+use Rattle.floor_run.proofs.Operating.{was_stamped, is_covered, same_kind, lies_asleep, both_stamped}
+use Rattle.floor_run.proofs.Waiting.{none_past}
+use Rattle.floor_run.specs.Sleeps.{HasSlept}
 
 -- 1. A thread holds as many locks as it has operations left, or fewer
 
@@ -63,11 +68,6 @@ one_less op hs = go (of_locks op)
     go (ReadsAt l key) = omega arith
     go (SleepsOn c) = omega arith
     go (WakesOn c) = omega arith
-
-none_past : {A : Type 0} (xs : List A) (i : ℕ) → slice_get xs i ≡ None → length xs ≤ i
-none_past [] i e = omega arith
-none_past (x ∷ xs) zero e = absurd cc
-none_past (x ∷ xs) (suc i) e = omega (arith, none_past xs i e)
 
 few_held : (plan : Plan) (p : IsProper plan) (t k n : ℕ) → n + k ≡ length (operations_of plan t)
     → length (held_of (operations_of plan t) n) ≤ k
@@ -98,10 +98,31 @@ held_in_all l (suc k) (h ∷ hs) mode e = go (eqb h.l.0 l) (held_in_all l k hs m
     go true on i = i
     go false on i = on i
 
--- 2. A take is refused or halted
+-- 2. A take is refused or halted, or a wait is halted
 
 module _ (plan : Plan) (f : Floor Description) (given : IsFor plan f.description) (p : IsProper plan) (t n : ℕ)
     (x : Pass Knowledge) (b : IsBefore plan f t n x) where
+  -- its log leads there, and what it holds is what it held before the operation
+  is_cut : (y : Pass Knowledge) → IsReady f y → y.view.thread ≡ t → y.view.share.held ≡ x.view.share.held
+      → LeadsTo (config_of plan).kind (operations_of plan t) y.view.share.log
+      (Cut (reverse (held_of (operations_of plan t) n)))
+      → WereStamped f.description t y.view.share.log → length (held_of (operations_of plan t) n) ≤ y.view.spare
+      → IsCut plan f t y
+  is_cut y ready thread held leads stamped room =
+      let ops : List Op = operations_of plan t in
+      let holds : y.view.share.held ≡ held_of ops n = held ∙ b.held in
+      record {
+        ready = ready;
+        thread = thread;
+        n = n;
+        left = length (held_of ops n);
+        held = holds ∙ sym (take_all (length (held_of ops n)) (held_of ops n) (omega arith));
+        leads = subst (λ (hs : List Held). LeadsTo (config_of plan).kind ops y.view.share.log (Cut (reverse hs))) (sym holds)
+            leads;
+        stamped = stamped;
+        room = omega (arith, room, ap length holds);
+      }
+
   -- an operation's entry leaves what is held, and cuts its thread short
   cuts : (y : Pass Knowledge) (op : Op) (e : Event) → slice_get (operations_of plan t) n ≡ Some op
       → Gives (config_of plan).kind (held_of (operations_of plan t) n) n op e
@@ -110,20 +131,36 @@ module _ (plan : Plan) (f : Floor Description) (given : IsFor plan f.description
   cuts y op e at gives ready made =
       let ops : List Op = operations_of plan t in
       let entry : Entry = entry_by x.view.thread made.ticket e in
-      let holds : y.view.share.held ≡ held_of ops n = made.held ∙ b.held in
       let low : n < length ops = slice_get_within ops n op at in
       let few = few_held plan p t (length ops - n) n (omega (arith, low)) in
-      record {
-        ready = ready;
-        thread = made.thread ∙ b.thread;
-        n = n;
-        left = length (held_of ops n);
-        held = holds ∙ sym (take_all (length (held_of ops n)) (held_of ops n) (omega arith));
-        leads = subst (λ (z : List Entry × List Held). LeadsTo (config_of plan).kind ops z.0 (Cut (reverse z.1)))
-            (λ i. (sym made.log i, sym holds i)) (law.goes_on entry b.leads at gives);
-        stamped = was_stamped f.description t x.view y.view e x.view.share.held b.thread b.stamped made;
-        room = omega (arith, b.room, made.spare, few, low, ap length holds);
-      }
+      is_cut y ready (made.thread ∙ b.thread) made.held
+      (subst (λ (es : List Entry). LeadsTo (config_of plan).kind ops es (Cut (reverse (held_of ops n)))) (sym made.log)
+      (law.goes_on entry b.leads at gives))
+      (was_stamped f.description t x.view y.view e x.view.share.held b.thread b.stamped made)
+      (omega (arith, b.room, made.spare, few, low))
+
+  -- A wait that was halted. Behind it the thread holds what it held before, so that it has an operation left for each
+  pub slept_halted : (y : Pass Knowledge) (d : ChanNo) → slice_get (operations_of plan t) n ≡ Some (Sleep d)
+      → IsReady f y → HasSlept f.description d ByAbort x.view y.view → IsCut plan f t y
+  slept_halted y d at ready s =
+      let ops : List Op = operations_of plan t in
+      let last : Entry = entry_by s.asleep.thread s.ended.ticket (event.HaltedChan d) in
+      let low : n < length ops = slice_get_within ops n (Sleep d) at in
+      let few = few_held plan p t (length ops - suc n) (suc n) (omega (arith, low)) in
+      is_cut y ready (s.ended.thread ∙ s.slept.thread ∙ b.thread) s.ended.held
+      (subst (λ (es : List Entry). LeadsTo (config_of plan).kind ops es (Cut (reverse (held_of ops n)))) (sym s.ended.log)
+      (law.is_woken_by_a_halt last
+      (lies_asleep plan f given p t n x b s.asleep d x.view.share.held at s.slept) at refl))
+      (both_stamped plan f given p t n x b y.view d ByAbort s)
+      (omega (
+        arith,
+        b.room,
+        s.slept.spare,
+        s.ended.spare,
+        few,
+        low,
+        ap length (next_leads plan p t n (Sleep d) at).behind,
+      ))
 
   -- of a kind without turnstiles there is one
   is_sx : (k : Kind) → is_turnstile k ≡ false → k ≡ Sx

@@ -1,18 +1,20 @@
 -- Worked histories, held against the law of a run of threads as its text has it: what no run prints. There are two
--- threads, p and q, and two sx locks, a and b, each with a class of its own. What the threads' operations are is left
--- open: with none does a run print such a history.
+-- threads, p and q, and two sx locks, a and b, each with a class of its own, and a channel c of a. What the threads'
+-- operations are is left open: with none does a run print such a history.
 use Rattle.std.proofs.Common.{◌≡◌, ℕ, zero, suc, ◌≤◌, true, false, List, [], ◌∷◌, reverse, refl, sym, ap, subst, ◌∙◌, arith}
 use Rattle.std.proofs.lemmas.List.{reverse-reverse}
 use Rattle.lock_model.specs.BusyWords.{BusyWordsHaveHolders, has_section}
 use Rattle.lock_model.specs.Config.{Config}
-use Rattle.lock_model.specs.Counts.{any_below}
+use Rattle.lock_model.specs.Counts.{any_below, has_bit}
 use Rattle.lock_model.specs.Halts.{HaltsAreHonest, HaltsComeSince, is_honest_to, entries_below, entries_since}
 use Rattle.lock_model.specs.History.{sections_in}
+use Rattle.lock_model.specs.Law.{WakingsNameSleepers, is_asleep, is_named}
 use Rattle.lock_model.specs.Legal.{IsLegal}
 use Rattle.lock_model.specs.Orders.{forbids}
 use Rattle.lock_model.specs.Plans.{config_of}
 use Rattle.lock_model.specs.Takes.{ReversalsHaveCause, classes_open, take_edges}
 use Rattle.lock_model.specs.Text.{Outcome}
+use Rattle.lock_model.specs.declared.numbers.ChanNo.{ChanNo}
 use Rattle.lock_model.specs.declared.plan.Kind.TheVariants.{Sx}
 use Rattle.lock_model.specs.declared.plan.LockDecl.{LockDecl}
 use Rattle.lock_model.specs.declared.plan.Mode.TheVariants.{Excl}
@@ -20,9 +22,12 @@ use Rattle.lock_model.specs.declared.plan.Op.{Op}
 use Rattle.lock_model.specs.declared.plan.Plan.{Plan}
 use Rattle.lock_model.specs.declared.plan.ThreadDecl.{ThreadDecl}
 use Rattle.lock_model.specs.declared.event.Entry.{Entry}
-use Rattle.lock_model.specs.declared.event.Event.TheVariants.{Locked, Busy, Unlocked, HaltedLock, Reversed}
+use Rattle.lock_model.specs.declared.event.Event.TheVariants.{Locked, Busy, Unlocked, Sleeps, Woke, HaltedChan, HaltedLock, WokeOne, Reversed}
 use Rattle.run_laws.proofs.Histories.{entry, lock}
 use Rattle.floor_run.specs.Runs.{IsOutcome, outcome_of}
+
+abbrev chan : ℕ → ChanNo
+chan k = record { 0 = k }
 
 abbrev lock_of : ℕ → LockDecl
 lock_of k = record { name = []; kind = Sx; class = record { 0 = k } }
@@ -34,7 +39,7 @@ abbrev two : List Op → List Op → Plan
 two ps qs = record {
   classes = [] ∷ [] ∷ [];
   locks = lock_of 0 ∷ lock_of 1 ∷ [];
-  chans = [];
+  chans = record { name = []; cond = false; lock = lock 0 } ∷ [];
   threads = thread_of ps ∷ thread_of qs ∷ [];
   schedule = [];
 }
@@ -97,7 +102,43 @@ holder_goes_on ps qs run = go h.moment (h.comes_first.2.0 refl) (h.honest 0 (ome
     go (suc zero) le e f = cc
     go (suc (suc n)) le e f = omega (arith, le)
 
--- 3. Q is refused a for b, and no take has given an edge from a to b
+-- nor is each wait halted: p sleeps on c, and is halted, and q takes b behind that
+every_wait : List Entry
+every_wait =
+    entry 3 1 (Locked (lock 1) Excl) ∷ entry 2 0 (HaltedChan (chan 0)) ∷ entry 1 0 (Sleeps (chan 0))
+    ∷ entry 0 0 (Locked (lock 0) Excl) ∷ []
+
+other_goes_on : (ps qs : List Op) → Prints ps qs every_wait → ⊥
+unfolding every_wait HaltsComeSince entries_below entries_since any_below sections_in
+other_goes_on ps qs run = go h.moment (h.comes_first.2.0 refl) (h.honest 1 (omega arith))
+  where
+    c : Config
+    c = config_of (two ps qs)
+
+    h : HaltsAreHonest c every_wait
+    h = (printed ps qs every_wait run).halts_are_honest
+
+    go : (p : ℕ) → p ≤ 2 → is_honest_to c p every_wait 1 ≡ true → ⊥
+    go zero le f = cc
+    go (suc zero) le f = cc
+    go (suc (suc zero)) le f = cc
+    go (suc (suc (suc n))) le f = omega (arith, le)
+
+-- 3. P's sleep on c is over, and nobody woke it
+
+without_sleeping : (ps qs : List Op)
+    → Prints ps qs (entry 2 0 (Woke (chan 0)) ∷ entry 1 0 (Sleeps (chan 0)) ∷ entry 0 0 (Locked (lock 0) Excl) ∷ []) → ⊥
+unfolding WakingsNameSleepers is_named
+without_sleeping ps qs run =
+    let z : false ≡ true = (printed ps qs _ run).so_far.wakings_name_sleepers.0 in cc
+
+-- nor does a wake name a thread that doesn't sleep there
+not_asleep : (ps qs : List Op) → Prints ps qs (entry 0 1 (WokeOne (chan 0) 1) ∷ []) → ⊥
+unfolding WakingsNameSleepers is_asleep has_bit
+not_asleep ps qs run =
+    let z : false ≡ true = (printed ps qs _ run).so_far.wakings_name_sleepers.0.0 0 refl in cc
+
+-- 4. Q is refused a for b, and no take has given an edge from a to b
 
 without_an_edge : (ps qs : List Op)
     → Prints ps qs (entry 1 1 (Reversed (lock 0) (record { 0 = 1 })) ∷ entry 0 1 (Locked (lock 1) Excl) ∷ []) → ⊥

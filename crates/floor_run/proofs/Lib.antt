@@ -1,3 +1,4 @@
+pub mod Waiting
 pub mod Operating
 pub mod Cutting
 pub mod Merging

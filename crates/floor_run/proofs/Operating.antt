@@ -1,4 +1,4 @@
--- What a thread's next operation finds, and where its entry leads the thread.
+-- What a thread's next operation finds, and where its entries lead the thread.
 use Rattle.std.proofs.Common.{◌≡◌, ◌≢◌, ℕ, zero, suc, ◌^◌, ◌<◌, ◌≤◌, Bool, true, false, ◌&&◌, arith, List, [], ◌∷◌, ◌++◌, length, slice_get, map, sum, Option, Some, None, option_map, refl, sym, ap, eq-eqb, ◌∙◌, subst}
 use Rattle.std.specs.Prelude.{IsTrue, unwrap_or, ◌==◌}
 use Rattle.std.specs.List.{Contains, list_any}
@@ -9,13 +9,14 @@ use Rattle.std.proofs.lemmas.Option.{none-some, slice_get-map, slice_get_within}
 use Rattle.lock_model.proofs.LeastCodes.{passed}
 use Rattle.lock_model.specs.Holds.{Hold, NotHeld, Holds, is_exclusive}
 use Rattle.lock_model.specs.Keys.{op_names, plan_names}
-use Rattle.lock_model.specs.Law.{LeadsTo, Gives, Before, IsAtEnd}
+use Rattle.lock_model.specs.Law.{LeadsTo, Gives, Before, Asleep, IsAtEnd}
 use Rattle.lock_model.specs.Law as law
 use Rattle.lock_model.specs.Limits.{most_held}
-use Rattle.lock_model.specs.Operations.{IsProper, held_of, held_behind, hold_in, without_lock, acquiring_tests, edit_tests, channel_test}
-use Rattle.lock_model.specs.Plans.{config_of, operations_of, lock_kind}
-use Rattle.lock_model.specs.Tests.{Test, Passes}
-use Rattle.lock_model.specs.Words.{admits, word_of}
+use Rattle.lock_model.specs.Operations.{IsProper, held_of, held_behind, hold_in, is_last, without_lock, acquiring_tests, edit_tests}
+use Rattle.lock_model.specs.Plans.{chan_lock, config_of, operations_of, lock_kind}
+use Rattle.lock_model.specs.Queues.{Cause, BySignal}
+use Rattle.lock_model.specs.Tests.{Passes}
+use Rattle.lock_model.specs.Words.{admits, is_turnstile, word_of}
 use Rattle.lock_model.specs.declared.numbers.LockNo.{LockNo}
 use Rattle.lock_model.specs.declared.numbers.ChanNo.{ChanNo}
 use Rattle.lock_model.specs.declared.numbers.Prio.{Prio}
@@ -30,7 +31,7 @@ use Rattle.lock_model.specs.declared.plan.Op.{Op}
 use Rattle.lock_model.specs.declared.plan.Op.TheVariants.{Take, Try, EndTry, Release, Set, Add, Get, Base, Show, Sleep, WakeOne, WakeAll}
 use Rattle.lock_model.specs.declared.plan.Plan.{Plan}
 use Rattle.lock_model.specs.declared.plan.ThreadDecl.{ThreadDecl}
-use Rattle.lock_laws.proofs.HeldLists.{held_is, gain_passes, release_fits, wake_fits, next_leads, held_are_locks, try_passes}
+use Rattle.lock_laws.proofs.HeldLists.{held_is, gain_passes, release_fits, wait_fits, wake_fits, next_leads, held_are_locks, held_few, try_passes}
 use Rattle.lock_state.specs.Steps.{Stamps}
 use Rattle.floor_table.specs.Descriptions.{config_in, room_for, keys_in, IsFor}
 use Rattle.floor_table.specs.declared.description.Description.{Description}
@@ -44,8 +45,11 @@ use Rattle.lock_floor.specs.Views.{entry_by}
 use Rattle.lock_calls.proofs.First.{ready_first}
 use Rattle.lock_calls.specs.Steps.{IsCovered, MayTake, MayRelease, as_taken}
 use Rattle.lock_calls.specs.Tries.{WasBusyFor, as_tried}
+use Rattle.cond_vars.specs.Waits.{MayWait, ended_by, lock_of}
+use Rattle.cond_vars.specs.Wakes.{MayWakeUp}
 use Rattle.floor_run.specs.Progress.{IsBefore}
-use Rattle.floor_run.specs.Runs.{HasNoChannels}
+use Rattle.floor_run.proofs.Waiting.{others_sleepable}
+use Rattle.floor_run.specs.Sleeps.{HasSlept, HasWokenAll, HasWokenOne}
 use Rattle.floor_run.specs.Workers.{WasStamped, WereStamped, IsWhole}
 
 -- 1. The begin and the end
@@ -96,6 +100,10 @@ named plan floor given t n l key op e i =
 pub same_kind : (plan : Plan) (floor : Description) → IsFor plan floor → (l : ℕ)
     → (config_in floor).kind l ≡ lock_kind plan l
 same_kind plan floor given l = ap (λ c. c.kind l) (ap config_in given ∙ same_config plan floor.chains)
+
+-- and the lock of a channel is the plan's
+pub same_lock : (plan : Plan) (floor : Description) → IsFor plan floor → (d : ℕ) → lock_of floor d ≡ chan_lock plan d
+same_lock plan floor given d = ap (λ c. c.chan_lock d) (ap config_in given ∙ same_config plan floor.chains)
 
 -- the calls are there for a lock of the plan, in a mode of its kind
 pub is_covered : (plan : Plan) (floor : Description) → IsFor plan floor → (l : ℕ)
@@ -331,16 +339,88 @@ module _ (plan : Plan) (f : Floor Description) (given : IsFor plan f.description
       → MakesEntry f.description (event.Shown base eff) x.view.share.held x.view y.view → IsBefore plan f t (suc n) y
   shown y base eff e = keeps y Show (event.Shown base eff) e refl (law.shows base eff)
 
-  -- a plan without channels has no wait and no waking
-  module _ (m : HasNoChannels plan) where
-    no_channel : (d : ChanNo) (tests : List Test) → Passes (channel_test plan.chans d ∷ tests) → ⊥
-    no_channel d tests e = absurd (omega (arith, wake_fits plan d tests e, ap (λ ds. length ds) m))
+  -- 6. Waits and wakings
 
-    pub no_sleep : (d : ChanNo) → slice_get ops n ≡ Some (Sleep d) → ⊥
-    no_sleep d e = no_channel d _ (next_leads plan p t n (Sleep d) e).passes
+  -- a channel is one of the floor's
+  chan_of_floor : (d : ℕ) → d < length plan.chans → d < length f.description.chans
+  chan_of_floor d low = subst (λ c. d < c.chans) (sym (ap config_in given ∙ same_config plan f.description.chains)) low
 
-    pub no_wake_one : (d : ChanNo) → slice_get ops n ≡ Some (WakeOne d) → ⊥
-    no_wake_one d e = no_channel d _ (next_leads plan p t n (WakeOne d) e).passes
+  room_for_two : (op : Op) → slice_get ops n ≡ Some op → 2 ≤ x.view.spare
+  room_for_two op e = omega (arith, b.room, slice_get_within ops n op e)
 
-    pub no_wake_all : (d : ChanNo) → slice_get ops n ≡ Some (WakeAll d) → ⊥
-    no_wake_all d e = no_channel d _ (next_leads plan p t n (WakeAll d) e).passes
+  pub may_wait : (d : ChanNo) → slice_get ops n ≡ Some (Sleep d) → MayWait f.description d.0 x.view
+  may_wait d e =
+      let fits = wait_fits plan d held _ (next_leads plan p t n (Sleep d) e) in
+      record {
+        chan = chan_of_floor d.0 fits.chan;
+        last = subst (λ (z : ℕ × List Held). is_last z.0 z.1 ≡ true) (λ i. (sym (same_lock plan f.description given d.0) i, sym b.held i)) fits.last;
+        sleepable = λ k other blocks. holds_so k
+            ∙ others_sleepable plan d held (next_leads plan p t n (Sleep d) e).passes k
+            (λ same. other (same ∙ sym (same_lock plan f.description given d.0)))
+            (ap is_turnstile (sym (same_kind plan f.description given k)) ∙ blocks);
+        few = subst (λ (hs : List Held). length hs ≤ most_held) (sym b.held) (held_few plan p t n);
+        room = room_for_two (Sleep d) e;
+      }
+
+  -- its lock is one of the plan's
+  pub lock_there : (d : ChanNo) → slice_get ops n ≡ Some (Sleep d)
+      → lock_of f.description d.0 < length f.description.locks
+  lock_there d e =
+      let fits = wait_fits plan d held _ (next_leads plan p t n (Sleep d) e) in
+      let low : chan_lock plan d.0 < length plan.locks = (held_are_locks plan p t n).within (chan_lock plan d.0) fits.held in
+      subst (λ (z : ℕ × ℕ). z.0 < z.1)
+      (λ i. (sym (same_lock plan f.description given d.0) i, sym (ap (λ c. c.locks) (ap config_in given ∙ same_config plan f.description.chains)) i))
+      low
+
+  pub may_wake : (op : Op) (d : ChanNo) → slice_get ops n ≡ Some op → d.0 < length plan.chans
+      → MayWakeUp f.description d.0 x.view
+  may_wake op d e low = record { chan = chan_of_floor d.0 low; room = room_for_one op e }
+
+  pub may_wake_one : (d : ChanNo) → slice_get ops n ≡ Some (WakeOne d) → MayWakeUp f.description d.0 x.view
+  may_wake_one d e = may_wake (WakeOne d) d e (wake_fits plan d _ (next_leads plan p t n (WakeOne d) e).passes)
+
+  pub may_wake_all : (d : ChanNo) → slice_get ops n ≡ Some (WakeAll d) → MayWakeUp f.description d.0 x.view
+  may_wake_all d e = may_wake (WakeAll d) d e (wake_fits plan d _ (next_leads plan p t n (WakeAll d) e).passes)
+
+  pub woke_one : (y : Pass Knowledge) (d : ChanNo) → slice_get ops n ≡ Some (WakeOne d) → IsReady f y
+      → HasWokenOne f.description d x.view y.view → IsBefore plan f t (suc n) y
+  woke_one y d e ready w =
+      keeps y (WakeOne d) (event.WokeOne d w.0) e refl (law.wakes_one d w.0) ready w.1
+
+  pub woke_all : (y : Pass Knowledge) (d : ChanNo) → slice_get ops n ≡ Some (WakeAll d) → IsReady f y
+      → HasWokenAll f.description d x.view y.view → IsBefore plan f t (suc n) y
+  woke_all y d e ready w =
+      keeps y (WakeAll d) (event.WokeAll d w.0) e refl (law.wakes_all d w.0) ready w.1
+
+  -- its first entry leads into the sleep
+  abbrev IsAsleepIn : List Entry → Type 0
+  IsAsleepIn es = LeadsTo (config_of plan).kind ops es (Asleep n)
+
+  pub lies_asleep : (y : Knowledge) (d : ChanNo) (hs : List Held) → slice_get ops n ≡ Some (Sleep d)
+      → MakesEntry f.description (event.Sleeps d) hs x.view y → IsAsleepIn y.share.log
+  lies_asleep y d hs at made =
+      subst IsAsleepIn (sym made.log)
+      (law.goes_on (entry_by x.view.thread made.ticket (event.Sleeps d)) b.leads at (law.sleeps d))
+
+  -- and both were made by steps of the floor
+  pub both_stamped : (y : Knowledge) (d : ChanNo) (cause : Cause) → HasSlept f.description d cause x.view y
+      → WereStamped f.description t y.share.log
+  both_stamped y d cause s =
+      was_stamped f.description t s.asleep y (ended_by cause d) x.view.share.held (s.slept.thread ∙ b.thread)
+      (was_stamped f.description t x.view s.asleep (event.Sleeps d) x.view.share.held b.thread b.stamped s.slept)
+      s.ended
+
+  pub slept : (y : Pass Knowledge) (d : ChanNo) → slice_get ops n ≡ Some (Sleep d) → IsReady f y
+      → HasSlept f.description d BySignal x.view y.view → IsBefore plan f t (suc n) y
+  slept y d at ready s =
+      let last : Entry = entry_by s.asleep.thread s.ended.ticket (event.Woke d) in
+      record {
+        ready = ready;
+        thread = s.ended.thread ∙ s.slept.thread ∙ b.thread;
+        within = omega (arith, slice_get_within ops n (Sleep d) at);
+        held = s.ended.held ∙ b.held ∙ (next_leads plan p t n (Sleep d) at).behind;
+        leads = subst (λ (es : List Entry). LeadsTo (config_of plan).kind ops es (Before (suc n))) (sym s.ended.log)
+            (law.wakes_up last (lies_asleep s.asleep d x.view.share.held at s.slept) at refl);
+        stamped = both_stamped y.view d BySignal s;
+        room = omega (arith, b.room, s.slept.spare, s.ended.spare);
+      }

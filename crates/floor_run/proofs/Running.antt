@@ -1,6 +1,7 @@
 -- What a run leaves, by what its workers leave.
-use Rattle.std.proofs.Common.{◌≡◌, ◌≢◌, ℕ, zero, suc, ◌+◌, ◌<◌, ◌≤◌, true, false, ◌||◌, eqb, List, [], ◌∷◌, ◌++◌, length, map, get_or, take, drop, reverse, refl, sym, ap, subst, ◌∙◌, arith, inl, inr}
+use Rattle.std.proofs.Common.{◌≡◌, ◌≢◌, ℕ, zero, suc, ◌+◌, ◌<◌, ◌≤◌, Bool, true, false, ◌||◌, eqb, List, [], ◌∷◌, ◌++◌, length, map, get_or, take, drop, reverse, refl, sym, ap, subst, ◌∙◌, arith, inl, inr}
 use Rattle.std.specs.FinMap.{entries}
+use Rattle.std.specs.Prelude.{if◌then◌else◌}
 use Rattle.std.specs.List.{range_with_len, list_any}
 use Rattle.std.specs.declared.alloc.Global.{Global}
 use Rattle.std.specs.declared.boxed.Box.{Box}
@@ -9,6 +10,7 @@ use Rattle.std.proofs.lemmas.List.{append-nil, take_all, drop_all, reverse-rever
 use Rattle.std.proofs.lemmas.List.FromFn.{length-map-range_with_len, get_or-map-range_with_len}
 use Rattle.std.proofs.lemmas.List.Sorted.{IsPermutation-reverse, list_any-IsPermutation}
 use Rattle.lock_model.specs.BusyWords.{BusyIsExplained}
+use Rattle.lock_model.specs.Config.{Config}
 use Rattle.lock_model.specs.Counts.{one, times}
 use Rattle.lock_model.specs.Halts.{HaltsAreHonest}
 use Rattle.lock_model.specs.History.{base_in, entries_of, tables_of}
@@ -24,7 +26,8 @@ use Rattle.lock_model.specs.declared.plan.Plan.{Plan}
 use Rattle.lock_history.specs.Endings.{ending_of, numbers_of}
 use Rattle.lock_history.specs.Outcomes.{outcome_seen, line_seen}
 use Rattle.lock_history.specs.declared.outcome.Outcome.{Outcome}
-use Rattle.lock_state.specs.Run.{threads_of}
+use Rattle.lock_state.specs.Facts.Halts.{NobodyIsHalted}
+use Rattle.lock_state.specs.Run.{threads_of, whole_ending}
 use Rattle.ordered_plan_laws.proofs.Unhalted.{no_operations}
 use Rattle.thread_records.specs.declared.record.ThreadRec.{ThreadRec}
 use Rattle.floor_table.specs.Descriptions.{config_in, thread_part, description_of}
@@ -81,6 +84,16 @@ threads_in_order plan f passes count done =
     ∙ map_same passes (λ p. p.view.thread) (λ t. t) 0 (λ k d lt. omega (arith, (done k d lt).thread))
     ∙ map-id (range_with_len 0 (length passes))
     ∙ ap (range_with_len 0) count
+
+-- where nobody is halted no entry tells of a halt, and a run in which a take was refused or none isn't stuck
+none_halted : (c : Config) (history : List Entry) → NobodyIsHalted c history → has_halt history ≡ false
+unfolding NobodyIsHalted
+none_halted c [] h = refl
+none_halted c (e ∷ es) h = ap (λ b. b || has_halt es) h.0 ∙ none_halted c es h.2
+
+not_stuck : (b : Bool) → (if b then text.IsReversed else text.IsDone) ≡ text.IsStuck → ⊥
+not_stuck true e = absurd cc
+not_stuck false e = absurd cc
 
 -- a thread's base twice, by its record and by a history
 abbrev pub its_base : Box ThreadRec Global → ℕ × ℕ
@@ -167,12 +180,25 @@ module _ (plan : Plan) (chains : ℕ) (x : Closing)
         ending = (ending ∙ ap ending_of_run back) j;
       }
 
+  -- it ended stuck only where the halt word was set
+  was_halted : ending_of_run history ≡ text.IsStuck → x.halted ≡ true
+  was_halted stuck = go x.halted refl
+    where
+      ended : has_halt history ≡ false → ⊥
+      ended e = not_stuck (has_reversal history)
+          (subst (λ (b : Bool). (if b then text.IsStuck else whole_ending history) ≡ text.IsStuck) e stuck)
+
+      go : (b : Bool) → x.halted ≡ b → b ≡ true
+      go true e = refl
+      go false e = absurd (ended (none_halted (config_in floor) history (closing.unhalted e)))
+
   pub is_run : (o : text.Outcome) → IsLegal plan true false history → o ≡ outcome_of plan history
       → IsRunOf plan chains o x
   is_run o legal same = record {
     run = record { history = history; legal = legal; outcome = same };
     closing = closing;
     same = refl;
+    halted = λ stuck. was_halted (ap (λ (p : text.Outcome). p.ending) (sym same) ∙ stuck);
   }
 
 -- 4. Histories from the oldest entry on

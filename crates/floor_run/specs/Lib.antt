@@ -1,3 +1,4 @@
 pub mod Runs
 pub mod Workers
 pub mod Progress
+pub mod Sleeps

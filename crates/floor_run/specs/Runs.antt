@@ -40,12 +40,10 @@ pub record IsOutcome (plan : Plan) (o : Outcome) : Type 0 where
   pub legal : IsLegal plan true false history
   pub outcome : o ≡ outcome_of plan history
 
--- the run left its floor so, which the plan gave with so many chains, and its history is that of the floor
+-- The run left its floor so, which the plan gave with so many chains, and its history is that of the floor. Where it
+-- ended stuck, the halt word was set
 pub record IsRunOf (plan : Plan) (chains : ℕ) (o : Outcome) (x : Closing) : Type 0 where
   pub run : IsOutcome plan o
   pub closing : IsClosing (description_of plan chains) (threads_of plan) x
   pub same : closing.history ≡ run.history
-
--- A plan that declares no condition variable and no channel: the plans whose threads run so far
-abbrev pub HasNoChannels : Plan → Type 0
-HasNoChannels plan = plan.chans ≡ []
+  pub halted : o.ending ≡ IsStuck → x.halted ≡ true

@@ -11,7 +11,7 @@ ghost use Rattle.floor_table.specs.Descriptions.{IsFor, description_of};
 ghost use Rattle.lock_floor.specs.Closings.{IsClosing};
 ghost use Rattle.lock_floor.specs.Passes.{IsKeeperOf, IsFinished};
 ghost use Rattle.floor_run.specs.Progress.{IsNew, IsDone};
-ghost use Rattle.floor_run.specs.Runs.{IsRunOf, HasNoChannels, has_halt, ending_of_run, outcome_of};
+ghost use Rattle.floor_run.specs.Runs.{IsRunOf, has_halt, ending_of_run, outcome_of};
 
 use crate::worker::work;
 use lock_floor::{Closing, Floor, Keeper, Pass};
@@ -28,11 +28,14 @@ use thread_records::ThreadRec;
 /// have come to their end. Gives what is to be printed of the run, and what is left of the floor. It takes no memory
 /// between the start of the first worker and the end of the last.
 ///
-/// The plan is one that some script gives, with locks of any kind, and without condition variables and channels. The
-/// floor has so many chains of each sort: one, as `lock_calls::take_or_halt` asks it. Where no thread can be started,
-/// the workers run one after another, and the call may then not return where the gate holds one for another.
+/// The plan is one that some script gives. The floor has so many chains of each sort: one, as
+/// `lock_calls::take_or_halt` asks it. Where no thread can be started, the workers run one after another, and the call
+/// may then not return where one waits for another: at a lock, in a sleep, or at the gate.
 ///
-/// Where the plan is ordered, no take of it is refused and nobody is halted: the run is done.
+/// The outcome is stuck exactly where a thread was halted in its sleep, whatever takes were refused; else it is
+/// reversed exactly where a take was refused. A halt comes only behind a moment at which no thread could go on:
+/// that is a part of the law which its history keeps. Where the plan is ordered, no take of it is refused and
+/// nobody is halted: the run is done.
 pub fn run_plan<R: Threads + Wait + Sync, G: Gate>(
     rt: &R,
     alloc: Global,
@@ -41,7 +44,6 @@ pub fn run_plan<R: Threads + Wait + Sync, G: Gate>(
     gate: &G,
 ) -> Result<(Outcome, Closing), AllocError>
     requires proper { IsProper plan.now }
-    requires channels { HasNoChannels plan.now }
     requires one_chain { chains ≡ 1 }
     ensures run { IfOk result (λ r. IsRunOf plan.now chains (outcome_seen r.0) r.1) }
     ensures ordered { IfOk result (λ r. IsOrdered plan.now → (outcome_seen r.0).ending ≡ text.IsDone) }
@@ -64,7 +66,6 @@ fn work_all<R: Threads + Wait + Sync, G: Gate>(
 )
     requires given { IsFor plan.now floor.now.description }
     requires proper { IsProper plan.now }
-    requires channels { HasNoChannels plan.now }
     requires one_chain { floor.now.description.chains ≡ 1 }
     requires new { (t : ℕ) (d : _) → t < length passes.old
         → IsNew floor.now t (slice_index_or passes.old t d) }
@@ -78,8 +79,7 @@ fn work_all<R: Threads + Wait + Sync, G: Gate>(
         workers,
         &|t, pass: &mut Pass|
             requires { IsFor plan.now floor.now.description × IsProper plan.now
-                × HasNoChannels plan.now × (floor.now.description.chains ≡ 1)
-                × IsNew floor.now t pass.now }
+                × (floor.now.description.chains ≡ 1) × IsNew floor.now t pass.now }
             ensures { IsDone plan.entry.now floor.entry.now t pass.exit.now }
         { work(rt, floor, pass, plan, gate) },
     );

@@ -1,13 +1,14 @@
-//! Making the operations of one thread.
+//! Making the operations of one thread: those of locks, tables and priorities here, and those that sleep and wake in
+//! `channels`.
 ghost use Rattle.std.specs.Prelude.{◌≡◌, ℕ, ◌<◌, [], length, slice_get, Some, IfNone, IfSome};
 ghost use Rattle.lock_model.specs.Operations.{IsProper};
 ghost use Rattle.lock_model.specs.Plans.{operations_of};
 ghost use Rattle.floor_table.specs.Descriptions.{IsFor};
 ghost use Rattle.lock_floor.specs.Passes.{IsReady, IsFinished, first_pass};
 ghost use Rattle.floor_run.specs.Progress.{IsBefore, IsCut};
-ghost use Rattle.floor_run.specs.Runs.{HasNoChannels};
 ghost use Rattle.floor_run.specs.Workers.{IsWhole};
 
+use crate::channels::{sleep_on, wake_all, wake_one};
 use lock_floor::{Change, Floor, Pass};
 use lock_io::Gate;
 use lock_model::{Op, Plan};
@@ -17,12 +18,12 @@ use std::sync::Wait;
 ///
 /// It asks the gate before each operation, with its place from 0, and so before an `endtry` that it comes to, which
 /// makes no entry. Of the operations in the block of a try that failed it makes none, and asks before none. A take that
-/// the order of locks refuses, or that is halted in its sleep, cuts the thread short: it gives back what it holds, the
-/// lock gained last first.
+/// the order of locks refuses, and a take or a wait that is halted in its sleep, cut the thread short: it gives back
+/// what it holds, the lock gained last first. Then the thread ends, and where that leaves nobody awake, it halts those
+/// that sleep.
 pub fn work<R: Wait, G: Gate>(rt: &R, floor: &Floor, pass: &mut Pass, plan: &Plan, gate: &G)
     requires given { IsFor plan.now floor.now.description }
     requires proper { IsProper plan.now }
-    requires channels { HasNoChannels plan.now }
     requires one_chain { floor.now.description.chains ≡ 1 }
     requires thread { pass.old.view.thread < length plan.now.threads }
     requires first { pass.old
@@ -34,15 +35,15 @@ pub fn work<R: Wait, G: Gate>(rt: &R, floor: &Floor, pass: &mut Pass, plan: &Pla
         pass.new.view.share.log }
 {
     operate_all(rt, floor, pass, plan, gate);
-    floor.finish(rt, pass);
+    halting::end_thread(floor, rt, pass);
+    floor.finish(pass);
 }
 
-// Makes the operations of a pass's thread, in order, or those before a take that is refused or halted: then it gives
-// back what it holds.
+// Makes the operations of a pass's thread, in order, or those before a take that is refused or halted, or a wait that
+// is halted: then it gives back what it holds.
 fn operate_all<R: Wait, G: Gate>(rt: &R, floor: &Floor, pass: &mut Pass, plan: &Plan, gate: &G)
     requires given { IsFor plan.now floor.now.description }
     requires proper { IsProper plan.now }
-    requires channels { HasNoChannels plan.now }
     requires one_chain { floor.now.description.chains ≡ 1 }
     requires thread { pass.old.view.thread < length plan.now.threads }
     requires first { pass.old
@@ -82,7 +83,7 @@ fn give_back<R: Wait>(rt: &R, floor: &Floor, pass: &mut Pass, plan: &Plan)
 }
 
 // Makes an operation that the plan has for the pass's thread, and answers which is its next. `None` comes where its
-// take was refused or halted: then the thread is cut short.
+// take was refused or halted, or its wait was halted: then the thread is cut short.
 #[inline(always)]
 fn operate<R: Wait>(
     rt: &R,
@@ -94,7 +95,6 @@ fn operate<R: Wait>(
 ) -> Option<usize>
     requires given { IsFor plan.now floor.now.description }
     requires proper { IsProper plan.now }
-    requires channels { HasNoChannels plan.now }
     requires one_chain { floor.now.description.chains ≡ 1 }
     requires before { IsBefore plan.now floor.now pass.old.view.thread n pass.old }
     requires op { slice_get (operations_of plan.now pass.old.view.thread) n ≡ Some op }
@@ -123,7 +123,12 @@ fn operate<R: Wait>(
         Op::Show => {
             floor.show(rt, pass);
         }
-        Op::Sleep { .. } | Op::WakeOne { .. } | Op::WakeAll { .. } => unreachable!(),
+        Op::Sleep { c } => match sleep_on(rt, floor, pass, plan, c) {
+            Ok(()) => {}
+            Err(_) => return None,
+        },
+        Op::WakeOne { c } => wake_one(rt, floor, pass, plan, c),
+        Op::WakeAll { c } => wake_all(rt, floor, pass, plan, c),
     }
     Some(n + 1)
 }

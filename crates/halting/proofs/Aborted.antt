@@ -27,7 +27,7 @@ use Rattle.floor_table.specs.declared.description.Description.{Description}
 use Rattle.floor_table.specs.declared.slot.Slot.TheVariants.{SleepQueues}
 use Rattle.floor_table.proofs.Sound.{sound_kept}
 use Rattle.floor_table.proofs.Known.{fits_made}
-use Rattle.lock_floor.specs.declared.halting.Asleep.{Asleep as FirstSleeper}
+use Rattle.lock_floor.specs.declared.halting.FirstSleeper.{FirstSleeper}
 use Rattle.lock_floor.specs.declared.queues.HaltAt.TheVariants as at
 use Rattle.lock_floor.specs.Aborts.{AbortsSleeper, IsHaltingOthers, MayAbortSleeper}
 use Rattle.lock_floor.specs.Halting.{AbortsLast, MayAbortLast, NobodySleeps}

@@ -33,7 +33,7 @@ use Rattle.lock_floor.proofs.Priorities.{a_record}
 use Rattle.lock_floor.proofs.Taking.{record_at}
 use Rattle.halting.specs.declared.ending.EndAt.{EndAt}
 use Rattle.halting.specs.declared.ending.EndAt.TheVariants.{Takes as TakesRecord, Halts}
-use Rattle.halting.specs.Ends.{EndDone, EndLeg, EndsItself, EndsOn, HasEnded, IsHaltingEnded, ends, ends_by, finds_out, halted, halts, leaves_some}
+use Rattle.halting.specs.Ends.{EndDone, EndLeg, EndsItself, EndsOn, EndsThread, HasEnded, IsHaltingEnded, ends, ends_by, finds_out, halted, halts, leaves_some}
 use Rattle.halting.specs.Halts.{EndsHalting, HaltsOn, HaltsOthers, HasHalted, IsAside, IsAt, IsLast, Kept, kept_of, nobody_is_awake, somebody_is_awake}
 
 -- a thread that isn't parked gives its own record back
@@ -69,6 +69,7 @@ pub stays : (floor : Description) (v new : Knowledge) → IsAtRest floor v → v
     → EndsOn floor TakesRecord TakesRecord v new
 stays floor v new h bare view finds = record {
   at = (subst (IsAtRest floor) (sym view) (rest_seen h), ap (λ (k : Knowledge). k.share.held) view ∙ bare);
+  kept = ap kept_of view;
   leg = finds_out view finds;
 }
   where
@@ -211,14 +212,16 @@ module _ (floor : Description) (v a : Knowledge) (mine : v.description ≡ floor
               ended = ap (λ (k : Kept). k.has_ended) kept_now;
               unheld = ap (λ (k : Kept). k.held) kept_now ∙ bare;
             };
+            kept = kept_now;
             leg = ends steps count_step;
           }
 
-          pub ends_others : n ≢ 1 → HasEnded floor new × EndDone floor TakesRecord v new
+          pub ends_others : n ≢ 1 → EndsThread floor TakesRecord v new
           ends_others more =
               let asleep : new.share.doing.phase ≡ Asleep =
-              phase_now ∙ ap (λ b. cond b Last Asleep) (ne_eqb n 1 more) in (
-                record {
+              phase_now ∙ ap (λ b. cond b Last Asleep) (ne_eqb n 1 more) in
+              record {
+                ended = record {
                   aside = subst (IsAside floor) (sym (ap kept_of counts)) aside;
                   runs = ap (λ (k : Kept). k.pose) kept_now ∙ h.runs;
                   ended = ap (λ (k : Kept). k.has_ended) kept_now;
@@ -226,13 +229,18 @@ module _ (floor : Description) (v a : Knowledge) (mine : v.description ≡ floor
                   nothing_out = ap (λ (k : Knowledge). k.out) counts ∙ g_out;
                   unmarked = ap (λ (k : Knowledge). k.share.doing.marked) counts ∙ g_unmarked;
                   unheld = ap (λ (k : Kept). k.held) kept_now ∙ bare;
-                },
-                leaves_some steps count_step asleep,
-              )
+                };
+                kept = kept_now;
+                end = leaves_some steps count_step asleep;
+              }
 
 -- 3. It halts others
 
 module _ (floor : Description) (there : HaltAt) (v : Knowledge) (h : IsHaltingEnded floor there v) where
+  -- it has ended before
+  same_kept : kept_of v ≡ record (kept_of v) { has_ended = true }
+  same_kept i = record (kept_of v) { has_ended = h.ended i }
+
   pub halts_on : (to : HaltAt) (new : Knowledge) → HaltsOn floor there to v new
       → EndsOn floor (Halts there) (Halts to) v new
   halts_on to new on = record {
@@ -242,6 +250,7 @@ module _ (floor : Description) (there : HaltAt) (v : Knowledge) (h : IsHaltingEn
       ended = ap (λ (k : Kept). k.has_ended) on.kept ∙ h.ended;
       unheld = ap (λ (k : Kept). k.held) on.kept ∙ h.unheld;
     };
+    kept = on.kept ∙ same_kept;
     leg = halts there to on.leg;
   }
 
@@ -264,8 +273,12 @@ module _ (floor : Description) (there : HaltAt) (v : Knowledge) (h : IsHaltingEn
       runs_now = ap (λ (k : Kept). k.pose) done.kept ∙ h.runs
 
   pub ends_done : (new : Knowledge) → IsAside floor (kept_of v) → EndsHalting floor there v new
-      → HasEnded floor new × EndDone floor (Halts there) v new
-  ends_done new aside done = (has_ended new aside done.halted, halted there done.end)
+      → EndsThread floor (Halts there) v new
+  ends_done new aside done = record {
+    ended = has_ended new aside done.halted;
+    kept = done.halted.kept ∙ same_kept;
+    end = halted there done.end;
+  }
 
 -- wherever it stands, it is aside
 pub aside_at : (floor : Description) (there : HaltAt) (v : Knowledge) → IsAt floor there v → IsAside floor (kept_of v)
@@ -316,7 +329,7 @@ module _ (floor : Description) (v : Knowledge) (mine : v.description ≡ floor) 
             told_ends_last = ends_last floor v a mine h bare its_taken e view step g its_home its_give n new counts
                 count_step
 
-            pub told_ends_others : n ≢ 1 → HasEnded floor new × EndDone floor TakesRecord v new
+            pub told_ends_others : n ≢ 1 → EndsThread floor TakesRecord v new
             told_ends_others = ends_others floor v a mine h bare its_taken e view step g its_home its_give n new counts
                 count_step
 
@@ -325,11 +338,16 @@ module _ (floor : Description) (v : Knowledge) (mine : v.description ≡ floor) 
 pub record EndsSince (floor : Description) (begun v : Knowledge) : Type 0 where
   pub at : IsAtRest floor v
   pub bare : v.share.held ≡ []
+  pub kept : kept_of v ≡ kept_of begun
   pub whole_then : (new : Knowledge) → EndsItself floor v new → EndsItself floor begun new
 
 pub begins_ending : (floor : Description) (v : Knowledge) → IsAtRest floor v → v.share.held ≡ []
     → EndsSince floor v v
-begins_ending floor v h bare = record { at = h; bare = bare; whole_then = λ new x. x }
+begins_ending floor v h bare = record { at = h; bare = bare; kept = refl; whole_then = λ new x. x }
+
+-- what stays where it has ended
+abbrev when_ended : Kept → Kept
+when_ended k = record k { has_ended = true }
 
 abbrev there_of : EndAt → HaltAt
 there_of TakesRecord = at.Finds
@@ -346,6 +364,7 @@ module _ (floor : Description) (begun v w : Knowledge) (s : EndsSince floor begu
   again on = record {
     at = on.at.0;
     bare = on.at.1;
+    kept = on.kept ∙ s.kept;
     whole_then = λ new x. s.whole_then new (sooner_ends new x);
   }
     where
@@ -369,8 +388,11 @@ module _ (floor : Description) (begun v w : Knowledge) (s : EndsSince floor begu
             counts = x.counts;
           }
 
-  pub ends_whole : HasEnded floor w × EndDone floor TakesRecord v w → EndsItself floor begun w
-  ends_whole d = s.whole_then w (by TakesRecord refl d.1)
+  pub ends_kept : EndsThread floor TakesRecord v w → kept_of w ≡ when_ended (kept_of begun)
+  ends_kept d = d.kept ∙ ap when_ended s.kept
+
+  pub ends_whole : EndsThread floor TakesRecord v w → EndsItself floor begun w
+  ends_whole d = s.whole_then w (by TakesRecord refl d.end)
     where
       by : (a : EndAt) → a ≡ TakesRecord → EndDone floor a v w → EndsItself floor v w
       by a e (leaves_some {mid = mid} steps counts asleep) =
@@ -391,6 +413,9 @@ module _ (floor : Description) (begun v w : Knowledge) (s : EndsSince floor begu
 
     pub is_last : IsLast floor w
     is_last = subst (λ a. IsAt floor a w) went.0 on.at.halts
+
+    pub halts_kept : (new : Knowledge) → HasHalted floor w new → kept_of new ≡ when_ended (kept_of begun)
+    halts_kept new done = done.kept ∙ on.kept ∙ ap when_ended s.kept
 
     pub halts_whole : (new : Knowledge) → HasHalted floor w new → HaltsOthers floor w new
         → HasEnded floor new × EndsItself floor begun new

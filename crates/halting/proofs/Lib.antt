@@ -4,3 +4,4 @@ pub mod Aborted
 pub mod Woken
 pub mod Ended
 pub mod Whole
+pub mod Counted

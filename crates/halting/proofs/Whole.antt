@@ -1,5 +1,6 @@
 -- What is left of a halting that stands at a place, so that each part that it makes comes before it, and the whole is
--- what the loop promises.
+-- what the loop promises. A call above that goes on with a halting part by part carries `HaltsSince`, from
+-- `begins_whole` over `goes_on`, and has the whole of it from `is_done`.
 use Rattle.std.proofs.Common.{◌≡◌, ◌≢◌, ◌⊎◌, ℕ, ◌+◌, Bool, true, false, ◌||◌, Some, None, List, [], ◌∷◌, refl, sym, ap, ◌∙◌, subst, inl, inr}
 use Rattle.std.proofs.lemmas.Option.{same_Some}
 use Rattle.lock_model.specs.Queues.{Mark, is_turnstile_queue}
@@ -279,6 +280,18 @@ ends floor t v w its there (whole.others_awake over none counts asleep) = record
   closes = inl (subst (λ u. Makes floor (CountsOut u ∷ []) v w) its counts, asleep);
 }
 
+-- who has halted has since what it knew before, where all was kept
+pub halted_since : (floor : Description) (begun v w : Knowledge) → kept_of v ≡ kept_of begun → HasHalted floor v w
+    → HasHalted floor begun w
+halted_since floor begun v w kept h = record {
+  kept = h.kept ∙ kept;
+  uncounted = h.uncounted;
+  nothing_out = h.nothing_out;
+  unmarked = h.unmarked;
+  at_resume = h.at_resume;
+  stood = h.stood;
+}
+
 -- the halting began with what the thread knew, and stands there now
 pub record HaltsSince (floor : Description) (begun : Knowledge) (there : HaltAt) (v : Knowledge) : Type 0 where
   pub at : IsAt floor there v
@@ -303,13 +316,6 @@ module _ (floor : Description) (begun v w : Knowledge) (there : HaltAt) (s : Hal
 
   pub is_done : EndsHalting floor there v w → HasHalted floor begun w × HaltsOthers floor begun w
   is_done e = (
-    record {
-      kept = e.halted.kept ∙ s.kept;
-      uncounted = e.halted.uncounted;
-      nothing_out = e.halted.nothing_out;
-      unmarked = e.halted.unmarked;
-      at_resume = e.halted.at_resume;
-      stood = e.halted.stood;
-    },
+    halted_since floor begun v w s.kept e.halted,
     s.whole_then w (ends floor begun.thread v w its_thread there e.end),
   )

@@ -14,7 +14,7 @@ use Rattle.halting.specs.declared.ending.EndAt.{EndAt}
 use Rattle.halting.specs.declared.ending.EndAt.TheVariants.{Takes, Halts}
 use Rattle.halting.specs.declared.ending.EndNext.{EndNext}
 use Rattle.halting.specs.declared.ending.EndNext.TheVariants.{Done, Again, Wake}
-use Rattle.halting.specs.Halts.{CountsItselfOut, HaltEnd, HaltLeg, IsAside, IsAt, kept_of}
+use Rattle.halting.specs.Halts.{CountsItselfOut, HaltEnd, HaltLeg, IsAside, IsAt, Kept, kept_of}
 
 -- its own record is taken, it counts itself among those that have ended, and the record is given back
 abbrev pub ends_by : ℕ → List (List Step)
@@ -36,6 +36,11 @@ pub record HasEnded (floor : Description) (v : Knowledge) : Type 0 where
   pub nothing_out : v.out ≡ []
   pub unmarked : v.share.doing.marked ≡ []
   pub unheld : v.share.held ≡ []
+
+-- What stays of it to a place: all, but that it has ended where it halts others
+abbrev pub kept_to : EndAt → Kept → Kept
+kept_to Takes k = k
+kept_to (Halts there) k = record k { has_ended = true }
 
 -- what it knows at each place: it is at rest and holds nothing, or is at halting others and has ended
 pub record IsHaltingEnded (floor : Description) (there : HaltAt) (v : Knowledge) : Type 0 where
@@ -60,6 +65,7 @@ pub data EndLeg (floor : Description) : EndAt → EndAt → Knowledge → Knowle
 
 pub record EndsOn (floor : Description) (there to : EndAt) (old new : Knowledge) : Type 0 where
   pub at : IsEnding floor to new
+  pub kept : kept_of new ≡ kept_to to (kept_of old)
   pub leg : EndLeg floor there to old new
 
 -- it has ended, and somebody is awake or all have ended
@@ -70,8 +76,14 @@ pub data EndDone (floor : Description) : EndAt → Knowledge → Knowledge → T
   halted : {old new : Knowledge} (there : HaltAt) → HaltEnd floor there old new
       → EndDone floor (Halts there) old new
 
+-- it is done, and all stays but that it has ended
+pub record EndsThread (floor : Description) (there : EndAt) (old new : Knowledge) : Type 0 where
+  pub ended : HasEnded floor new
+  pub kept : kept_of new ≡ record (kept_of old) { has_ended = true }
+  pub end : EndDone floor there old new
+
 abbrev pub GoesOnEnding : Description → EndAt → EndNext → Knowledge → Knowledge → Type 0
-GoesOnEnding floor there Done old new = HasEnded floor new × EndDone floor there old new
+GoesOnEnding floor there Done old new = EndsThread floor there old new
 GoesOnEnding floor there (Again to) old new = EndsOn floor there to old new
 GoesOnEnding floor Takes (Wake t to) old new = ⊥
 GoesOnEnding floor (Halts there) (Wake t to) old new = EndsOn floor (Halts there) to old new

@@ -10,7 +10,7 @@ use Rattle.lock_model.specs.declared.plan.QueueName.{QueueName}
 use Rattle.lock_model.specs.declared.plan.QueueName.TheVariants.{Lock, Chan}
 use Rattle.lock_model.specs.declared.event.Entry.{Entry}
 use Rattle.lock_model.specs.declared.event.Held.{Held}
-use Rattle.lock_state.specs.State.{Look, Round, Note, Wake, Walk, NoWalk, Asleep, Last, SelfAborted}
+use Rattle.lock_state.specs.State.{Look, Round, Note, Wake, Walk, NoWalk, Awake, Asleep, Last, SelfAborted}
 use Rattle.lock_state.specs.Steps.{Step, TakesItem, GivesItem, Marks, CountsOut, CountsSelfIn, Halts, Aborts, is_halting, IsAtResume}
 use Rattle.lock_state.specs.Steps.Items.{Item, RecordOf}
 use Rattle.lock_state.specs.Steps.LockWords.{is_taking_back}
@@ -20,8 +20,8 @@ use Rattle.floor_table.specs.Descriptions.{config_in}
 use Rattle.floor_table.specs.declared.description.Description.{Description}
 use Rattle.floor_table.specs.declared.slot.Slot.TheVariants.{SleepQueues}
 use Rattle.floor_table.specs.Steps.{Makes, MakesEach}
-use Rattle.floor_table.specs.Views.{Pose, Runs, StandsOn, Knowledge, seeing}
-use Rattle.lock_floor.specs.declared.halting.Asleep.{Asleep as FirstSleeper}
+use Rattle.floor_table.specs.Views.{Role, Pose, Runs, StandsOn, Knowledge, seeing}
+use Rattle.lock_floor.specs.declared.halting.FirstSleeper.{FirstSleeper}
 use Rattle.lock_floor.specs.declared.queues.HaltAt.{HaltAt}
 use Rattle.lock_floor.specs.declared.queues.HaltAt.TheVariants as at
 use Rattle.lock_floor.specs.Aborts.{HasSeenHalt}
@@ -39,6 +39,7 @@ use Rattle.halting.specs.declared.halting.Next.TheVariants as next
 -- what a thread knows that stays through a halting: all but its counting, whom it counted in or has to wake, what is
 -- out and what it saw under a chain
 pub record Kept : Type 0 where
+  pub role : Role
   pub description : Description
   pub thread : ℕ
   pub spare : ℕ
@@ -61,6 +62,7 @@ pub record Kept : Type 0 where
 
 abbrev pub kept_of : Knowledge → Kept
 kept_of v = record {
+  role = v.role;
   description = v.description;
   thread = v.thread;
   spare = v.spare;
@@ -103,6 +105,14 @@ pub record IsAside (floor : Description) (k : Kept) : Type 0 where
   pub no_round : k.round ≡ None
   pub no_walk : k.walk ≡ NoWalk
   pub stamped : k.unstamped ≡ None
+
+-- it may count itself out: it is awake, and has nothing out and nobody to wake
+pub record MayCountOut (floor : Description) (v : Knowledge) : Type 0 where
+  pub aside : IsAside floor (kept_of v)
+  pub uncounted : v.share.doing.counting ≡ None
+  pub nothing_out : v.out ≡ []
+  pub unmarked : v.share.doing.marked ≡ []
+  pub awake : v.share.doing.phase ≡ Awake
 
 -- its counting out left nobody awake
 pub record IsLast (floor : Description) (v : Knowledge) : Type 0 where

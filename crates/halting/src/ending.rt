@@ -1,8 +1,9 @@
 //! How a thread ends, part by part, and a loop over the parts that waits.
-ghost use Rattle.std.specs.Prelude.{◌≡◌, []};
+ghost use Rattle.std.specs.Prelude.{◌≡◌, true, []};
 ghost use Rattle.halting.specs.declared.ending.EndAt.TheVariants.{Takes};
 ghost use Rattle.lock_floor.specs.Passes.{IsOf, IsReady};
 ghost use Rattle.halting.specs.Ends.{EndsItself, GoesOnEnding, HasEnded, IsEnding};
+ghost use Rattle.halting.specs.Halts.{kept_of};
 
 use crate::halting::{Next, go_on_halting, halt_others};
 use crossbeam_utils::Backoff;
@@ -57,6 +58,7 @@ pub fn end_thread<R: Wait>(floor: &Floor, rt: &R, pass: &mut Pass)
     requires unheld { pass.old.view.share.held ≡ [] }
     ensures own { IsOf floor.now pass.new }
     ensures ended { HasEnded floor.now.description pass.new.view }
+    ensures kept { kept_of pass.new.view ≡ record (kept_of pass.old.view) { has_ended = true } }
     ensures steps { EndsItself floor.now.description pass.old.view pass.new.view }
 {
     let backoff = Backoff::new();

@@ -5,10 +5,10 @@ ghost use Rattle.lock_floor.specs.Passes.{IsOf};
 ghost use Rattle.lock_floor.specs.Queues.{queue_at};
 ghost use Rattle.lock_floor.specs.Aborts.{IsHaltingOthers};
 ghost use Rattle.lock_floor.specs.Waits.{IsQueueOf};
-ghost use Rattle.halting.specs.Halts.{FindsFirst, TakesOff, GoesOnHalting, HaltsOn, HaltsOthers, HasHalted, IsAt, IsLast};
+ghost use Rattle.halting.specs.Halts.{CountsItselfOut, FindsFirst, TakesOff, GoesOnHalting, HaltsOn, HaltsOthers, HasHalted, IsAt, IsLast, MayCountOut};
 
 use crossbeam_utils::Backoff;
-use lock_floor::{Asleep as FirstSleeper, Count, Floor, HaltAt, Pass};
+use lock_floor::{Count, FirstSleeper, Floor, HaltAt, Pass};
 use lock_model::{QueueName, ThreadNo};
 use std::sync::Wait;
 
@@ -71,6 +71,20 @@ pub fn halt_others<R: Wait>(floor: &Floor, rt: &R, pass: &mut Pass)
         }
     }
     unreachable!()
+}
+
+/// Counts the thread out of those that are awake, where it stands on a queue or has ended, and halts others where that
+/// left nobody awake. It waits only for a chain or a record that another thread has out.
+pub fn count_out<R: Wait>(floor: &Floor, rt: &R, pass: &mut Pass)
+    requires own { IsOf floor.now pass.old }
+    requires may { MayCountOut floor.now.description pass.old.view }
+    ensures own { IsOf floor.now pass.new }
+    ensures halted { HasHalted floor.now.description pass.old.view pass.new.view }
+    ensures counts { CountsItselfOut floor.now.description pass.old.view pass.new.view }
+{
+    if floor.count(pass, Count::Out) == 1 {
+        halt_others(floor, rt, pass);
+    }
 }
 
 // Where the thread was the last.

@@ -37,11 +37,20 @@ impl Meeting {
         }
     }
 
-    // Waits until all workers are there, or for so many looks.
+    // Comes, and waits until all workers are there, or for so many looks.
     fn wait(&self) {
+        self.come();
+        self.wait_for(self.workers);
+    }
+
+    fn come(&self) {
         self.there.fetch_add(1, Ordering::SeqCst);
+    }
+
+    // Waits until so many have come, or for so many looks.
+    fn wait_for(&self, comers: usize) {
         for _ in 0..MOST_LOOKS {
-            if self.there.load(Ordering::SeqCst) >= self.workers {
+            if self.there.load(Ordering::SeqCst) >= comers {
                 return;
             }
             thread::yield_now();
@@ -56,9 +65,11 @@ pub struct TimingGate<'a, R> {
     case: Case,
     // The operation behind all rounds.
     last: u32,
-    // Where all workers meet, and the two of a chain's ends.
+    // Where all workers meet, the two of a chain's ends or of a ping-pong, and the sleepers of a broadcast, who come
+    // anew in each round.
     all: Meeting,
     ends: Meeting,
+    sleepers: Meeting,
     // Nanoseconds behind a moment: at the begin, at the end, at the end of the first reader that came to it, and before
     // each operation of a chain's last owner, or of a writer whose takes are timed.
     from: Instant,
@@ -80,6 +91,7 @@ impl<'a, R: Clock> TimingGate<'a, R> {
             last: u32::try_from(operations).unwrap_or(u32::MAX),
             all: Meeting::new(case.threads),
             ends: Meeting::new(2),
+            sleepers: Meeting::new(case.threads.saturating_sub(1)),
             from: Instant::now(rt)?,
             began: AtomicU64::new(u64::MAX),
             ended: AtomicU64::new(0),
@@ -101,7 +113,10 @@ impl<'a, R: Clock> TimingGate<'a, R> {
             | Round::Write
             | Round::Get
             | Round::Mixed
-            | Round::Waits => self.ended.load(Ordering::SeqCst),
+            | Round::Waits
+            | Round::Share
+            | Round::PingPong
+            | Round::Broadcast => self.ended.load(Ordering::SeqCst),
             Round::Chain => self.loan_seen(history),
         };
         ended.saturating_sub(self.began.load(Ordering::SeqCst))
@@ -200,6 +215,43 @@ impl<'a, R: Clock> TimingGate<'a, R> {
         }
     }
 
+    // The second thread takes the mutex once the first has it, and has it so when the first waits. The clock is read
+    // before all and behind all.
+    fn at_turn(&self, t: ThreadNo, operation: u32) {
+        if operation == 0 {
+            self.begin();
+        }
+        let meets = if self.is_last(t) { 0 } else { 1 };
+        if operation == meets {
+            self.ends.wait();
+        }
+        if operation == self.last.saturating_add(2) {
+            self.end();
+        }
+    }
+
+    // Each sleeper comes before each of its waits, while it has the mutex. The last thread takes it in a round once all
+    // have come: then all sleep. The clock is read before all and behind all.
+    fn at_broadcast(&self, t: ThreadNo, operation: u32) {
+        if operation == 0 {
+            self.begin();
+        }
+        let rounds = self.last / 3;
+        if self.is_last(t) {
+            if operation < self.last && operation % 3 == 0 {
+                let before = operation as usize / 3;
+                let comers = before
+                    .saturating_add(1)
+                    .saturating_mul(self.sleepers.workers);
+                self.sleepers.wait_for(comers);
+            }
+        } else if operation > 0 && operation <= rounds {
+            self.sleepers.come();
+        } else if operation == rounds.saturating_add(2) {
+            self.end();
+        }
+    }
+
     // Each owner has its own mutex before any of them takes the next one's. When they are asleep, the clock is read
     // before the taker's take, and from then on before each operation of the last owner.
     fn at_link(&self, t: ThreadNo, operation: u32) {
@@ -229,9 +281,12 @@ impl<R: Clock + Sync> Gate for TimingGate<'_, R> {
             | Round::Read
             | Round::Write
             | Round::Get
-            | Round::Mixed => self.at_round(operation),
+            | Round::Mixed
+            | Round::Share => self.at_round(operation),
             Round::Long => self.at_long_round(operation),
             Round::Waits => self.at_wait(t, operation),
+            Round::PingPong => self.at_turn(t, operation),
+            Round::Broadcast => self.at_broadcast(t, operation),
             Round::Chain => self.at_link(t, operation),
         }
     }

@@ -13,7 +13,7 @@ const BETTER: u32 = 10;
 const USUAL: u32 = 100;
 
 /// What a thread does in each round. It has a first lock and a second one: mutexes, or reader-writer locks where it
-/// reads or writes.
+/// reads or writes, or sx locks where it shares.
 #[derive(Clone, Copy, Debug, PartialEq, Eq)]
 pub enum Round {
     /// It takes the first, and gives it back.
@@ -36,6 +36,14 @@ pub enum Round {
     Mixed,
     /// So it goes here, and of the last thread's takes it is told how long they were while all others read.
     Waits,
+    /// It gets a value of its table while it holds it shared.
+    Share,
+    /// There are two threads and one condition, with a mutex that each holds but while it waits: the first waits and
+    /// signals, and the second signals and waits.
+    PingPong,
+    /// All threads but the last wait on one condition, with its mutex, and the last one takes the mutex and wakes all,
+    /// once all of them sleep.
+    Broadcast,
     /// There are no rounds, but a chain of threads that each hold a mutex and wait for the next one's. The last of them
     /// shows its priority again and again, and one with a better priority takes the first one's mutex.
     Chain,
@@ -50,8 +58,8 @@ pub struct Case {
     pub round: Round,
 }
 
-/// The runs, as bench/mutex_baseline.c and bench/rwlock_baseline.c make them, but for the last.
-pub const CASES: [(&str, usize, usize, Round); 25] = [
+/// The runs, as bench/mutex_baseline.c, bench/rwlock_baseline.c and bench/cond_baseline.c make them, but for the last.
+pub const CASES: [(&str, usize, usize, Round); 29] = [
     ("lock_unlock", 1, 1, Round::Bare),
     ("one_mutex_1_thread", 1, 1, Round::Edit),
     ("one_mutex_2_threads", 2, 1, Round::Edit),
@@ -76,17 +84,61 @@ pub const CASES: [(&str, usize, usize, Round); 25] = [
     ("readers_4_threads", 4, 1, Round::Get),
     ("readers_4_threads_and_a_writer", 5, 1, Round::Mixed),
     ("write_under_4_readers", 5, 1, Round::Waits),
+    ("sx_readers_1_thread", 1, 1, Round::Share),
+    ("sx_readers_4_threads", 4, 1, Round::Share),
+    ("ping_pong_2_threads", 2, 1, Round::PingPong),
+    ("broadcast_31_sleepers", 32, 1, Round::Broadcast),
     ("chain_of_8_owners", 9, 8, Round::Chain),
 ];
 
+// What a thread does where threads wait on the condition: before all rounds, in each, and behind them.
+#[derive(Clone, Copy, Debug)]
+struct Part {
+    first: &'static str,
+    round: &'static str,
+    last: &'static str,
+}
+
+// The two of a ping-pong.
+const WAITS: Part = Part {
+    first: "lock m0\n",
+    round: "wait woken\nsignal woken\n",
+    last: "unlock m0\n",
+};
+
+const SIGNALS: Part = Part {
+    first: "lock m0\n",
+    round: "signal woken\nwait woken\n",
+    last: "unlock m0\n",
+};
+
+// A sleeper of a broadcast, and the thread that wakes all.
+const SLEEPS: Part = Part {
+    first: "lock m0\n",
+    round: "wait woken\n",
+    last: "unlock m0\n",
+};
+
+const WAKES: Part = Part {
+    first: "",
+    round: "lock m0\nbroadcast woken\nunlock m0\n",
+    last: "",
+};
+
 impl Round {
-    /// How many operations it has.
+    /// How many operations it has; of a broadcast, for the thread that wakes.
     pub fn operations(self) -> usize
         ensures { 0 < result }
     {
         match self {
-            Round::Bare | Round::Read | Round::Write => 2,
-            Round::Edit | Round::Long | Round::Get | Round::Mixed | Round::Waits => 3,
+            Round::Bare | Round::Read | Round::Write | Round::PingPong => 2,
+            Round::Edit
+            | Round::Long
+            | Round::Get
+            | Round::Mixed
+            | Round::Waits
+            | Round::Share
+            | Round::Broadcast => 3,
             Round::Apart | Round::Nested => 5,
             Round::Chain => 1,
         }
@@ -95,9 +147,16 @@ impl Round {
     // By which word a script declares its locks.
     fn kind(self) -> &'static str {
         match self {
-            Round::Bare | Round::Edit | Round::Long | Round::Apart | Round::Nested | Round::Chain =>
-                "mutex",
+            Round::Bare
+            | Round::Edit
+            | Round::Long
+            | Round::Apart
+            | Round::Nested
+            | Round::PingPong
+            | Round::Broadcast
+            | Round::Chain => "mutex",
             Round::Read | Round::Write | Round::Get | Round::Mixed | Round::Waits => "rw",
+            Round::Share => "sx",
         }
     }
 }
@@ -114,13 +173,19 @@ impl Case {
         }
     }
 
+    // Whether the thread is the last of all.
+    fn is_last(&self, t: usize) -> bool {
+        t.saturating_add(1) == self.threads
+    }
+
     /// How many rounds each thread makes, where all threads together make so many operations at most; in a chain, how
     /// often the last owner shows its priority.
     pub fn rounds(&self, most: usize) -> usize {
         most / self.threads.max(1) / self.round.operations()
     }
 
-    /// How many operations its threads make together in so many rounds each. A chain is timed as one.
+    /// How many operations its threads make together in so many rounds each. A chain is timed as one, and where threads
+    /// wait on a condition, each round.
     pub fn operations(&self, rounds: usize) -> u64 {
         match self.round {
             Round::Bare
@@ -132,9 +197,11 @@ impl Case {
             | Round::Write
             | Round::Get
             | Round::Mixed
-            | Round::Waits => rounds
+            | Round::Waits
+            | Round::Share => rounds
                 .saturating_mul(self.round.operations())
                 .saturating_mul(self.threads) as u64,
+            Round::PingPong | Round::Broadcast => rounds as u64,
             Round::Chain => 1,
         }
     }
@@ -147,6 +214,7 @@ pub fn script_of(alloc: Global, case: &Case, rounds: usize) -> Result<String, Al
     for m in 0..case.locks.saturating_mul(2) {
         script.push_str(&format!(in alloc; "{kind} m{m} c{m}\n")?)?;
     }
+    script.push_str("cond woken m0\n")?;
     for t in 0..case.threads {
         match case.round {
             Round::Bare
@@ -158,7 +226,16 @@ pub fn script_of(alloc: Global, case: &Case, rounds: usize) -> Result<String, Al
             | Round::Write
             | Round::Get
             | Round::Mixed
-            | Round::Waits => push_rounds(alloc, &mut script, case, t, rounds)?,
+            | Round::Waits
+            | Round::Share => push_rounds(alloc, &mut script, case, t, rounds)?,
+            Round::PingPong => {
+                let part = if case.is_last(t) { SIGNALS } else { WAITS };
+                push_part(alloc, &mut script, t, &part, rounds)?;
+            }
+            Round::Broadcast => {
+                let part = if case.is_last(t) { WAKES } else { SLEEPS };
+                push_part(alloc, &mut script, t, &part, rounds)?;
+            }
             Round::Chain => push_link(alloc, &mut script, case, t, rounds)?,
         }
     }
@@ -176,7 +253,7 @@ fn push_rounds(
 ) -> Result<(), AllocError> {
     let a = t % case.locks.max(1);
     let b = a.saturating_add(case.locks);
-    let writes = t.saturating_add(1) == case.threads;
+    let writes = case.is_last(t);
     script.push_str(&format!(in alloc; "thread t{t} {USUAL}\n")?)?;
     for i in 0..rounds {
         let key = i % KEYS;
@@ -199,11 +276,27 @@ fn push_rounds(
             Round::Get | Round::Mixed | Round::Waits => {
                 format!(in alloc; "rlock m{a}\nget m{a} {key}\nrunlock m{a}\n")?
             }
-            Round::Chain => String::new(alloc),
+            Round::Share => format!(in alloc; "slock m{a}\nget m{a} {key}\nsunlock m{a}\n")?,
+            Round::PingPong | Round::Broadcast | Round::Chain => String::new(alloc),
         };
         script.push_str(&round)?;
     }
     script.push_str("show\nend\n")
+}
+
+// A thread that has a part where threads wait on the condition.
+fn push_part(
+    alloc: Global,
+    script: &mut String,
+    t: usize,
+    part: &Part,
+    rounds: usize,
+) -> Result<(), AllocError> {
+    script.push_str(&format!(in alloc; "thread t{t} {USUAL}\n{}", part.first)?)?;
+    for _ in 0..rounds {
+        script.push_str(part.round)?;
+    }
+    script.push_str(&format!(in alloc; "{}show\nend\n", part.last)?)
 }
 
 // A thread of a chain: an owner, the last of them, or the one that takes the first one's mutex.

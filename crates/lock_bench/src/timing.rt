@@ -1,12 +1,11 @@
 //! Timing one run of a case.
 ghost use Rattle.std.specs.Prelude.{IfOk};
 ghost use Rattle.lock_model.specs.Operations.{IsProper};
-ghost use Rattle.floor_run.specs.Runs.{HasNoChannels};
 
 use crate::gate::TimingGate;
 use crate::scripts::{Case, Round};
-use anyhow::{Result, bail};
-use floor_run::{has_no_channels, run_plan};
+use anyhow::Result;
+use floor_run::run_plan;
 use lock_model::limits::LOCKS;
 use lock_model::{Entry, Event, Plan, ThreadNo};
 use script_read::read_script;
@@ -27,15 +26,11 @@ pub struct Figures {
     pub waits: Vec<u64>,
 }
 
-/// The plan of a script of locks alone.
+/// The plan of a script.
 pub fn plan_of(alloc: Global, script: &str) -> Result<Plan>
-    ensures proper { IfOk result IsProper }
-    ensures channels { IfOk result HasNoChannels }
+    ensures { IfOk result IsProper }
 {
     let plan = read_script(alloc, script.as_bytes())?;
-    if !has_no_channels(&plan) {
-        bail!("the script has a condition or a channel");
-    }
     Ok(plan)
 }
 
@@ -48,7 +43,6 @@ pub fn time_of<R: Threads + Wait + Clock + Sync>(
     rounds: usize,
 ) -> Result<Figures>
     requires proper { IsProper plan.now }
-    requires channels { HasNoChannels plan.now }
 {
     let gate = TimingGate::new(rt, alloc, case, rounds)?;
     let (outcome, _closing) = run_plan(rt, alloc, plan, CHAINS, &gate)?;
@@ -66,6 +60,9 @@ pub fn time_of<R: Threads + Wait + Clock + Sync>(
             | Round::Write
             | Round::Get
             | Round::Mixed
+            | Round::Share
+            | Round::PingPong
+            | Round::Broadcast
             | Round::Chain => Vec::new(alloc),
             Round::Waits => gate.waits(alloc)?,
         },

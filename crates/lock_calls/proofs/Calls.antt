@@ -1,5 +1,5 @@
 -- The call that a pass is in the middle of: which one it is, and that it is noted in the pass where it stands.
-use Rattle.std.proofs.Common.{◌≡◌, sym, ap, ◌∙◌, subst, ◌⊎◌, inl, inr, refl}
+use Rattle.std.proofs.Common.{◌≡◌, Option, Some, None, IfSome, IfNone, sym, ap, ◌∙◌, subst, ◌⊎◌, inl, inr, refl}
 use Rattle.lock_model.specs.declared.numbers.LockNo.{LockNo}
 use Rattle.lock_model.specs.declared.plan.Mode.{Mode}
 use Rattle.floor_table.specs.declared.description.Description.{Description}
@@ -8,13 +8,14 @@ use Rattle.lock_floor.specs.declared.calls.Call.{Call}
 use Rattle.lock_floor.specs.declared.calls.Call.TheVariants as calls
 use Rattle.lock_floor.specs.declared.calls.ReleaseAt.{ReleaseAt}
 use Rattle.lock_floor.specs.declared.calls.TakeAt.{TakeAt}
-use Rattle.lock_floor.specs.declared.calls.TakeAt.TheVariants.{Checks, Spins, ComesIn, Contends, Walks, Hops, Sleeps}
+use Rattle.lock_floor.specs.declared.calls.TakeAt.TheVariants.{Checks, Spins, ComesIn, Contends, Walks, Hops, Halts, Sleeps}
 use Rattle.lock_floor.specs.Floors.{Floor, Pass}
 use Rattle.lock_floor.specs.Passes.{IsOf}
 use Rattle.lock_calls.specs.declared.answers.Next.{Next}
 use Rattle.lock_calls.specs.declared.answers.Next.TheVariants.{Done, Again, Sleep, Wake, Reversed, Halted}
 use Rattle.lock_calls.specs.Releases.{IsInRelease, IsUnderRelease, GoesOnReleasing}
-use Rattle.lock_calls.specs.Takes.{IsInTake, IsUnderTake, TakesOn, GoesOnTaking, next_at}
+use Rattle.lock_calls.specs.Takes.{IsInTake, IsUnderTake, TakeEnd, TakesOn, TakesPart, GoesOnTaking, next_at, stands_at}
+use Rattle.lock_calls.specs.Waiting.{HasGained}
 
 -- 1. Where the pass notes it
 
@@ -68,6 +69,13 @@ module _ (floor : Description) (p : Pass Knowledge) (l : LockNo) (mode : Mode) (
       subst (λ (z : LockNo × Mode × TakeAt). GoesOnTaking floor z.0 z.1 z.2 next p q)
       (λ i. (same.0 i, same.1 i, same.2 i)) went
 
+-- a part that wakes nobody
+pub takes_part : (floor : Description) (l : LockNo) (mode : Mode) (at : TakeAt) (to : Option TakeAt) (old new : Knowledge)
+    → IfNone to (HasGained l mode old new) → IfNone to (TakeEnd floor l mode at old new)
+    → IfSome to (λ a. TakesOn floor l mode at a old new) → TakesPart floor l mode at (stands_at to) old new
+takes_part floor l mode at None old new gained end on = (gained, end)
+takes_part floor l mode at (Some to) old new gained end on = on
+
 -- what is to be done next, where a take stands somewhere, is to go on or to sleep
 stands_next : (to : TakeAt) → (next_at to ≡ Again) ⊎ (next_at to ≡ Sleep)
 stands_next Checks = inl refl
@@ -76,6 +84,7 @@ stands_next ComesIn = inl refl
 stands_next (Contends seen) = inl refl
 stands_next (Walks there) = inl refl
 stands_next (Hops there) = inl refl
+stands_next (Halts at) = inl refl
 stands_next Sleeps = inr refl
 
 no_other_next : (to : TakeAt) (next : Next) → next ≡ next_at to → (next ≡ Again → ⊥) → (next ≡ Sleep → ⊥) → ⊥

@@ -24,7 +24,7 @@ use Rattle.lock_calls.specs.Releases as released
 use Rattle.lock_calls.specs.Releases.{IsUnderRelease, HasBegunRelease, StandsInRelease, ReleasesAtOnce, EndsRelease, WakesOne, GoesOnReleasing}
 use Rattle.lock_calls.specs.Choices.{outside}
 use Rattle.lock_calls.specs.Steps.{Locks, Release, ByDrop, IsReleaseIn, unlocks, at_once}
-use Rattle.lock_calls.specs.Takes.{IsUnderTake, HasTaken, IsRefused, HasBegunTake, TakesAtOnce, BeginsTake, StandsInTake, EndsRefused, EndsHalted, WasHalted, GoesOnTaking, kept_at}
+use Rattle.lock_calls.specs.Takes.{IsUnderTake, HasTaken, IsRefused, HasBegunTake, TakesAtOnce, BeginsTake, StandsInTake, StandsAndWakes, TakesOn, EndsRefused, EndsHalted, WasHalted, GoesOnTaking, kept_at}
 use Rattle.lock_calls.specs.Waiting.{Kept, kept_of}
 use Rattle.lock_calls.proofs.Let as let_go
 use Rattle.lock_calls.proofs.Let.{HasNoted, Noted, noted_of}
@@ -92,24 +92,36 @@ module _ (floor : Description) (l : LockNo) (mode : Mode) (begun : Knowledge) (p
         };
       }
 
-  stands : (n : Next) → StandsInTake floor l mode s.0 n p q → StandsSince floor l mode begun q
-  stands n d = (
-    d.to,
-    d.call,
-    under_take_on floor l mode s.0 d.to p.view q.view s.2 d.on,
-    d.on.kept ∙ s.3,
-    goes_on floor l mode false begun p.view q.view its (ap (λ (k : Kept). k.thread) d.on.kept ∙ its) s.0 d.to
-        s.2.calling.no_wait s.2.there s.4 d.on.leg,
+  stands : (to : TakeAt) → q.call ≡ calls.Take l mode to → TakesOn floor l mode s.0 to p.view q.view
+      → StandsSince floor l mode begun q
+  stands to call on = (
+    to,
+    call,
+    under_take_on floor l mode s.0 to p.view q.view s.2 on,
+    on.kept ∙ s.3,
+    goes_on floor l mode false begun p.view q.view its (ap (λ (k : Kept). k.thread) on.kept ∙ its) s.0 to
+        s.2.calling.no_wait s.2.there s.4 on.leg,
   )
 
   pub stands_on : next ≡ Again → StandsSince floor l mode begun q
-  stands_on is = stands Again (subst (λ n. GoesOnTaking floor l mode s.0 n p q) is w)
+  stands_on is =
+      let d : StandsInTake floor l mode s.0 Again p q = subst (λ n. GoesOnTaking floor l mode s.0 n p q) is w in
+      stands d.to d.call d.on
 
   pub stands_asleep : next ≡ Sleep → StandsSince floor l mode begun q
-  stands_asleep is = stands Sleep (subst (λ n. GoesOnTaking floor l mode s.0 n p q) is w)
+  stands_asleep is =
+      let d : StandsInTake floor l mode s.0 Sleep p q = subst (λ n. GoesOnTaking floor l mode s.0 n p q) is w in
+      stands d.to d.call d.on
 
-  pub wakes_nobody : (t : ThreadNo) → next ≡ Wake t → ⊥
-  wakes_nobody t is = subst (λ n. GoesOnTaking floor l mode s.0 n p q) is w
+  module _ (t : ThreadNo) (is : next ≡ Wake t) where
+    woke : StandsAndWakes floor l mode s.0 t.0 p q
+    woke = subst (λ n. GoesOnTaking floor l mode s.0 n p q) is w
+
+    pub halts_low : t.0 < length floor.threads
+    halts_low = woke.wakes.of_floor
+
+    pub stands_waking : StandsSince floor l mode begun q
+    stands_waking = stands woke.to woke.call woke.wakes.on
 
   pub was_refused : (r : Reversal) → next ≡ Reversed r → IsRefused floor l r begun q.view
   was_refused r is =

@@ -1,5 +1,5 @@
 -- A lock is given up within a wait: a release that isn't noted, and begins with a look.
-use Rattle.std.proofs.Common.{◌≡◌, ◌≢◌, ◌⊎◌, ℕ, Bool, true, false, List, [], ◌∷◌, ◌++◌, eqb, eq-eqb, inl, inr, refl, sym, ap, ◌∙◌, subst, arith}
+use Rattle.std.proofs.Common.{◌≡◌, ◌≢◌, ℕ, Bool, true, false, List, [], ◌∷◌, ◌++◌, eqb, eq-eqb, refl, sym, ap, ◌∙◌, subst, arith}
 use Rattle.std.specs.Prelude.{if◌then◌else◌}
 use Rattle.lock_model.specs.Holds.{NotHeld, Holds}
 use Rattle.lock_model.specs.Operations.{hold_in}
@@ -19,6 +19,7 @@ use Rattle.lock_floor.specs.Relocks.{MayRelease, GivesUp}
 use Rattle.lock_floor.specs.Views.{counts, looked}
 use Rattle.lock_floor.proofs.May.{counts_not}
 use Rattle.lock_floor.proofs.Taking.{waits_none}
+use Rattle.lock_calls.specs.Choices.{by_word}
 use Rattle.lock_calls.specs.Releases.{BeginsGivingUp, HasWokenOne, IsReleased, IsReleasing, ReleasesOn, once_released}
 use Rattle.lock_calls.specs.Steps.{Release, ByDrop, InSection, IsGivingUpIn, releases_by}
 use Rattle.lock_calls.specs.Waiting.{IsOwn, MayPutDown}
@@ -73,25 +74,34 @@ module _ (floor : Description) (l : LockNo) (mode : Mode) (v w : Knowledge) (m :
   looks : Makes floor (Looks v.thread l.0 false ∷ []) v w
   looks = subst (λ b. Makes floor (Looks v.thread l.0 b ∷ []) v w) (counts_not floor v l.0 mode m.no_round m.held) look
 
-  pub begins_by_drop : is_drop (word_of seen) ≡ true → BeginsGivingUp floor l mode (places.Drops seen) v w
-  begins_by_drop drops = record {
-    outside = inr (seen, refl);
-    there = record {
-      may = still;
-      own = subst (λ t. IsOwn t mode seen) (sym (ap (λ (k : Knowledge). k.thread) view))
-          (saw_own floor l.0 mode seen (counts v l.0) v w m.held formed view look);
-      drops = drops;
-    };
-    kept = kept;
-    held = ap (λ (k : Knowledge). k.share.held) view;
-    look = looks;
-  }
+  -- so it may stand where the word lets it
+  there_by_word : IsReleasing floor l.0 mode (by_word seen) w
+  there_by_word = go (is_drop (word_of seen)) refl
+    where
+      go : (b : Bool) → is_drop (word_of seen) ≡ b
+          → IsReleasing floor l.0 mode (if b then places.Drops seen else ComesTo) w
+      go true drops = record {
+        may = still;
+        own = subst (λ t. IsOwn t mode seen) (sym (ap (λ (k : Knowledge). k.thread) view))
+            (saw_own floor l.0 mode seen (counts v l.0) v w m.held formed view look);
+        drops = drops;
+      }
+      go false stays = still
 
-  pub begins_by_chain : BeginsGivingUp floor l mode ComesTo v w
-  begins_by_chain = record {
-    outside = inl refl;
-    there = still;
-    kept = kept;
+  kept_by_word : once_released l.0 (by_word seen) w ≡ once_released l.0 ComesTo v
+  kept_by_word = go (is_drop (word_of seen))
+    where
+      go : (b : Bool) → once_released l.0 (if b then places.Drops seen else ComesTo) w ≡ once_released l.0 ComesTo v
+      go true = kept
+      go false = kept
+
+  pub begins_by_word : (at : ReleaseAt) → at ≡ by_word seen → BeginsGivingUp floor l mode at v w
+  begins_by_word at is = record {
+    seen = seen;
+    saw = ap (λ (k : Knowledge). k.share.doing.last_look) view;
+    by_it = is;
+    there = subst (λ a. IsReleasing floor l.0 mode a w) (sym is) there_by_word;
+    kept = ap (λ a. once_released l.0 a w) is ∙ kept_by_word;
     held = ap (λ (k : Knowledge). k.share.held) view;
     look = looks;
   }
@@ -121,23 +131,26 @@ module _ (floor : Description) (l : LockNo) (mode : Mode) (begun : Knowledge) wh
 
   module _ (now : Knowledge) where
     pub given_first : (at : ReleaseAt) → BeginsGivingUp floor l mode at begun now → GivesUpSince floor l mode begun at now
-    given_first at b = record { there = b.there; kept = b.kept; is_at = is_at at b.outside }
+    given_first at b = record {
+      there = b.there;
+      kept = b.kept;
+      is_at = subst (λ a. let_go.IsAt floor l mode 2 t hs begun a now) (sym b.by_it) (go (is_drop (word_of b.seen)));
+    }
       where
         first : let_go.HasMissed floor l mode 2 t begun now
         first = record { k = 1; some = omega arith; few = λ e. omega arith; each = (now, b.look, refl) }
 
-        is_at : (a : ReleaseAt) → (a ≡ ComesTo) ⊎ ((seen : ℕ) × (a ≡ places.Drops seen))
-            → let_go.IsAt floor l mode 2 t hs begun a now
-        is_at a (inl e) = subst (λ x. let_go.IsAt floor l mode 2 t hs begun x now) (sym e) record {
+        go : (c : Bool) → let_go.IsAt floor l mode 2 t hs begun (if c then places.Drops b.seen else ComesTo) now
+        go true = record {
           came = now;
-          has_let = first;
+          has_let = (first, λ e. omega arith);
           waited = waits_none now;
           held = b.held;
           settled = λ e nobody. refl;
         }
-        is_at a (inr e) = subst (λ x. let_go.IsAt floor l mode 2 t hs begun x now) (sym e.1) record {
+        go false = record {
           came = now;
-          has_let = (first, λ e. omega arith);
+          has_let = first;
           waited = waits_none now;
           held = b.held;
           settled = λ e nobody. refl;

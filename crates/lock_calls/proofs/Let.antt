@@ -43,9 +43,9 @@ pub record Noted : Type 0 where
 abbrev pub noted_of : Knowledge → Noted
 noted_of v = record { thread = v.thread; spare = v.spare; log = v.share.log }
 
--- What a thread t has made of a release since a moment, behind its entry where it has one, at which it held these locks.
--- Outside the section of the lock's chain it looked or made exchanges that missed, which were looks: one at least, and
--- of a lock that is held exclusively so many at most
+-- What a thread t has made of a release since a moment, behind its entry where it has one, at which it held these
+-- locks. Outside the section of the lock's chain it looked or made exchanges that missed, which were looks: one at
+-- least, and of a lock that is held exclusively so many at most
 pub record HasMissed (floor : Description) (l : LockNo) (mode : Mode) (most t : ℕ) (begun now : Knowledge) : Type 0
   where
     pub k : ℕ

@@ -1,17 +1,16 @@
--- A take whose thread stands on the lock's queue: it makes hop after hop of its walk, counts itself out, and runs again
--- where it was woken.
-use Rattle.std.proofs.Common.{◌≡◌, ◌≢◌, ℕ, ◌<◌, ◌≤◌, Bool, true, false, Option, Some, [], ◌∷◌, length, refl, sym, ap, ◌∙◌, subst, inl, arith}
-use Rattle.std.specs.Prelude.{◌==◌, if◌then◌else◌}
+-- A take whose thread stands on the lock's queue: it makes hop after hop of its walk, counts itself out, halts others
+-- where that left nobody awake, and runs again where it was woken.
+use Rattle.std.proofs.Common.{◌≡◌, ◌≢◌, ℕ, ◌<◌, ◌≤◌, Bool, true, false, Option, Some, None, [], ◌∷◌, length, refl, sym, ap, ◌∙◌, subst, inl, arith}
+use Rattle.lock_model.specs.Limits.{most_held}
 use Rattle.lock_model.specs.Operations.{hold_in}
-use Rattle.lock_model.specs.Queues.{Cause, BySignal, ByAbort, lock_queue}
+use Rattle.lock_model.specs.Queues.{Cause, BySignal, ByAbort, Mark, lock_queue}
 use Rattle.lock_model.specs.Words.{is_turnstile}
 use Rattle.lock_model.specs.declared.numbers.LockNo.{LockNo}
 use Rattle.lock_model.specs.declared.plan.Mode.{Mode}
 use Rattle.lock_model.specs.declared.plan.QueueName.{QueueName}
 use Rattle.lock_objects.specs.Represents.{walk_of}
-use Rattle.lock_state.specs.State.{Woken, NoWalk, AtLock, AtThread, Awake, Asleep, Last, is_parked}
+use Rattle.lock_state.specs.State.{Woken, NoWalk, AtLock, AtThread, Awake}
 use Rattle.lock_state.specs.Steps.{CountsOut, Resumes}
-use Rattle.lock_state.specs.Steps.Counting.{phase_out}
 use Rattle.lock_state.specs.Steps.Items.{RecordOf}
 use Rattle.lock_state.specs.Steps.LockWords.{is_taking_back}
 use Rattle.lock_state.specs.Steps.Turnstiles.{called_after, wanted_after, noted_after, taking_by, woken_from_by, round_for}
@@ -23,15 +22,21 @@ use Rattle.floor_table.specs.declared.description.Description.{Description}
 use Rattle.floor_table.specs.Steps.{Makes, MayMake}
 use Rattle.floor_table.specs.Shares.{Doing}
 use Rattle.floor_table.specs.Views.{Runs, StandsOn, Knowledge, seeing}
-use Rattle.lock_floor.specs.declared.calls.TakeAt.TheVariants.{Spins, Walks, Hops, Sleeps}
+use Rattle.lock_floor.specs.declared.calls.TakeAt.TheVariants.{Spins, Walks, Hops, Halts, Sleeps}
 use Rattle.lock_floor.specs.declared.counts.Count.TheVariants.{Out}
+use Rattle.lock_floor.specs.declared.queues.HaltAt.{HaltAt}
+use Rattle.lock_floor.specs.declared.queues.HaltAt.TheVariants as halts
 use Rattle.lock_floor.specs.Counts.{counted}
 use Rattle.lock_floor.specs.Latches.{FindsOut, Takes}
 use Rattle.lock_floor.specs.Resumes.{cause_of, resumed, FindsQueued, MayRunAgain, RunsAgain}
 use Rattle.lock_floor.specs.Walks.{CanWalk, HasTurnstilesOut, HopsOn, NeedsRecord, turnstiles, turnstiles_place}
-use Rattle.lock_floor.proofs.MayWake.{may_count_out, may_run_again}
-use Rattle.lock_calls.specs.Takes.{IsStanding, IsParked, TakesOn, kept_at, takes_turnstiles, hops, counts_out, resumes, finds_out, is_queued}
-use Rattle.lock_calls.specs.Waiting.{kept_of, CanAcquire}
+use Rattle.lock_floor.proofs.Marked.{head_or}
+use Rattle.lock_floor.proofs.MayWake.{may_run_again}
+use Rattle.halting.specs.Halts as halting
+use Rattle.halting.specs.Halts.{EndsHalting, HaltsOn, IsAt, MayCountOut, WakesOn}
+use Rattle.halting.proofs.Counted.{is_counted_out, is_last_of, may_count}
+use Rattle.lock_calls.specs.Takes.{IsStanding, IsHaltingThere, IsParked, TakesOn, WakesInTake, kept_at, takes_turnstiles, hops, counts_out, is_last, halts_on, has_halted, resumes, finds_out, is_queued}
+use Rattle.lock_calls.specs.Waiting.{Kept, kept_of, CanAcquire}
 
 -- 1. What stays
 
@@ -50,7 +55,8 @@ parked_still : (l : ℕ) (v w : Knowledge) → w ≡ seeing w.seen v → IsParke
 parked_still l v w view m = subst (IsParked l) (sym view) record {
   standing = standing_still l walk.None v (seeing w.seen v) refl m.standing;
   nothing_out = m.nothing_out;
-  parked = m.parked;
+  unmarked = m.unmarked;
+  at_resume = m.at_resume;
 }
 
 pub walk_still : (floor : Description) (v w : Knowledge) → w ≡ seeing w.seen v → CanWalk floor v → CanWalk floor w
@@ -149,40 +155,150 @@ module _ (floor : Description) (l : LockNo) (mode : Mode) (there : run_time.Walk
 
 -- 3. It counts itself out
 
--- so it is parked, whoever else is awake
-parked_out : (awake : ℕ) → is_parked (phase_out awake) ≡ true
-parked_out awake = go (awake == 1)
-  where
-    go : (b : Bool) → is_parked (if b then Last else Asleep) ≡ true
-    go true = refl
-    go false = refl
-
 module _ (floor : Description) (l : LockNo) (mode : Mode) (z : Knowledge) (m : IsStanding l.0 walk.None z)
     (can : CanWalk floor z) (calls : CanAcquire floor (kept_of z)) where
-  pub may_park : MayMake floor z (λ s. Unit {0}) (CountsOut z.thread ∷ [])
-  may_park =
-      may_count_out floor z (lock_queue l.0) m.stands can.nothing_out (sym m.walk_is) calls.unmarked can.going tt
-
-  pub goes_to_sleep : (new : Knowledge) (found : ℕ) → new ≡ seeing new.seen (counted Out found z)
-      → Makes floor (CountsOut z.thread ∷ []) z new → TakesOn floor l mode (Walks walk.None) Sleeps z new
-  goes_to_sleep new found view step = record {
-    there = subst (IsParked l.0) (sym view) record {
-      standing = record {
-        unheld = m.unheld;
-        few = m.few;
-        wants = m.wants;
-        takes = m.takes;
-        stands = m.stands;
-        walk_is = m.walk_is;
-      };
-      nothing_out = can.nothing_out;
-      parked = parked_out found;
+  counts_itself : MayCountOut floor z
+  counts_itself = record {
+    aside = record {
+      description = calls.description;
+      is_out = inl (lock_queue l.0, m.stands, tt);
+      no_round = can.no_round;
+      no_walk = sym m.walk_is;
+      stamped = can.going.stamped;
     };
-    kept = ap (kept_at Sleeps) view ∙ (λ i. record (kept_of z) { phase = sym calls.going.awake i });
-    leg = counts_out step;
+    uncounted = calls.uncounted;
+    nothing_out = can.nothing_out;
+    unmarked = calls.unmarked;
+    awake = can.going.awake;
   }
 
--- 4. It runs again
+  pub may_park : MayMake floor z (λ s. Unit {0}) (CountsOut z.thread ∷ [])
+  may_park = may_count floor z counts_itself
+
+  module _ (new : Knowledge) (found : ℕ) (view : new ≡ seeing new.seen (counted Out found z))
+      (step : Makes floor (CountsOut z.thread ∷ []) z new) where
+    stands_out : IsStanding l.0 walk.None new
+    stands_out = subst (IsStanding l.0 walk.None) (sym view) record {
+      unheld = m.unheld;
+      few = m.few;
+      wants = m.wants;
+      takes = m.takes;
+      stands = m.stands;
+      walk_is = m.walk_is;
+    }
+
+    -- others are awake
+    pub goes_to_sleep : (found ≡ 1 → ⊥) → TakesOn floor l mode (Walks walk.None) Sleeps z new
+    goes_to_sleep others =
+        let out = is_counted_out floor found z new counts_itself view others in
+        record {
+          there = record {
+            standing = stands_out;
+            nothing_out = out.0.nothing_out;
+            unmarked = out.0.unmarked;
+            at_resume = out.0.at_resume;
+          };
+          kept = ap (kept_at Sleeps) view ∙ (λ i. record (kept_of z) { phase = sym calls.going.awake i });
+          leg = counts_out step out.1;
+        }
+
+    -- it was the last
+    pub begins_halting : found ≡ 1 → TakesOn floor l mode (Walks walk.None) (Halts halts.Finds) z new
+    begins_halting alone =
+        let last = is_last_of floor found z new counts_itself view alone in
+        record {
+          there = record { standing = stands_out; halts = last.0 };
+          kept = ap (kept_at (Halts halts.Finds)) view
+              ∙ (λ i. record (kept_of z) { phase = sym calls.going.awake i; marked = sym calls.unmarked i });
+          leg = is_last step last.0;
+        }
+
+-- 4. It halts others
+
+-- where it halts it has nobody counted in
+uncounted_at : (floor : Description) (at : HaltAt) (v : Knowledge) → IsAt floor at v → v.share.doing.counting ≡ None
+uncounted_at floor halts.Finds v h = h.uncounted
+uncounted_at floor (halts.Comes over itself) v h = h.0.uncounted
+uncounted_at floor (halts.Aborts over itself) v h = h.0.uncounted
+uncounted_at floor (halts.Wakes over itself) v h = h.0.uncounted
+
+-- and whom it has to wake is a thread of the floor
+wakes_of_floor : (floor : Description) (at : HaltAt) (v : Knowledge) (m : Mark) → IsAt floor at v
+    → v.share.doing.marked ≡ m ∷ [] → m.thread < length floor.threads
+wakes_of_floor floor halts.Finds v m h is = let z : [] ≡ m ∷ [] = sym h.unmarked ∙ is in cc
+wakes_of_floor floor (halts.Comes over itself) v m h is = let z : [] ≡ m ∷ [] = sym h.2 ∙ is in cc
+wakes_of_floor floor (halts.Aborts over itself) v m h is = let z : [] ≡ m ∷ [] = sym h.2 ∙ is in cc
+wakes_of_floor floor (halts.Wakes over itself) v m h is =
+    subst (λ (k : Mark). k.thread < length floor.threads) (ap (head_or m) (sym h.1.1.marked ∙ is)) h.1.1.of_floor
+
+-- what a take keeps of what a halting keeps
+abbrev as_taking : halting.Kept → Option ℕ → Kept
+as_taking k counting = record {
+  role = k.role;
+  description = k.description;
+  thread = k.thread;
+  spare = k.spare;
+  held = k.held;
+  begun = k.begun;
+  log = k.log;
+  marked = [];
+  noted = k.noted;
+  woken_from = k.woken_from;
+  unstamped = k.unstamped;
+  counting = counting;
+  phase = Awake;
+  has_ended = k.has_ended;
+}
+
+module _ (floor : Description) (l : LockNo) (mode : Mode) (at : HaltAt) (z new : Knowledge)
+    (h : IsHaltingThere floor l.0 at z) where
+  module _ (kept : halting.kept_of new ≡ halting.kept_of z) (uncounted : new.share.doing.counting ≡ None) where
+    stands_halting : IsStanding l.0 walk.None new
+    stands_halting = record {
+      unheld = ap (λ (k : halting.Kept). hold_in k.held l.0) kept ∙ h.standing.unheld;
+      few = subst (λ hs. length hs < most_held) (sym (ap (λ (k : halting.Kept). k.held) kept)) h.standing.few;
+      wants = ap (λ (k : halting.Kept). k.wanted) kept ∙ h.standing.wants;
+      takes = ap (λ (k : halting.Kept). k.taking) kept ∙ h.standing.takes;
+      stands = ap (λ (k : halting.Kept). k.pose) kept ∙ h.standing.stands;
+      walk_is = h.standing.walk_is ∙ sym (ap (λ (k : halting.Kept). k.walk) kept);
+    }
+
+    keeps_halting : (to : HaltAt) → kept_at (Halts to) new ≡ kept_at (Halts at) z
+    keeps_halting to i = as_taking (kept i) ((uncounted ∙ sym (uncounted_at floor at z h.halts)) i)
+
+  pub halts_further : (to : HaltAt) → HaltsOn floor at to z new → TakesOn floor l mode (Halts at) (Halts to) z new
+  halts_further to on =
+      let uncounted = uncounted_at floor to new on.at in
+      record {
+        there = record { standing = stands_halting on.kept uncounted; halts = on.at };
+        kept = keeps_halting on.kept uncounted to;
+        leg = halts_on at to on;
+      }
+
+  pub wakes_another : (to : HaltAt) (t : ℕ) → WakesOn floor at to t z new
+      → WakesInTake floor l mode (Halts at) (Halts to) t z new
+  wakes_another to t w = record {
+    on = halts_further to w.on;
+    mark = w.mark;
+    marked = w.marked;
+    thread = w.thread;
+    of_floor = subst (λ u. u < length floor.threads) w.thread (wakes_of_floor floor at z w.mark h.halts w.marked);
+  }
+
+  pub is_done_halting : EndsHalting floor at z new → TakesOn floor l mode (Halts at) Sleeps z new
+  is_done_halting e = record {
+    there = record {
+      standing = stands_halting e.halted.kept e.halted.uncounted;
+      nothing_out = e.halted.nothing_out;
+      unmarked = e.halted.unmarked;
+      at_resume = e.halted.at_resume;
+    };
+    kept = (λ i. record (kept_at Sleeps new) { marked = e.halted.unmarked i })
+        ∙ keeps_halting e.halted.kept e.halted.uncounted at;
+    leg = has_halted at e;
+  }
+
+-- 5. It runs again
 
 -- who stands on a lock's turnstile is woken by a signal
 pub by_signal : (floor : Description) (l : ℕ) → is_turnstile ((config_in floor).kind l) ≡ true
@@ -200,8 +316,7 @@ module _ (floor : Description) (l : LockNo) (mode : Mode) (z : Knowledge) (p : I
 
   pub may_wake_up : MayRunAgain floor z
   may_wake_up =
-      may_run_again floor z (lock_queue l.0) m.stands p.nothing_out (sym m.walk_is) calls.going.stamped (inl p.parked)
-      tt
+      may_run_again floor z (lock_queue l.0) m.stands p.nothing_out (sym m.walk_is) calls.going.stamped p.at_resume tt
 
   pub sleeps_on : (new : Knowledge) → new ≡ seeing new.seen z → FindsQueued floor z new
       → TakesOn floor l mode Sleeps Sleeps z new

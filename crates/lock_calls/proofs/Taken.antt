@@ -10,17 +10,17 @@ use Rattle.lock_model.specs.declared.numbers.LockNo.{LockNo}
 use Rattle.lock_model.specs.declared.plan.Kind.{Kind}
 use Rattle.lock_model.specs.declared.plan.Mode.{Mode}
 use Rattle.lock_objects.specs.Represents.{walk_of}
-use Rattle.lock_state.specs.State.{Walk, NoWalk, AtLock, AtThread}
+use Rattle.lock_state.specs.State.{Walk, NoWalk, AtLock, AtThread, Last}
 use Rattle.lock_state.specs.Steps.{Step, Seeks, Looks, Gains, Admits, Refuses, Readies, CountsOut, Resumes, Stamps, TakesItem}
-use Rattle.lock_state.specs.Steps.Items.{RecordOf, ClassGraph}
+use Rattle.lock_state.specs.Steps.Items.{Item, RecordOf, ClassGraph}
 use Rattle.lock_state.specs.Steps.LockWords.{is_taking_back}
 use Rattle.floor_table.specs.Descriptions.{config_in}
 use Rattle.floor_table.specs.declared.description.Description.{Description}
 use Rattle.floor_table.specs.Steps.{Makes, MakesEach}
 use Rattle.floor_table.specs.Views.{Knowledge, seeing}
 use Rattle.lock_floor.specs.declared.calls.TakeAt.{TakeAt}
-use Rattle.lock_floor.specs.declared.calls.TakeAt.TheVariants.{Checks, Spins, ComesIn, Contends, Walks, Hops, Sleeps}
-use Rattle.lock_floor.specs.Latches.{Takes}
+use Rattle.lock_floor.specs.declared.calls.TakeAt.TheVariants.{Checks, Spins, ComesIn, Contends, Walks, Hops, Halts, Sleeps}
+use Rattle.lock_floor.specs.Latches.{FindsOut, Takes}
 use Rattle.lock_floor.specs.Ordering.{checks}
 use Rattle.lock_floor.specs.Passes.{MakesEntry}
 use Rattle.lock_floor.specs.Views.{entry_by}
@@ -30,9 +30,12 @@ use Rattle.lock_floor.specs.Walks.{CanWalk, HopsOn, IsHop, turnstiles, turnstile
 use Rattle.lock_floor.proofs.Resuming.{waits_queued}
 use Rattle.lock_floor.proofs.Taking.{HasWaited, waits_none, waits_on}
 use Rattle.lock_floor.proofs.WalkHops.{hops_all}
+use Rattle.halting.specs.Halts.{CountsItselfOut, somebody_is_awake, nobody_is_awake}
+use Rattle.halting.proofs.Whole as whole
+use Rattle.halting.proofs.Whole.{HaltsSince, begins_whole, is_done}
 use Rattle.lock_calls.specs.Steps as steps
-use Rattle.lock_calls.specs.Steps.{IsGain, HasMissedFirst, MissesFirst, none_missed, one_missed, as_taken, begins_round, enters_by, gains_checked, gains_at_once, refuses, comes_there, gives_both, runs_on, enters_there, gains_there, in_its_round, parks, ComesToRound, Acquires}
-use Rattle.lock_calls.specs.Takes.{IsTaking, IsUnderTake, TakesOn, TakeLeg, TakeEnd, IsRefused, IsHalted, WasHalted, kept_at, admitted, at_check, looks, takes_chain, comes_in, looks_there, enters, takes_turnstiles, hops, counts_out, resumes, finds_out, is_queued, in_round, in_section}
+use Rattle.lock_calls.specs.Steps.{IsGain, HasMissedFirst, MissesFirst, none_missed, one_missed, as_taken, begins_round, enters_by, gains_checked, gains_at_once, refuses, comes_there, gives_both, runs_on, enters_there, gains_there, in_its_round, ComesToRound, Acquires}
+use Rattle.lock_calls.specs.Takes.{IsTaking, IsUnderTake, AwaitsInTake, TakesOn, TakeLeg, TakeEnd, IsRefused, IsHalted, WasHalted, kept_at, admitted, at_check, looks, takes_chain, comes_in, looks_there, enters, takes_turnstiles, hops, counts_out, is_last, halts_on, has_halted, resumes, finds_out, is_queued, in_round, in_section}
 use Rattle.lock_calls.specs.Waiting.{Kept, kept_of, IsCalling}
 use Rattle.lock_calls.proofs.Attempts.{misses_bare, misses_few}
 use Rattle.lock_calls.proofs.Halted.{halt_is_set}
@@ -92,11 +95,19 @@ pub record HasBegunHop (floor : Description) (l : ℕ) (mode : Mode) (back : Boo
   pub can : CanWalk floor before
   pub taken : Takes floor turnstiles (turnstiles_place floor) before now
 
--- or its walk ended there, and it counted itself out
-pub record HasCountedOut (floor : Description) (l : ℕ) (mode : Mode) (back : Bool) (begun now : Knowledge) : Type 0 where
+-- or its walk ended there, and its counting out left nobody awake
+pub record HasBeenLast (floor : Description) (l : ℕ) (mode : Mode) (back : Bool) (begun now : Knowledge) : Type 0 where
   pub before : Knowledge
   pub stood : HasStood floor l mode back begun before
-  pub counts : Makes floor (CountsOut begun.thread ∷ []) before now
+  pub counts : Makes floor (CountsOut before.thread ∷ []) before now
+  pub last : now.share.doing.phase ≡ Last
+
+-- or it counted itself out, and has halted others where that left nobody awake
+pub record HasCountedOut (floor : Description) (l : ℕ) (mode : Mode) (back : Bool) (begun now : Knowledge) : Type 0
+  where
+    pub before : Knowledge
+    pub stood : HasStood floor l mode back begun before
+    pub counts : CountsItselfOut floor before now
 
 -- so at each place
 abbrev pub HasCome : Description → ℕ → Mode → Bool → Knowledge → TakeAt → Knowledge → Type 0
@@ -108,15 +119,42 @@ HasCome floor l mode back begun ComesIn now = HasTakenChain floor l mode back be
 HasCome floor l mode back begun (Contends seen) now = HasComeThere floor l mode back begun now
 HasCome floor l mode back begun (Walks there) now = HasStood floor l mode back begun now
 HasCome floor l mode back begun (Hops there) now = HasBegunHop floor l mode back begun now
+HasCome floor l mode back begun (Halts at) now = HasBeenLast floor l mode back begun now
 HasCome floor l mode back begun Sleeps now = HasCountedOut floor l mode back begun now
 
--- and it may have found out since what it needs
+-- since it came there it may have found out what it needs; and it may have gone on with its halting
+abbrev pub Since : Description → TakeAt → Knowledge → Knowledge → Type 0
+Since floor Checks came now = HasWaited came now
+Since floor (Spins left) came now = HasWaited came now
+Since floor ComesIn came now = HasWaited came now
+Since floor (Contends seen) came now = HasWaited came now
+Since floor (Walks there) came now = HasWaited came now
+Since floor (Hops there) came now = HasWaited came now
+Since floor (Halts at) came now = HaltsSince floor came at now
+Since floor Sleeps came now = HasWaited came now
+
 pub record IsAt (floor : Description) (l : ℕ) (mode : Mode) (back : Bool) (begun : Knowledge) (at : TakeAt)
     (now : Knowledge) : Type 0
   where
     pub came : Knowledge
     pub has_come : HasCome floor l mode back begun at came
-    pub waited : HasWaited came now
+    pub since : Since floor at came now
+
+-- who finds out what it needs has waited on
+waits_longer : (floor : Description) (l : ℕ) (at : TakeAt) (i : Item) (came now new : Knowledge)
+    → AwaitsInTake floor now l at i → Since floor at came now → new ≡ seeing new.seen now → FindsOut floor i now new
+    → Since floor at came new
+waits_longer floor l Checks i came now new needs since view finds = waits_on floor i came now new since view finds
+waits_longer floor l (Spins left) i came now new needs since view finds =
+    waits_on floor i came now new since view finds
+waits_longer floor l ComesIn i came now new needs since view finds = waits_on floor i came now new since view finds
+waits_longer floor l (Contends seen) i came now new needs since view finds = absurd needs
+waits_longer floor l (Walks there) i came now new needs since view finds =
+    waits_on floor i came now new since view finds
+waits_longer floor l (Hops there) i came now new needs since view finds =
+    waits_on floor i came now new since view finds
+waits_longer floor l (Halts at) i came now new needs since view finds = absurd needs
+waits_longer floor l Sleeps i came now new needs since view finds = absurd needs
 
 -- of what isn't taken back no sleep is ended by an abort
 only_signals : (cause : Cause) → (cause ≡ ByAbort → true ≡ false) → cause ≡ BySignal
@@ -176,7 +214,7 @@ pub begins_at : (floor : Description) (l : ℕ) (mode : Mode) (begun now : Knowl
 begins_at floor l mode begun now missed first = record {
   came = now;
   has_come = (missed, first, refl);
-  waited = waits_none now;
+  since = waits_none now;
 }
 
 -- a taking back is in a round from its begin
@@ -188,7 +226,7 @@ begins_back floor l mode left begun few = record {
     record { before = 0; round = begun; comes = steps.is_in_one refl; n = 0; each = refl },
     omega (arith, few),
   );
-  waited = waits_none begun;
+  since = waits_none begun;
 }
 
 -- who made none knows what it knew
@@ -238,6 +276,13 @@ module _ (floor : Description) (l : LockNo) (mode : Mode) (back : Bool) (begun :
         (each_append floor (replicate h.m look_there) (replicate 1 look_there) h.there now w h.each (w, step, refl));
   }
 
+  -- it counts itself out from what it knew before it waited
+  out_sooner : (old mid new : Knowledge) → HasWaited old mid → Makes floor (CountsOut mid.thread ∷ []) mid new
+      → Makes floor (CountsOut old.thread ∷ []) old new
+  out_sooner old mid new h step =
+      makes_sooner floor (CountsOut old.thread ∷ []) old mid new h
+      (subst (λ t. Makes floor (CountsOut t ∷ []) mid new) (ap (λ (k : Knowledge). k.thread) h.view) step)
+
   -- the first look of several is made from what it knew before it waited
   looks_sooner : (n : ℕ) (old mid new : Knowledge) → 1 ≤ n → HasWaited old mid
       → MakesEach floor (replicate n look) mid new → MakesEach floor (replicate n look) old new
@@ -256,7 +301,7 @@ module _ (floor : Description) (l : LockNo) (mode : Mode) (back : Bool) (begun :
         let made : MakesEach floor (begins_round begun.thread l.0) h.came new =
         each_sooner floor (TakesItem begun.thread ClassGraph ∷ []) ((Admits begun.thread l.0 ∷ []) ∷ round) h.came now
         new
-        h.waited
+        h.since
         (subst (λ t. MakesEach floor (checks t l.0 None ++ (Seeks t l.0 false ∷ Looks t l.0 true ∷ []) ∷ []) now new)
         its
         each) in
@@ -272,19 +317,19 @@ module _ (floor : Description) (l : LockNo) (mode : Mode) (back : Bool) (begun :
             },
             omega (arith, few, misses_few ((config_in floor).kind l.0) begun.share.held c.0 c.1.first),
           );
-          waited = waits_none new;
+          since = waits_none new;
         }
     goes_on at to log there h (looks seen left n rest word some on leaves) =
         let each = looks_in_it floor l.0 mode n word now seen on in
         let less : rest < left = fewer_left floor kind mode word left rest seen new leaves some in
         let made : MakesEach floor (replicate n look) h.came seen =
-        looks_sooner n h.came now seen each.0 h.waited
+        looks_sooner n h.came now seen each.0 h.since
         (subst (λ t. MakesEach floor (replicate n (Looks t l.0 true ∷ [])) now seen) its each.2) in
         let s = more_looks h.came seen h.has_come.0 n made in
         record {
           came = seen;
           has_come = (s.0, omega (arith, s.1, h.has_come.1, less, each.1));
-          waited = leaving_waits floor kind mode word left rest seen new leaves;
+          since = leaving_waits floor kind mode word left rest seen new leaves;
         }
     goes_on at to log there h (takes_chain step) = record {
       came = new;
@@ -293,16 +338,16 @@ module _ (floor : Description) (l : LockNo) (mode : Mode) (back : Bool) (begun :
         rounds = h.has_come.0;
         few = omega (arith, h.has_come.1);
         took = makes_sooner floor (TakesItem begun.thread (its_chain floor (lock_queue l.0)) ∷ []) h.came now new
-            h.waited
+            h.since
             (subst (λ t. Makes floor (TakesItem t (its_chain floor (lock_queue l.0)) ∷ []) now new) its step);
       };
-      waited = waits_none new;
+      since = waits_none new;
     }
     goes_on at to log there h (comes_in seen each) =
         let made : MakesEach floor ((TakesItem begun.thread (RecordOf begun.thread) ∷ [])
         ∷ (Readies begun.thread (lock_queue l.0) ∷ []) ∷ look_there ∷ []) h.came new =
         each_sooner floor (TakesItem begun.thread (RecordOf begun.thread) ∷ [])
-        ((Readies begun.thread (lock_queue l.0) ∷ []) ∷ look_there ∷ []) h.came now new h.waited
+        ((Readies begun.thread (lock_queue l.0) ∷ []) ∷ look_there ∷ []) h.came now new h.since
         (subst (λ t. MakesEach floor ((TakesItem t (RecordOf t) ∷ []) ∷ (Readies t (lock_queue l.0) ∷ [])
         ∷ (Looks t l.0 false ∷ []) ∷ []) now new) its each) in
         record {
@@ -316,19 +361,19 @@ module _ (floor : Description) (l : LockNo) (mode : Mode) (back : Bool) (begun :
             m = 1;
             each = made.2.2;
           };
-          waited = waits_none new;
+          since = waits_none new;
         }
     goes_on at to log there h (looks_there seen found other step) = record {
       came = new;
       has_come = more_there h.came new h.has_come
-          (makes_sooner floor look_there h.came now new h.waited
+          (makes_sooner floor look_there h.came now new h.since
           (subst (λ t. Makes floor (Looks t l.0 false ∷ []) now new) its step));
-      waited = waits_none new;
+      since = waits_none new;
     }
     goes_on at to log there h (enters seen x w each) =
         let enter : List Step = enters_by kind begun.thread l.0 mode x ∷ [] in
         let made : MakesEach floor (enter ∷ gives_both floor begun.thread l.0) h.came new =
-        each_sooner floor enter (gives_both floor begun.thread l.0) h.came now new h.waited
+        each_sooner floor enter (gives_both floor begun.thread l.0) h.came now new h.since
         (subst (λ t. MakesEach floor ((enters_by kind t l.0 mode x ∷ []) ∷ gives_both floor t l.0) now new) its each) in
         let c = h.has_come in
         let behind_looks : MakesEach floor (replicate c.m look_there ++ enter ∷ []) c.there made.0 =
@@ -351,22 +396,22 @@ module _ (floor : Description) (l : LockNo) (mode : Mode) (back : Bool) (begun :
             walked = no_hop;
             thread = its_then;
           };
-          waited = waits_none new;
+          since = waits_none new;
         }
     goes_on at to log there h (takes_turnstiles w taken) = record {
       came = new;
       has_come = record {
         before = h.came;
         stood = h.has_come;
-        can = walk_still floor now h.came (before_waiting h.came now h.waited) there.1;
-        taken = takes_sooner floor turnstiles (turnstiles_place floor) h.came now new h.waited taken;
+        can = walk_still floor now h.came (before_waiting h.came now h.since) there.1;
+        taken = takes_sooner floor turnstiles (turnstiles_place floor) h.came now new h.since taken;
       };
-      waited = waits_none new;
+      since = waits_none new;
     }
     goes_on at to log there h (hops w t on) =
         let c = h.has_come in
         let hop = hops_all floor (walk_of t) c.before h.came new c.can c.taken
-        (hops_sooner floor (walk_of t) h.came now new h.waited on) in
+        (hops_sooner floor (walk_of t) h.came now new h.since on) in
         record {
           came = new;
           has_come = record {
@@ -380,28 +425,49 @@ module _ (floor : Description) (l : LockNo) (mode : Mode) (back : Bool) (begun :
             walked = one_more (walk_of t) c.stood.walked hop;
             thread = c.stood.thread;
           };
-          waited = waits_none new;
+          since = waits_none new;
         }
-    goes_on at to log there h (counts_out step) = record {
+    goes_on at to log there h (counts_out step asleep) = record {
       came = new;
       has_come = record {
         before = h.came;
         stood = h.has_come;
-        counts = makes_sooner floor (CountsOut begun.thread ∷ []) h.came now new h.waited
-            (subst (λ t. Makes floor (CountsOut t ∷ []) now new) its step);
+        counts = somebody_is_awake (out_sooner h.came now new h.since step) asleep;
       };
-      waited = waits_none new;
+      since = waits_none new;
+    }
+    goes_on at to log there h (is_last step last) = record {
+      came = new;
+      has_come = record {
+        before = h.came;
+        stood = h.has_come;
+        counts = out_sooner h.came now new h.since step;
+        last = last.last;
+      };
+      since = begins_whole floor new last;
+    }
+    goes_on at to log there h (halts_on a b on) = record {
+      came = h.came;
+      has_come = h.has_come;
+      since = whole.goes_on floor h.came now new a h.since b on;
+    }
+    goes_on at to log there h (has_halted a end) = record {
+      came = new;
+      has_come = record {
+        before = h.has_come.before;
+        stood = h.has_come.stood;
+        counts = nobody_is_awake h.has_come.counts h.has_come.last
+            (is_done floor h.came now new a h.since end).1;
+      };
+      since = waits_none new;
     }
     goes_on at to log there h (resumes left cause few again step) =
         let o = h.has_come in
         let c = o.stood in
         let r = c.rounds in
         let resume : Makes floor (Resumes begun.thread (lock_queue l.0) cause ∷ []) h.came new =
-        makes_sooner floor (Resumes begun.thread (lock_queue l.0) cause ∷ []) h.came now new h.waited
+        makes_sooner floor (Resumes begun.thread (lock_queue l.0) cause ∷ []) h.came now new h.since
         (subst (λ t. Makes floor (Resumes t (lock_queue l.0) cause ∷ []) now new) its step) in
-        let parked : MakesEach floor (parks c.stands.thread l.0 cause) o.before new =
-        subst (λ t. MakesEach floor (parks t l.0 cause) o.before new) (sym c.thread)
-        (h.came, o.counts, (new, resume, refl)) in
         record {
           came = new;
           has_come = (
@@ -412,23 +478,30 @@ module _ (floor : Description) (l : LockNo) (mode : Mode) (back : Bool) (begun :
                   (each_append floor (replicate r.n look) (enters_there floor begun.thread l.0 mode c.m c.x) r.round
                   c.looked c.stands r.each c.each)
                   (λ taken. only_signals cause (λ e. sym (again e) ∙ log ∙ taken))
-                  (record { walked = o.before; walk = c.walked; parked = parked });
+                  (record {
+                    walked = o.before;
+                    walk = c.walked;
+                    parked = h.came;
+                    counts = o.counts;
+                    resumes = subst (λ t. Makes floor (Resumes t (lock_queue l.0) cause ∷ []) h.came new)
+                        (sym c.thread) resume;
+                  });
               n = 0;
               each = refl;
             },
             omega (arith, few),
           );
-          waited = waits_none new;
+          since = waits_none new;
         }
     goes_on at to log there h (finds_out a i needs view finds) = record {
       came = h.came;
       has_come = h.has_come;
-      waited = waits_on floor i h.came now new h.waited view finds;
+      since = waits_longer floor l.0 a i h.came now new needs h.since view finds;
     }
     goes_on at to log there h (is_queued view queued) = record {
       came = h.came;
       has_come = h.has_come;
-      waited = waits_queued floor h.came now new h.waited view queued;
+      since = waits_queued floor h.came now new h.since view queued;
     }
 
   -- 5. The end
@@ -441,12 +514,12 @@ module _ (floor : Description) (l : LockNo) (mode : Mode) (back : Bool) (begun :
         let gain : List Step = gains_at_once begun.thread l.0 mode in
         let made : MakesEach floor (gains_checked begun.thread l.0 mode) h.came new =
         each_sooner floor (TakesItem begun.thread ClassGraph ∷ []) ((Admits begun.thread l.0 ∷ []) ∷ gain ∷ [])
-        h.came now new h.waited
+        h.came now new h.since
         (subst (λ t. MakesEach floor (gains_checked t l.0 mode) now new) its each) in
         steps.checked c.0 c.2 c.1 made
     ends at h (in_round left some each) =
         let made : MakesEach floor (look ∷ (Gains begun.thread l.0 mode false ∷ []) ∷ []) h.came new =
-        each_sooner floor look ((Gains begun.thread l.0 mode false ∷ []) ∷ []) h.came now new h.waited
+        each_sooner floor look ((Gains begun.thread l.0 mode false ∷ []) ∷ []) h.came now new h.since
         (subst (λ t. MakesEach floor (in_its_round t l.0 mode 1) now new) its each) in
         let s = more_looks h.came made.0 h.has_come.0 1 (made.0, made.1, refl) in
         steps.in_round s.0.before s.0.n s.0.comes (omega (arith, s.1, h.has_come.1, some))
@@ -456,7 +529,7 @@ module _ (floor : Description) (l : LockNo) (mode : Mode) (back : Bool) (begun :
         let c = h.has_come in
         let r = c.rounds in
         let made : MakesEach floor ((gain ∷ []) ∷ runs_on floor begun.thread l.0) h.came new =
-        each_sooner floor (gain ∷ []) (runs_on floor begun.thread l.0) h.came now new h.waited
+        each_sooner floor (gain ∷ []) (runs_on floor begun.thread l.0) h.came now new h.since
         (subst (λ t. MakesEach floor ((gain ∷ []) ∷ runs_on floor t l.0) now new) its each) in
         let gains : MakesEach floor (replicate c.m look_there ++ (gain ∷ []) ∷ []) c.there made.0 =
         each_append floor (replicate c.m look_there) ((gain ∷ []) ∷ []) c.there h.came made.0 c.each
@@ -477,13 +550,14 @@ module _ (floor : Description) (l : LockNo) (mode : Mode) (begun now new : Knowl
     pub halts : (at : TakeAt) → IsAt floor l.0 mode false begun at now → kept_at at now ≡ kept_of begun
         → IsHalted floor l at now new → WasHalted floor l mode begun new
     halts at h kept x =
-        let o : HasCountedOut floor l.0 mode false begun h.came =
-        subst (λ a. HasCome floor l.0 mode false begun a h.came) x.slept h.has_come in
+        let s : IsAt floor l.0 mode false begun Sleeps now =
+        subst (λ a. IsAt floor l.0 mode false begun a now) x.slept h in
+        let o : HasCountedOut floor l.0 mode false begun s.came = s.has_come in
         let c = o.stood in
         let r = c.rounds in
         let note : List Step = Stamps begun.thread (Event.HaltedLock l) ∷ [] in
-        let made : MakesEach floor ((Resumes begun.thread (lock_queue l.0) ByAbort ∷ []) ∷ note ∷ []) h.came new =
-        each_sooner floor (Resumes begun.thread (lock_queue l.0) ByAbort ∷ []) (note ∷ []) h.came now new h.waited
+        let made : MakesEach floor ((Resumes begun.thread (lock_queue l.0) ByAbort ∷ []) ∷ note ∷ []) s.came new =
+        each_sooner floor (Resumes begun.thread (lock_queue l.0) ByAbort ∷ []) (note ∷ []) s.came now new s.since
         (subst (λ t. MakesEach floor ((Resumes t (lock_queue l.0) ByAbort ∷ [])
         ∷ (Stamps t (Event.HaltedLock l) ∷ []) ∷ []) now new) its x.steps) in
         let noted : Makes floor note made.0 new = last_step floor note made.0 new made.2 in
@@ -500,14 +574,16 @@ module _ (floor : Description) (l : LockNo) (mode : Mode) (begun now new : Knowl
             m = c.m;
             x = c.x;
             stands = c.stands;
-            enters = each_append floor (replicate r.n (Looks begun.thread l.0 true ∷ [])) (enters_there floor begun.thread l.0 mode c.m c.x) r.round
-                c.looked c.stands r.each c.each;
+            enters = each_append floor (replicate r.n (Looks begun.thread l.0 true ∷ []))
+                (enters_there floor begun.thread l.0 mode c.m c.x) r.round c.looked c.stands r.each c.each;
             runs = made.0;
             sleeps = record {
               walked = o.before;
               walk = c.walked;
-              parked = subst (λ t. MakesEach floor (parks t l.0 ByAbort) o.before made.0) (sym c.thread)
-                  (h.came, o.counts, (made.0, made.1, refl));
+              parked = s.came;
+              counts = o.counts;
+              resumes = subst (λ t. Makes floor (Resumes t (lock_queue l.0) ByAbort ∷ []) s.came made.0)
+                  (sym c.thread) made.1;
             };
             notes = noted;
             halt_word = halt_is_set floor l begun.thread made.0 new noted;
@@ -568,5 +644,5 @@ refused_since floor l mode at begun now new r kept h x =
         each_sooner floor (TakesItem begun.thread ClassGraph ∷ [])
         ((Refuses begun.thread l.0 r.held.0 ∷ []) ∷ (Stamps begun.thread (Event.Reversed l r.held) ∷ []) ∷ []) h.came
         now
-        new h.waited
+        new h.since
         (subst (λ t. MakesEach floor (refuses t l r.held) now new) (ap (λ (k : Kept). k.thread) kept) x.steps)

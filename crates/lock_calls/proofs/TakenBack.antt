@@ -9,11 +9,12 @@ use Rattle.floor_table.specs.declared.description.Description.{Description}
 use Rattle.floor_table.specs.Shares.{is_among}
 use Rattle.floor_table.specs.Views.{Knowledge}
 use Rattle.lock_floor.specs.declared.calls.TakeAt.{TakeAt}
-use Rattle.lock_floor.specs.declared.calls.TakeAt.TheVariants.{Checks, Spins, ComesIn, Contends, Walks, Hops, Sleeps}
+use Rattle.lock_floor.specs.declared.calls.TakeAt.TheVariants.{Checks, Spins, ComesIn, Contends, Walks, Hops, Halts, Sleeps}
+use Rattle.lock_floor.specs.declared.queues.HaltAt.TheVariants as halts
 use Rattle.lock_floor.specs.Relocks.{MayRetake, TakesBack, WasEnded}
 use Rattle.lock_floor.proofs.Shares.{among_stays}
 use Rattle.lock_calls.specs.Steps.{Acquires, as_taken}
-use Rattle.lock_calls.specs.Takes.{IsUnderAcquiring, TakesOn, TakeLeg, TakeEnd, kept_at, admitted, looks, takes_chain, comes_in, looks_there, enters, takes_turnstiles, hops, counts_out, resumes, finds_out, is_queued, at_check, in_round, in_section}
+use Rattle.lock_calls.specs.Takes.{IsUnderAcquiring, TakesOn, TakeLeg, TakeEnd, kept_at, admitted, looks, takes_chain, comes_in, looks_there, enters, takes_turnstiles, hops, counts_out, is_last, halts_on, has_halted, resumes, finds_out, is_queued, at_check, in_round, in_section}
 use Rattle.lock_calls.specs.Waiting.{Kept, kept_of, CanAcquire, HasGained}
 use Rattle.lock_calls.proofs.Taken as taken
 use Rattle.lock_calls.proofs.Taken.{begins_back, goes_on, ends}
@@ -78,7 +79,10 @@ off_checks floor l mode at to old new (looks_there seen found other step) off e 
 off_checks floor l mode at to old new (enters seen x w each) off e = let z : Walks w ≡ Checks = e in cc
 off_checks floor l mode at to old new (takes_turnstiles w took) off e = let z : Hops w ≡ Checks = e in cc
 off_checks floor l mode at to old new (hops w t on) off e = let z : Walks t ≡ Checks = e in cc
-off_checks floor l mode at to old new (counts_out step) off e = let z : Sleeps ≡ Checks = e in cc
+off_checks floor l mode at to old new (counts_out step asleep) off e = let z : Sleeps ≡ Checks = e in cc
+off_checks floor l mode at to old new (is_last step last) off e = let z : Halts halts.Finds ≡ Checks = e in cc
+off_checks floor l mode at to old new (halts_on a b on) off e = let z : Halts b ≡ Checks = e in cc
+off_checks floor l mode at to old new (has_halted a end) off e = let z : Sleeps ≡ Checks = e in cc
 off_checks floor l mode at to old new (resumes left cause few again step) off e =
     let z : Spins left ≡ Checks = e in cc
 off_checks floor l mode at to old new (finds_out a i needs view finds) off e = off e

@@ -15,8 +15,13 @@ abbrev pub course : Kind → Word → Mode → Course
 course kind w mode =
     if admits kind w mode then (if is_plain kind w mode then Plainly else ByClaim) else MustWait
 
--- Where a release stands whose exchange outside the section of the lock's chain missed, and found that word. Who holds
--- the lock shared may drop it still, where another holder stays or nobody waits; else it goes to the lock's chain
+-- Where a release stands that saw that word outside the section of the lock's chain. Where the word allows that, since
+-- another holder stays or nobody waits, it drops the lock from it; else it goes to the lock's chain
+abbrev pub by_word : ℕ → ReleaseAt
+by_word seen = if is_drop (word_of seen) then places.Drops seen else ComesTo
+
+-- Where a release stands whose exchange there missed, and found that word. Who holds the lock shared may drop it still;
+-- else it goes to the lock's chain
 abbrev pub outside : Mode → ℕ → ReleaseAt
 outside Excl found = ComesTo
-outside Shared found = if is_drop (word_of found) then places.Drops found else ComesTo
+outside Shared found = by_word found

@@ -1,6 +1,6 @@
 -- A release as a call that stands at places: what the thread knows at each, what it does from one to the next, and how
 -- the release ends. It is noted at its begin, but for that of a wait, in which a lock is given up.
-use Rattle.std.specs.Prelude.{◌≡◌, ◌≢◌, ◌⊎◌, ℕ, ◌<◌, Bool, true, false, List, [], ◌∷◌, length, None}
+use Rattle.std.specs.Prelude.{◌≡◌, ◌≢◌, ℕ, ◌<◌, Bool, true, false, List, [], ◌∷◌, length, None}
 use Rattle.lock_model.specs.Holds.{NotHeld}
 use Rattle.lock_model.specs.Operations.{hold_in, without_lock}
 use Rattle.lock_model.specs.Queues.{Mark, lock_queue}
@@ -30,7 +30,7 @@ use Rattle.lock_calls.specs.declared.answers.Next.{Next}
 use Rattle.lock_calls.specs.declared.answers.Next.TheVariants.{Done, Again, Sleep, Wake, Reversed, Halted}
 use Rattle.lock_calls.specs.declared.answers.ReleaseNext.{ReleaseNext}
 use Rattle.lock_calls.specs.declared.answers.ReleaseNext.TheVariants as next
-use Rattle.lock_calls.specs.Choices.{outside}
+use Rattle.lock_calls.specs.Choices.{by_word, outside}
 use Rattle.lock_calls.specs.Sections.{IsItsChain, HasRecordAndChain}
 use Rattle.lock_calls.specs.Steps.{IsCovered, ByDrop, frees, gives_both, unlocks}
 use Rattle.lock_calls.specs.Waiting.{HasSeen, MayPutDown, IsOwn, with_none_out}
@@ -207,10 +207,13 @@ ReleasesPart floor l mode at next.Done old new = IsReleased floor l mode at old 
 ReleasesPart floor l mode at (next.At to) old new = ReleasesOn floor l mode at to old new
 ReleasesPart floor l mode at (next.Wake t) old new = HasWokenOne floor l.0 at t.0 old new
 
--- a release of a wait began: the thread looked at the lock, which it may put down, and the release stands there
+-- a release of a wait began: the thread looked at the lock, which it may put down, and the release stands where the
+-- word that it saw lets it
 pub record BeginsGivingUp (floor : Description) (l : LockNo) (mode : Mode) (at : ReleaseAt)
     (old new : Knowledge) : Type 0 where
-  pub outside : (at ≡ ComesTo) ⊎ ((seen : ℕ) × (at ≡ places.Drops seen))
+  pub seen : ℕ
+  pub saw : HasSeen l.0 (word_of seen) new
+  pub by_it : at ≡ by_word seen
   pub there : IsReleasing floor l.0 mode at new
   pub kept : once_released l.0 at new ≡ once_released l.0 ComesTo old
   pub held : new.share.held ≡ old.share.held

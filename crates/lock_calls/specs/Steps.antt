@@ -13,7 +13,7 @@ use Rattle.lock_model.specs.declared.plan.Kind.{Kind}
 use Rattle.lock_model.specs.declared.plan.Kind.TheVariants.{Mtx, Rw, Sx}
 use Rattle.lock_model.specs.declared.plan.Mode.{Mode}
 use Rattle.lock_model.specs.declared.plan.Mode.TheVariants.{Excl, Shared}
-use Rattle.lock_state.specs.Steps.{Step, Seeks, Looks, Gains, Drops, Stamps, TakesItem, GivesItem, Readies, Unreadies, Enters, Opens, EntersSleepQueue, OpensSleepQueue, Claims, CountsOut, Resumes}
+use Rattle.lock_state.specs.Steps.{Step, Seeks, Looks, Gains, Drops, Stamps, TakesItem, GivesItem, Readies, Unreadies, Enters, Opens, EntersSleepQueue, OpensSleepQueue, Claims, Resumes}
 use Rattle.lock_state.specs.Steps.Items.{RecordOf}
 use Rattle.floor_table.specs.Descriptions.{config_in}
 use Rattle.floor_table.specs.declared.description.Description.{Description}
@@ -23,6 +23,7 @@ use Rattle.lock_floor.specs.Marks.{marking}
 use Rattle.lock_floor.specs.Ordering.{checks}
 use Rattle.lock_floor.specs.Waits.{its_chain}
 use Rattle.lock_floor.specs.Walks.{Walks}
+use Rattle.halting.specs.Halts.{CountsItselfOut}
 use Rattle.lock_calls.specs.Choices.{course}
 use Rattle.lock_calls.specs.declared.courses.Course.TheVariants.{Plainly}
 
@@ -164,22 +165,21 @@ enters_there floor t l mode n x =
     ++ (enters_by ((config_in floor).kind l) t l mode x ∷ []) ∷ [])
     ++ gives_both floor t l)
 
--- it counts itself out, sleeps until it is woken by that cause, and runs again
-abbrev pub parks : ℕ → ℕ → Cause → List (List Step)
-parks t l cause = (CountsOut t ∷ []) ∷ (Resumes t (lock_queue l) cause ∷ []) ∷ []
-
--- A thread that stands there makes the hops of its walk, and then sleeps so. On a sleep queue its walk is over at once
+-- A thread that stands there makes the hops of its walk, and counts itself out; where that left nobody awake, it halts
+-- others. It sleeps until it is woken by that cause, and runs again. On a sleep queue its walk is over at once
 pub record Sleeps (floor : Description) (l : ℕ) (cause : Cause) (old new : Knowledge) : Type 0 where
   pub walked : Knowledge
   pub walk : Walks floor old walked
-  pub parked : MakesEach floor (parks old.thread l cause) walked new
+  pub parked : Knowledge
+  pub counts : CountsItselfOut floor walked parked
+  pub resumes : Makes floor (Resumes old.thread (lock_queue l) cause ∷ []) parked new
 
 -- How a thread comes to be in an acquiring round, with so many looks so far. A take does once its lock's order was
 -- checked; where its thread holds nothing it makes first exchanges before that, outside the round, which missed. A wait
--- that takes its lock back is in one from the begin, which its resume from the channel began. And behind a sleep another
--- begins, once a round has ended with an enter: of a take, where the thread was woken by a signal; of a taking back by
--- whatever woke it. From the begin or a sleep to the taking of the chain at most 100 looks are made, with the exchanges
--- that missed
+-- that takes its lock back is in one from the begin, which its resume from the channel began. And behind a sleep
+-- another begins, once a round has ended with an enter: of a take, where the thread was woken by a signal; of a taking
+-- back by whatever woke it. From the begin or a sleep to the taking of the chain at most 100 looks are made, with the
+-- exchanges that missed
 pub data ComesToRound (floor : Description) (l : ℕ) (mode : Mode) (back : Bool) : ℕ → Knowledge
     → Knowledge → Type 0 where
   begins : {old u new : Knowledge} (missed : ℕ) → back ≡ false
@@ -195,9 +195,9 @@ pub data ComesToRound (floor : Description) (l : ℕ) (mode : Mode) (back : Bool
       → (back ≡ false → cause ≡ BySignal)
       → Sleeps floor l cause v new → ComesToRound floor l mode back 0 old new
 
--- How it gains: of a take by a first exchange of a thread that holds nothing, or by the first one of its round, once its
--- lock's order was checked; in a round, behind at most 100 looks; or in the section of the lock's chain, which it takes
--- behind at most 100 looks. So a chain that it took goes home only behind a gain or an enter
+-- How it gains: of a take by a first exchange of a thread that holds nothing, or by the first one of its round, once
+-- its lock's order was checked; in a round, behind at most 100 looks; or in the section of the lock's chain, which it
+-- takes behind at most 100 looks. So a chain that it took goes home only behind a gain or an enter
 pub data Acquires (floor : Description) (l : ℕ) (mode : Mode) (back : Bool) : Knowledge → Knowledge
     → Type 0 where
   at_once : {old new : Knowledge} → back ≡ false → old.share.held ≡ []
@@ -295,8 +295,8 @@ releases_by floor t l mode (ByDrop k) =
 releases_by floor t l mode (InSection k n opens ms) =
     replicate k (Looks t l false ∷ []) ++ releases_there floor t l mode n opens ms
 
--- Within a wait a release isn't noted, and begins with a look outside the section. Of a lock that is held exclusively one
--- exchange is made there at most, from the word that the look saw
+-- Within a wait a release isn't noted, and begins with a look outside the section. Of a lock that is held exclusively
+-- one exchange is made there at most, from the word that the look saw
 abbrev pub IsGivingUpIn : Mode → Release → Type 0
 IsGivingUpIn Excl (ByDrop k) = k ≡ 1
 IsGivingUpIn Excl (InSection k n opens ms) = (1 ≤ k) × (k ≤ 2)

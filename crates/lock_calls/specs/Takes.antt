@@ -1,10 +1,10 @@
 -- A take as a call that stands at places: what the thread knows at each, what it does from one to the next, and how the
 -- take ends.
-use Rattle.std.specs.Prelude.{◌≡◌, ◌≢◌, ℕ, ◌+◌, ◌-◌, ◌<◌, ◌≤◌, Bool, true, false, [], ◌∷◌, ◌++◌, length, Some, ⊤}
+use Rattle.std.specs.Prelude.{◌≡◌, ◌≢◌, ℕ, ◌+◌, ◌-◌, ◌<◌, ◌≤◌, Bool, true, false, List, [], ◌∷◌, ◌++◌, length, Option, Some, None, ⊤}
 use Rattle.lock_model.specs.Holds.{NotHeld}
 use Rattle.lock_model.specs.Limits.{most_held}
 use Rattle.lock_model.specs.Operations.{hold_in}
-use Rattle.lock_model.specs.Queues.{Cause, ByAbort, lock_queue}
+use Rattle.lock_model.specs.Queues.{Cause, ByAbort, Mark, lock_queue}
 use Rattle.lock_model.specs.Words.{Word, word_of, owner_of, is_turnstile}
 use Rattle.lock_model.specs.declared.event.Event.{Event}
 use Rattle.lock_model.specs.declared.numbers.LockNo.{LockNo}
@@ -16,8 +16,8 @@ use Rattle.lock_model.specs.declared.plan.Kind.TheVariants.{Mtx}
 use Rattle.lock_model.specs.declared.plan.Mode.{Mode}
 use Rattle.lock_objects.specs.Represents.{walk_of}
 use Rattle.lock_laws.specs.Words.{CanBeSeen}
-use Rattle.lock_state.specs.State.{NoWalk, Phase, Awake, is_parked}
-use Rattle.lock_state.specs.Steps.{Step, Looks, Readies, CountsOut, Resumes, Stamps, TakesItem}
+use Rattle.lock_state.specs.State.{NoWalk, Phase, Awake, Asleep}
+use Rattle.lock_state.specs.Steps.{Step, Looks, Readies, CountsOut, Resumes, Stamps, TakesItem, IsAtResume}
 use Rattle.lock_state.specs.Steps.Items.{Item, RecordOf, ClassGraph}
 use Rattle.lock_state.specs.Steps.LockWords.{is_taking_back, bound_to}
 use Rattle.prio_lending.specs.declared.walk.Walk.{Walk}
@@ -29,20 +29,25 @@ use Rattle.floor_table.specs.Steps.{Makes, MakesEach}
 use Rattle.floor_table.specs.Views.{Runs, StandsOn, Knowledge, seeing}
 use Rattle.lock_floor.specs.declared.calls.Call.TheVariants as calls
 use Rattle.lock_floor.specs.declared.calls.TakeAt.{TakeAt}
-use Rattle.lock_floor.specs.declared.calls.TakeAt.TheVariants.{Checks, Spins, ComesIn, Contends, Walks, Hops, Sleeps}
+use Rattle.lock_floor.specs.declared.calls.TakeAt.TheVariants.{Checks, Spins, ComesIn, Contends, Walks, Hops, Halts, Sleeps}
 use Rattle.lock_floor.specs.Floors.{Pass}
 use Rattle.lock_floor.specs.Latches.{FindsOut, Takes}
 use Rattle.lock_floor.specs.Passes.{IsAtRest, MakesEntry}
 use Rattle.lock_floor.specs.Resumes.{FindsQueued, FindsWhetherQueued}
 use Rattle.lock_floor.specs.Waits.{its_chain, chain_place}
 use Rattle.lock_floor.specs.Walks.{CanWalk, NeedsRecord, HasTurnstilesOut, HopsOn, turnstiles, turnstiles_place}
+use Rattle.lock_floor.specs.declared.queues.HaltAt.{HaltAt}
+use Rattle.lock_floor.specs.declared.queues.HaltAt.TheVariants as halts
+use Rattle.halting.specs.Halts.{EndsHalting, HaltsOn, IsAt, IsLast}
 use Rattle.lock_calls.specs.declared.answers.Next.{Next}
 use Rattle.lock_calls.specs.declared.answers.Next.TheVariants.{Done, Again, Sleep, Wake, Reversed, Halted}
+use Rattle.lock_calls.specs.declared.answers.TakeNext.{TakeNext}
+use Rattle.lock_calls.specs.declared.answers.TakeNext.TheVariants as next
 use Rattle.lock_calls.specs.Choices.{course}
 use Rattle.lock_calls.specs.declared.courses.Course.TheVariants.{Plainly, ByClaim}
 use Rattle.lock_calls.specs.Steps.{IsCovered, IsGain, HasMissedFirst, GainsFirst, EndsAsleep, begins_round, as_taken, enters_by, gains_checked, gives_both, in_its_round, refuses, runs_on}
 use Rattle.lock_calls.specs.Sections.{IsItsChain}
-use Rattle.lock_calls.specs.Waiting.{Kept, kept_of, IsCalling, CanAcquire, IsChecking, IsSeeking, IsThere, HasSeen, Saw}
+use Rattle.lock_calls.specs.Waiting.{Kept, kept_of, HasGained, IsCalling, CanAcquire, IsChecking, IsSeeking, IsThere, HasSeen, Saw}
 
 -- 1. What the thread knows at each place
 
@@ -74,11 +79,17 @@ pub record IsStanding (l : ℕ) (there : Walk) (v : Knowledge) : Type 0 where
   pub stands : v.pose ≡ StandsOn (lock_queue l)
   pub walk_is : walk_of there ≡ v.share.doing.walk
 
--- it has counted itself out there: its walk has ended, it has nothing out, and is parked
+-- it has counted itself out there, which left nobody awake: its walk has ended, and it halts others
+pub record IsHaltingThere (floor : Description) (l : ℕ) (at : HaltAt) (v : Knowledge) : Type 0 where
+  pub standing : IsStanding l walk.None v
+  pub halts : IsAt floor at v
+
+-- it has counted itself out there: its walk has ended, it has nothing out, and is parked, or aborted itself
 pub record IsParked (l : ℕ) (v : Knowledge) : Type 0 where
   pub standing : IsStanding l walk.None v
   pub nothing_out : v.out ≡ []
-  pub parked : is_parked v.share.doing.phase ≡ true
+  pub unmarked : v.share.doing.marked ≡ []
+  pub at_resume : IsAtResume v.share.doing.phase
 
 -- So at each place. With twice as many looks as are still allowed, a round has at most 98: before it, two first
 -- exchanges may have missed
@@ -90,9 +101,10 @@ IsTaking floor l (Contends seen) v = IsContending floor l seen v
 IsTaking floor l (Walks there) v = IsStanding l there v × CanWalk floor v
 IsTaking floor l (Hops there) v =
     IsStanding l there v × HasTurnstilesOut floor v × (walk_of there ≢ NoWalk)
+IsTaking floor l (Halts at) v = IsHaltingThere floor l at v
 IsTaking floor l Sleeps v = IsParked l v
 
--- who has counted itself out isn't awake, and is once it runs again
+-- who has counted itself out isn't awake, and is once it runs again; while it halts others, it may have one to wake
 abbrev pub phase_at : TakeAt → Phase → Phase
 phase_at Checks phase = phase
 phase_at (Spins left) phase = phase
@@ -100,11 +112,25 @@ phase_at ComesIn phase = phase
 phase_at (Contends seen) phase = phase
 phase_at (Walks there) phase = phase
 phase_at (Hops there) phase = phase
+phase_at (Halts at) phase = Awake
 phase_at Sleeps phase = Awake
+
+abbrev pub marked_at : TakeAt → List Mark → List Mark
+marked_at Checks ms = ms
+marked_at (Spins left) ms = ms
+marked_at ComesIn ms = ms
+marked_at (Contends seen) ms = ms
+marked_at (Walks there) ms = ms
+marked_at (Hops there) ms = ms
+marked_at (Halts at) ms = []
+marked_at Sleeps ms = ms
 
 -- but for that, this stays from place to place
 abbrev pub kept_at : TakeAt → Knowledge → Kept
-kept_at at v = record (kept_of v) { phase = phase_at at v.share.doing.phase }
+kept_at at v = record (kept_of v) {
+  phase = phase_at at v.share.doing.phase;
+  marked = marked_at at v.share.doing.marked;
+}
 
 -- an acquiring of the lock in that mode is under way, by a take or within a wait, and stands there
 pub record IsUnderAcquiring (floor : Description) (l : LockNo) (mode : Mode) (at : TakeAt)
@@ -121,7 +147,7 @@ pub record IsUnderTake (floor : Description) (l : LockNo) (mode : Mode) (at : Ta
   pub room : 1 ≤ v.spare
   pub there : IsTaking floor l.0 at v
 
--- it is behind the check of its order, and doesn't sleep
+-- it is behind the check of its order, and hasn't counted itself out, or halts others
 abbrev pub IsBetween : TakeAt → Type 0
 IsBetween Checks = ⊥
 IsBetween (Spins left) = ⊤
@@ -129,6 +155,7 @@ IsBetween ComesIn = ⊤
 IsBetween (Contends seen) = ⊤
 IsBetween (Walks there) = ⊤
 IsBetween (Hops there) = ⊤
+IsBetween (Halts at) = ⊤
 IsBetween Sleeps = ⊥
 
 -- the call that the pass is in the middle of is a take
@@ -176,6 +203,7 @@ AwaitsInTake floor v l ComesIn i = i ≡ RecordOf v.thread
 AwaitsInTake floor v l (Contends seen) i = ⊥
 AwaitsInTake floor v l (Walks there) i = (there ≢ walk.None) × (i ≡ turnstiles)
 AwaitsInTake floor v l (Hops there) i = (o : ℕ) × NeedsRecord floor o v × (i ≡ RecordOf o)
+AwaitsInTake floor v l (Halts at) i = ⊥
 AwaitsInTake floor v l Sleeps i = ⊥
 
 -- Looks at a lock in its round, with the word that was seen last: one alone, which saw a word from which the thread
@@ -197,9 +225,9 @@ pub data LooksOn (floor : Description) (l : ℕ) (mode : Mode) : ℕ → Word �
 -- looks, tries where it saw that it can, and asks whether the owner is queued whom the word named that it saw last;
 -- once no looks are left, it takes the chain, then its own record, is ready for the queue, and looks. There an exchange
 -- that misses is a look, which saw another word; or it comes to stand on the queue. It makes hop after hop of its walk,
--- counts itself out, and where it was woken it begins another round: by a signal, or where it takes a lock back within a
--- wait by an abort too. Or it found out what it needs, or that it is queued
--- still
+-- and counts itself out; where that left nobody awake, it halts others, part by part. Where it was woken it begins
+-- another round: by a signal, or where it takes a lock back within a wait by an abort too. Or it found out what it
+-- needs, or that it is queued still
 pub data TakeLeg (floor : Description) (l : LockNo) (mode : Mode) : TakeAt → TakeAt → Knowledge
     → Knowledge → Type 0 where
   admitted : {old new : Knowledge} (left : ℕ) (found : Word) → left ≤ 48
@@ -233,7 +261,13 @@ pub data TakeLeg (floor : Description) (l : LockNo) (mode : Mode) : TakeAt → T
   hops : {old new : Knowledge} (there to : Walk) → HopsOn floor (walk_of to) old new
       → TakeLeg floor l mode (Hops there) (Walks to) old new
   counts_out : {old new : Knowledge} → Makes floor (CountsOut old.thread ∷ []) old new
-      → TakeLeg floor l mode (Walks walk.None) Sleeps old new
+      → new.share.doing.phase ≡ Asleep → TakeLeg floor l mode (Walks walk.None) Sleeps old new
+  is_last : {old new : Knowledge} → Makes floor (CountsOut old.thread ∷ []) old new
+      → IsLast floor new → TakeLeg floor l mode (Walks walk.None) (Halts halts.Finds) old new
+  halts_on : {old new : Knowledge} (at to : HaltAt) → HaltsOn floor at to old new
+      → TakeLeg floor l mode (Halts at) (Halts to) old new
+  has_halted : {old new : Knowledge} (at : HaltAt) → EndsHalting floor at old new
+      → TakeLeg floor l mode (Halts at) Sleeps old new
   resumes : {old new : Knowledge} (left : ℕ) (cause : Cause) → left ≤ 48
       → (cause ≡ ByAbort → is_taking_back old.share.log ≡ true)
       → Makes floor (Resumes old.thread (lock_queue l.0) cause ∷ []) old new
@@ -251,6 +285,15 @@ pub record TakesOn (floor : Description) (l : LockNo) (mode : Mode) (at to : Tak
   pub kept : kept_at to new ≡ kept_at at old
   pub leg : TakeLeg floor l mode at to old new
 
+-- it went on so, and woke that thread, which it had taken off a queue
+pub record WakesInTake (floor : Description) (l : LockNo) (mode : Mode) (at to : TakeAt) (t : ℕ)
+    (old new : Knowledge) : Type 0 where
+  pub on : TakesOn floor l mode at to old new
+  pub mark : Mark
+  pub marked : old.share.doing.marked ≡ mark ∷ []
+  pub thread : mark.thread ≡ t
+  pub of_floor : t < length floor.threads
+
 -- 3. How it ends
 
 -- the thread holds the lock, has noted that, and is at rest
@@ -260,8 +303,8 @@ pub record HasTaken (floor : Description) (l : LockNo) (mode : Mode) (old new : 
     pub entry : MakesEntry floor (Event.Locked l mode)
         (old.share.held ++ as_taken l mode ∷ []) old new
 
--- How it gains the lock: its order was checked, and it gained it at once; or it saw in its round that it can, and gained
--- it; or it gained it in the section of the chain, and ran on
+-- How it gains the lock: its order was checked, and it gained it at once; or it saw in its round that it can, and
+-- gained it; or it gained it in the section of the chain, and ran on
 pub data TakeEnd (floor : Description) (l : LockNo) (mode : Mode) : TakeAt → Knowledge → Knowledge
     → Type 0 where
   at_check : {old new : Knowledge} → MakesEach floor (gains_checked old.thread l.0 mode) old new
@@ -307,6 +350,24 @@ abbrev pub IsNotTaken : Description → LockNo → TakeAt → Refused → Knowle
 IsNotTaken floor l at (refused.Reversal r) old new = (at ≡ Checks) × IsRefused floor l r old new
 IsNotTaken floor l at (refused.Halted h) old new = IsHalted floor l at old new
 
+-- where a take stands behind a part that wakes nobody
+abbrev pub stands_at : Option TakeAt → TakeNext
+stands_at None = next.Gained
+stands_at (Some at) = next.At at
+
+-- what the thread knows once it gained the lock by a part, and how it did
+abbrev pub GainsByPart : Description → LockNo → Mode → TakeAt → Knowledge → Knowledge → Type 0
+GainsByPart floor l mode at old new =
+    HasGained l mode old new × TakeEnd floor l mode at old new
+
+-- a part of a take from there: the lock is gained, which is still to be noted; or it stands somewhere, and may have
+-- woken that thread
+abbrev pub TakesPart : Description → LockNo → Mode → TakeAt → TakeNext → Knowledge → Knowledge
+    → Type 0
+TakesPart floor l mode at next.Gained old new = GainsByPart floor l mode at old new
+TakesPart floor l mode at (next.At to) old new = TakesOn floor l mode at to old new
+TakesPart floor l mode at (next.Wake t to) old new = WakesInTake floor l mode at to t.0 old new
+
 -- 4. What the calls promise
 
 -- a take was ended in its sleep: it has noted that, holds what it held, and is at rest
@@ -335,6 +396,7 @@ next_at ComesIn = Again
 next_at (Contends seen) = Again
 next_at (Walks there) = Again
 next_at (Hops there) = Again
+next_at (Halts at) = Again
 next_at Sleeps = Sleep
 
 -- the lock's order is to be checked; where the thread holds nothing, its first exchanges came before, and missed
@@ -374,6 +436,13 @@ pub record StandsInTake (floor : Description) (l : LockNo) (mode : Mode) (at : T
   pub next_is : next_at to ≡ next
   pub on : TakesOn floor l mode at to p.view q.view
 
+-- or stands somewhere and woke that thread, whose sleep is to be ended
+pub record StandsAndWakes (floor : Description) (l : LockNo) (mode : Mode) (at : TakeAt) (t : ℕ)
+    (p q : Pass Knowledge) : Type 0 where
+  pub to : TakeAt
+  pub call : q.call ≡ calls.Take l mode to
+  pub wakes : WakesInTake floor l mode at to t p.view q.view
+
 -- a take that stood there was refused, and ended
 pub record EndsRefused (floor : Description) (l : LockNo) (at : TakeAt) (r : Reversal)
     (p q : Pass Knowledge) : Type 0 where
@@ -395,6 +464,6 @@ GoesOnTaking floor l mode at Done p q =
     × TakeEnds floor l mode at p.view q.view
 GoesOnTaking floor l mode at Again p q = StandsInTake floor l mode at Again p q
 GoesOnTaking floor l mode at Sleep p q = StandsInTake floor l mode at Sleep p q
-GoesOnTaking floor l mode at (Wake t) p q = ⊥
+GoesOnTaking floor l mode at (Wake t) p q = StandsAndWakes floor l mode at t.0 p q
 GoesOnTaking floor l mode at (Reversed r) p q = EndsRefused floor l at r p q
 GoesOnTaking floor l mode at Halted p q = EndsHalted floor l at p q

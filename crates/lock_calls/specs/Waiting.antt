@@ -38,8 +38,8 @@ use Rattle.lock_calls.specs.Sections.{HasRecordAndChain}
 
 -- 1. What stays
 
--- what a thread knows that stays through a call, but for its gain or its release, its entry, and its phase while it
--- sleeps
+-- what a thread knows that stays through a call, but for its gain or its release, its entry, its phase while it sleeps
+-- or halts others, and whom it has to wake then
 pub record Kept : Type 0 where
   pub role : Role
   pub description : Description
@@ -88,9 +88,9 @@ pub record IsCalling (floor : Description) (k : Kept) : Type 0 where
   pub begun : (l : ℕ) → hold_in k.held l ≢ NotHeld → is_among l k.begun ≡ true
 
 -- A lock is acquired, by such a call or within a wait, by a thread that is awake and has nobody to mark or counted in;
--- the sections open in its log are of just the locks that it holds. No abort ended a sleep of it on a lock's queue, which
--- it would have to note. And it isn't on its way to a channel: where it sleeps in its log, that sleep was ended, by a
--- signal or by an abort
+-- the sections open in its log are of just the locks that it holds. No abort ended a sleep of it on a lock's queue,
+-- which it would have to note. And it isn't on its way to a channel: where it sleeps in its log, that sleep was ended,
+-- by a signal or by an abort
 pub record CanAcquire (floor : Description) (k : Kept) : Type 0 where
   pub description : k.description ≡ floor
   pub going : CanStep k.phase k.has_ended k.unstamped
@@ -354,9 +354,9 @@ pub record HasGained (l : LockNo) (mode : Mode) (old new : Knowledge) : Type 0 w
 
 -- 6. A release
 
--- The thread may put the lock down: it runs, or came to stand on a channel's queue, with which a wait gives its lock up.
--- It is awake, has nothing out, takes nothing, is in no round and has nobody to mark or counted in; it holds the lock in
--- that mode, and its section of it began and is closed
+-- The thread may put the lock down: it runs, or came to stand on a channel's queue, with which a wait gives its lock
+-- up. It is awake, has nothing out, takes nothing, is in no round and has nobody to mark or counted in; it holds the
+-- lock in that mode, and its section of it began and is closed
 pub record MayPutDown (floor : Description) (l : ℕ) (mode : Mode) (v : Knowledge) : Type 0 where
   pub held : hold_in v.share.held l ≡ Holds mode
   pub closed : open_in (config_in floor) v.share.log v.thread l ≡ NotHeld

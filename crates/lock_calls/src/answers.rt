@@ -1,6 +1,6 @@
 //! What a part of a call answers.
 
-use lock_floor::ReleaseAt;
+use lock_floor::{ReleaseAt, TakeAt};
 use lock_model::{Reversal, ThreadNo};
 
 /// What the caller is to do next.
@@ -19,6 +19,17 @@ pub enum Next {
     /// Nothing: the take's sleep was ended by an abort, and the lock wasn't gained. That is noted, the pass is at rest,
     /// and nothing is owed. It comes of an sx lock alone.
     Halted,
+}
+
+/// Where a take stands behind a part of it.
+#[derive(Clone, Copy, Debug, PartialEq, Eq)]
+pub enum TakeNext {
+    /// Nowhere: the lock is gained, which is still to be noted.
+    Gained,
+    /// There.
+    At(TakeAt),
+    /// There, and the sleep of that thread is to be ended, which was woken.
+    Wake(ThreadNo, TakeAt),
 }
 
 /// Where a release stands behind a part of it.

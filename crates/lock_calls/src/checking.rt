@@ -14,7 +14,8 @@ use lock_model::{Event, Held, LockNo, Mode, Reversal};
 
 /// Has the order of a lock checked, if the class graph is at home. Where it is admitted, a round of the lock begins
 /// by an exchange, which gains it (`None`: then that is still to be noted) or is the round's first look. Else it
-/// answers where the take stands then. `Err` comes exactly where the class of a held lock forbids that of the lock: that is noted.
+/// answers where the take stands then. `Err` comes exactly where the class of a held lock forbids that of the lock:
+/// that is noted.
 pub fn check(
     floor: &Floor,
     pass: &mut Pass,

@@ -4,7 +4,7 @@
 ghost use Rattle.std.specs.Prelude.{◌≡◌, ◌<◌, length, IfNone, IfSome};
 ghost use Rattle.lock_floor.specs.declared.calls.ReleaseAt.TheVariants.{Drops};
 ghost use Rattle.lock_floor.specs.Passes.{IsOf};
-ghost use Rattle.lock_calls.specs.Choices.{outside};
+ghost use Rattle.lock_calls.specs.Choices.{by_word, outside};
 ghost use Rattle.lock_calls.specs.Releases.{BeginsGivingUp, IsReleased, IsReleasing, ReleasesOn};
 ghost use Rattle.lock_calls.specs.Waiting.{MayPutDown};
 
@@ -22,11 +22,7 @@ pub fn begin_giving_up(floor: &Floor, pass: &mut Pass, l: LockNo, mode: Mode) ->
         pass.old.view pass.new.view }
 {
     let seen = floor.look(pass, l);
-    if lock_words::is_drop(seen) {
-        ReleaseAt::Drops(seen)
-    } else {
-        ReleaseAt::ComesTo
-    }
+    by_word(seen)
 }
 
 /// Drops a lock by one exchange from the word that the thread found last, which allows that. `None`: the release is
@@ -59,12 +55,17 @@ pub fn outside(mode: Mode, found: u64) -> ReleaseAt
 {
     match mode {
         Mode::Excl => ReleaseAt::ComesTo,
-        Mode::Shared => {
-            if lock_words::is_drop(found) {
-                ReleaseAt::Drops(found)
-            } else {
-                ReleaseAt::ComesTo
-            }
-        }
+        Mode::Shared => by_word(found),
+    }
+}
+
+// Where a release stands that saw that word there.
+fn by_word(seen: u64) -> ReleaseAt
+    ensures { result ≡ by_word seen }
+{
+    if lock_words::is_drop(seen) {
+        ReleaseAt::Drops(seen)
+    } else {
+        ReleaseAt::ComesTo
     }
 }

@@ -4,7 +4,8 @@
 //! A call is begun, and then gone on with until it is done. Its parts never wait: each makes a few atomic steps, and
 //! answers what its caller is to do next (`Next`, or `TryNext`); where the call stands, the pass says. So threads of a
 //! runtime of one's own, or of a kernel, can drive the calls. `take_or_halt`, `take`, `try_take`, `release` and
-//! `release_held` are loops over these parts that wait; a try never sleeps.
+//! `release_held` are loops over these parts that wait; a try never sleeps. A take whose sleep would leave nobody awake
+//! halts others, by the parts of `halting`.
 //!
 //! The body is one for all kinds of locks. The queue of a mutex or a reader-writer lock is a turnstile, to which its
 //! owner's walk of priorities belongs; that of an sx lock is a sleep queue, where nothing is lent. So these calls part
@@ -19,8 +20,8 @@
 //! - `dropping`: a release outside the section of the lock's chain, `freeing`: in it, and `waking`: behind it.
 //!
 //! Within a wait a lock is given up and taken back by the same parts, without an entry (`give_up` and `take_back`, for
-//! `Relock` of `lock_floor`): `begin_giving_up` and then `release_on`, and `retake_on`. These take and answer places, and
-//! leave the pass's call alone, which is the wait's.
+//! `Relock` of `lock_floor`): `begin_giving_up` and then `release_on`, and `retake_on`. These take and answer places,
+//! and leave the pass's call alone, which is the wait's.
 //!
 //! Each other call needs a pass at rest and leaves it at rest. No call takes memory.
 #![tactic(auto)]
@@ -39,7 +40,7 @@ mod trying;
 mod waiting;
 mod waking;
 
-pub use answers::{Next, ReleaseNext};
+pub use answers::{Next, ReleaseNext, TakeNext};
 pub use dropping::begin_giving_up;
 pub use releasing::{begin_release, go_on_releasing, release_on};
 pub use taking::{begin_take, go_on_taking, retake_on};

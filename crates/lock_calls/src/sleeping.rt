@@ -1,15 +1,17 @@
 //! A take whose thread stands on the lock's queue, as `propagate_priority` and the end of `turnstile_wait` of FreeBSD's
 //! subr_turnstile.c, and `sleepq_wait` of its subr_sleepqueue.c: on a turnstile it makes the hops of its walk; then it
-//! counts itself out, and runs again where it was woken. It never waits.
+//! counts itself out, halts others where that left nobody awake, and runs again where it was woken. It never waits.
 ghost use Rattle.std.specs.Prelude.{◌≡◌, ◌≢◌, true, IfOk, IfErr};
 ghost use Rattle.lock_state.specs.Steps.LockWords.{is_taking_back};
 ghost use Rattle.prio_lending.specs.declared.walk.Walk.TheVariants as walk;
-ghost use Rattle.lock_floor.specs.declared.calls.TakeAt.TheVariants.{Walks, Hops, Sleeps};
+ghost use Rattle.lock_floor.specs.declared.calls.TakeAt.TheVariants.{Walks, Hops, Halts, Sleeps};
 ghost use Rattle.lock_floor.specs.Passes.{IsOf};
-ghost use Rattle.lock_calls.specs.Takes.{IsUnderTake, IsUnderAcquiring, TakesOn, IsHalted};
+ghost use Rattle.lock_calls.specs.Takes.{IsUnderTake, IsUnderAcquiring, TakesOn, TakesPart, IsHalted};
 
+use crate::answers::TakeNext;
 use crate::spinning::LOOKS;
-use lock_floor::{Count, Floor, Pass, TakeAt};
+use halting::go_on_halting;
+use lock_floor::{Count, Floor, HaltAt, Pass, TakeAt};
 use lock_model::{Event, Halted, LockNo, Mode};
 use prio_lending::Walk;
 
@@ -28,17 +30,36 @@ pub fn walk_on(floor: &Floor, pass: &mut Pass, l: LockNo, mode: Mode, there: Wal
     }
 }
 
-// Where the walk has ended.
+// Where the walk has ended: whose counting out left nobody awake halts others.
 fn count_out(floor: &Floor, pass: &mut Pass, l: LockNo, mode: Mode) -> TakeAt
     requires own { IsOf floor.now pass.old }
-    requires under_way { IsUnderAcquiring floor.now.description l mode (Walks walk.None) pass.old.view }
+    requires under_way { IsUnderAcquiring floor.now.description l mode (Walks walk.None)
+        pass.old.view }
     ensures own { IsOf floor.now pass.new }
     ensures on { TakesOn floor.now.description l mode (Walks walk.None) result
         pass.old.view pass.new.view }
 {
-    // No call halts others yet: who is answered 1, since nobody else is awake, sleeps like all others.
-    floor.count(pass, Count::Out);
-    TakeAt::Sleeps
+    if floor.count(pass, Count::Out) == 1 {
+        TakeAt::Halts(HaltAt::Finds)
+    } else {
+        TakeAt::Sleeps
+    }
+}
+
+/// Goes on where the thread halts others, until that is done. Answers where the take stands then, and whose sleep is to
+/// be ended.
+pub fn halt_on(floor: &Floor, pass: &mut Pass, l: LockNo, mode: Mode, there: HaltAt) -> TakeNext
+    requires own { IsOf floor.now pass.old }
+    requires under_way { IsUnderAcquiring floor.now.description l mode (Halts there) pass.old.view }
+    ensures own { IsOf floor.now pass.new }
+    ensures on { TakesPart floor.now.description l mode (Halts there) result
+        pass.old.view pass.new.view }
+{
+    match go_on_halting(floor, pass, there) {
+        halting::Next::Done => TakeNext::At(TakeAt::Sleeps),
+        halting::Next::Again(to) => TakeNext::At(TakeAt::Halts(to)),
+        halting::Next::Wake(t, to) => TakeNext::Wake(t, TakeAt::Halts(to)),
+    }
 }
 
 /// Goes on where the thread has counted itself out: it runs again, if it was woken. Answers where the take stands then.

@@ -1,7 +1,7 @@
 //! A take of a lock, part by part, as `__mtx_lock_flags` and `__mtx_lock_sleep` of FreeBSD's kern_mutex.c and
 //! `turnstile_wait` of its subr_turnstile.c do it, and of an sx lock `_sx_xlock_hard` and `_sx_slock_hard` of its
 //! kern_sx.c and `sleepq_wait` of its subr_sleepqueue.c. No part waits.
-ghost use Rattle.std.specs.Prelude.{◌≡◌, ◌≢◌, true, IfNone, IfSome, IfOk, IfErr};
+ghost use Rattle.std.specs.Prelude.{◌≡◌, ◌≢◌, true, IfOk, IfErr};
 ghost use Rattle.lock_model.specs.declared.numbers.LockNo.{LockNo as Lock};
 ghost use Rattle.lock_model.specs.declared.plan.Mode.{Mode as InMode};
 ghost use Rattle.lock_floor.specs.declared.calls.Call.TheVariants as calls;
@@ -10,13 +10,12 @@ ghost use Rattle.lock_floor.specs.declared.calls.TakeAt.TheVariants.{Checks};
 ghost use Rattle.lock_state.specs.Steps.LockWords.{is_taking_back};
 ghost use Rattle.lock_floor.specs.Passes.{IsOf, IsReady};
 ghost use Rattle.lock_calls.specs.Steps.{MayTake};
-ghost use Rattle.lock_calls.specs.Takes.{HasBegunTake, IsInTake, GoesOnTaking, IsUnderTake, IsUnderAcquiring, IsBetween, TakeEnd, TakesOn, IsNotTaken, next_at};
-ghost use Rattle.lock_calls.specs.Waiting.{HasGained};
+ghost use Rattle.lock_calls.specs.Takes.{HasBegunTake, IsInTake, GoesOnTaking, IsUnderTake, IsUnderAcquiring, IsBetween, TakesPart, IsNotTaken, next_at, stands_at};
 
-use crate::answers::Next;
+use crate::answers::{Next, TakeNext};
 use crate::blocking::{come_in, contend};
 use crate::checking::check;
-use crate::sleeping::{hop_on, wake_back, wake_up, walk_on};
+use crate::sleeping::{halt_on, hop_on, wake_back, wake_up, walk_on};
 use crate::spinning::{begin, come, note_taken, spin};
 use lock_floor::{Call, Floor, Pass, TakeAt};
 use lock_model::{LockNo, Mode, Refused};
@@ -50,9 +49,10 @@ pub fn begin_take(floor: &Floor, pass: &mut Pass, l: LockNo, mode: Mode) -> Next
 /// as the check found it. Then it looks in its round, and tries where it sees that it can gain the lock plainly, of a
 /// mutex only while the owner isn't queued, and at most 100 times in all. Then it takes the lock's chain, and gains the
 /// lock there, or comes to stand on its queue: on a turnstile it makes the hops of its walk, on the sleep queue of an
-/// sx lock there are none. Then it counts itself out, and once it was woken it begins another round. `Sleep` comes
-/// exactly where the thread has counted itself out and hasn't run again. `Halted` comes only of an sx lock, where an
-/// abort ended this take's own sleep.
+/// sx lock there are none. Then it counts itself out. Where that left nobody awake it halts others, part by part, and
+/// `Wake` tells whose sleep is to be ended. Once it was woken it begins another round. `Sleep` comes exactly where the
+/// thread has counted itself out, has nobody left to halt, and hasn't run again. `Halted` comes only of an sx lock,
+/// where an abort ended this take's own sleep.
 pub fn go_on_taking(floor: &Floor, pass: &mut Pass) -> Next
     requires own { IsOf floor.now pass.old }
     requires one_chain { floor.now.description.chains ≡ 1 }
@@ -76,11 +76,15 @@ fn go_on(floor: &Floor, pass: &mut Pass, l: LockNo, mode: Mode, at: TakeAt) -> N
     ensures went { GoesOnTaking floor.now.description l mode at result pass.old pass.new }
 {
     match take_on(floor, pass, l, mode, at) {
-        Ok(Some(to)) => {
+        Ok(TakeNext::At(to)) => {
             pass.set_call(Call::Take { l, mode, at: to });
             next_at(to)
         }
-        Ok(None) => {
+        Ok(TakeNext::Wake(t, to)) => {
+            pass.set_call(Call::Take { l, mode, at: to });
+            Next::Wake(t)
+        }
+        Ok(TakeNext::Gained) => {
             note_taken(floor, pass, l, mode);
             pass.set_call(Call::None);
             Next::Done
@@ -96,40 +100,37 @@ fn go_on(floor: &Floor, pass: &mut Pass, l: LockNo, mode: Mode, at: TakeAt) -> N
     }
 }
 
-// Makes one part of a take from there. Answers where it stands then: nowhere, if the lock is gained, which is still to
-// be noted. `Err` comes where it was refused, or was ended in its sleep.
+// Makes one part of a take from there. Answers where it stands then. `Err` comes where it was refused, or was ended in
+// its sleep.
 fn take_on(
     floor: &Floor,
     pass: &mut Pass,
     l: LockNo,
     mode: Mode,
     at: TakeAt,
-) -> Result<Option<TakeAt>, Refused>
+) -> Result<TakeNext, Refused>
     requires own { IsOf floor.now pass.old }
     requires one_chain { floor.now.description.chains ≡ 1 }
     requires under_way { IsUnderTake floor.now.description l mode at pass.old.view }
     ensures own { IsOf floor.now pass.new }
-    ensures gained { IfOk result (λ to. IfNone to
-        (HasGained l mode pass.old.view pass.new.view)) }
-    ensures end { IfOk result (λ to. IfNone to
-        (TakeEnd floor.now.description l mode at pass.old.view pass.new.view)) }
-    ensures on { IfOk result (λ to. IfSome to
-        (λ next. TakesOn floor.now.description l mode at next pass.old.view pass.new.view)) }
+    ensures on { IfOk result (λ next. TakesPart floor.now.description l mode at next
+        pass.old.view pass.new.view) }
     ensures refused { IfErr result
         (λ r. IsNotTaken floor.now.description l at r pass.old.view pass.new.view) }
 {
     match at {
         TakeAt::Checks => match check(floor, pass, l, mode) {
-            Ok(to) => Ok(to),
+            Ok(to) => Ok(stands(to)),
             Err(reversal) => Err(Refused::Reversal(reversal)),
         },
         TakeAt::Spins(_)
         | TakeAt::ComesIn
         | TakeAt::Contends(_)
         | TakeAt::Walks(_)
-        | TakeAt::Hops(_) => Ok(acquire_on(floor, pass, l, mode, at)),
+        | TakeAt::Hops(_)
+        | TakeAt::Halts(_) => Ok(acquire_on(floor, pass, l, mode, at)),
         TakeAt::Sleeps => match wake_up(floor, pass, l, mode) {
-            Ok(to) => Ok(Some(to)),
+            Ok(to) => Ok(TakeNext::At(to)),
             Err(halted) => Err(Refused::Halted(halted)),
         },
     }
@@ -137,25 +138,15 @@ fn take_on(
 
 /// Makes one part of a taking back of a lock within a wait, from there. It is a take that checks no order, makes no
 /// entry, and is in a round from its begin (`Spins`): a sleep of it that an abort ends only looks again. Answers where
-/// it stands then: nowhere, if the lock is gained.
-pub fn retake_on(
-    floor: &Floor,
-    pass: &mut Pass,
-    l: LockNo,
-    mode: Mode,
-    at: TakeAt,
-) -> Option<TakeAt>
+/// it stands then.
+pub fn retake_on(floor: &Floor, pass: &mut Pass, l: LockNo, mode: Mode, at: TakeAt) -> TakeNext
     requires own { IsOf floor.now pass.old }
     requires one_chain { floor.now.description.chains ≡ 1 }
     requires back { is_taking_back pass.old.view.share.log ≡ true }
     requires checked { at ≢ Checks }
     requires under_way { IsUnderAcquiring floor.now.description l mode at pass.old.view }
     ensures own { IsOf floor.now pass.new }
-    ensures gained { IfNone result (HasGained l mode pass.old.view pass.new.view) }
-    ensures end { IfNone result
-        (TakeEnd floor.now.description l mode at pass.old.view pass.new.view) }
-    ensures on { IfSome result
-        (λ next. TakesOn floor.now.description l mode at next pass.old.view pass.new.view) }
+    ensures on { TakesPart floor.now.description l mode at result pass.old.view pass.new.view }
 {
     match at {
         TakeAt::Checks => unreachable!(),
@@ -163,37 +154,45 @@ pub fn retake_on(
         | TakeAt::ComesIn
         | TakeAt::Contends(_)
         | TakeAt::Walks(_)
-        | TakeAt::Hops(_) => acquire_on(floor, pass, l, mode, at),
-        TakeAt::Sleeps => Some(wake_back(floor, pass, l, mode)),
+        | TakeAt::Hops(_)
+        | TakeAt::Halts(_) => acquire_on(floor, pass, l, mode, at),
+        TakeAt::Sleeps => TakeNext::At(wake_back(floor, pass, l, mode)),
     }
 }
 
 // The parts of both between the check of the order and the sleep.
-fn acquire_on(floor: &Floor, pass: &mut Pass, l: LockNo, mode: Mode, at: TakeAt) -> Option<TakeAt>
+fn acquire_on(floor: &Floor, pass: &mut Pass, l: LockNo, mode: Mode, at: TakeAt) -> TakeNext
     requires own { IsOf floor.now pass.old }
     requires one_chain { floor.now.description.chains ≡ 1 }
     requires between { IsBetween at }
     requires under_way { IsUnderAcquiring floor.now.description l mode at pass.old.view }
     ensures own { IsOf floor.now pass.new }
-    ensures gained { IfNone result (HasGained l mode pass.old.view pass.new.view) }
-    ensures end { IfNone result
-        (TakeEnd floor.now.description l mode at pass.old.view pass.new.view) }
-    ensures on { IfSome result
-        (λ next. TakesOn floor.now.description l mode at next pass.old.view pass.new.view) }
+    ensures on { TakesPart floor.now.description l mode at result pass.old.view pass.new.view }
 {
     match at {
         TakeAt::Spins(left) => {
             if left == 0 {
-                Some(come(floor, pass, l, mode))
+                TakeNext::At(come(floor, pass, l, mode))
             } else {
-                spin(floor, pass, l, mode, left)
+                stands(spin(floor, pass, l, mode, left))
             }
         }
-        TakeAt::ComesIn => Some(come_in(floor, pass, l, mode)),
-        TakeAt::Contends(seen) => contend(floor, pass, l, mode, seen),
-        TakeAt::Walks(there) => Some(walk_on(floor, pass, l, mode, there)),
-        TakeAt::Hops(there) => Some(hop_on(floor, pass, l, mode, there)),
+        TakeAt::ComesIn => TakeNext::At(come_in(floor, pass, l, mode)),
+        TakeAt::Contends(seen) => stands(contend(floor, pass, l, mode, seen)),
+        TakeAt::Walks(there) => TakeNext::At(walk_on(floor, pass, l, mode, there)),
+        TakeAt::Hops(there) => TakeNext::At(hop_on(floor, pass, l, mode, there)),
+        TakeAt::Halts(there) => halt_on(floor, pass, l, mode, there),
         TakeAt::Checks | TakeAt::Sleeps => unreachable!(),
+    }
+}
+
+// Where a take stands behind a part that wakes nobody.
+fn stands(to: Option<TakeAt>) -> TakeNext
+    ensures { result ≡ stands_at to }
+{
+    match to {
+        Some(at) => TakeNext::At(at),
+        None => TakeNext::Gained,
     }
 }
 
@@ -208,6 +207,7 @@ fn next_at(at: TakeAt) -> Next
         | TakeAt::ComesIn
         | TakeAt::Contends(_)
         | TakeAt::Walks(_)
-        | TakeAt::Hops(_) => Next::Again,
+        | TakeAt::Hops(_)
+        | TakeAt::Halts(_) => Next::Again,
     }
 }

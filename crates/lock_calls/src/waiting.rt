@@ -14,7 +14,7 @@ ghost use Rattle.lock_calls.specs.Steps.{MayTake, MayRelease, Locks, Release, Is
 ghost use Rattle.lock_calls.specs.Takes.{IsHalt, IsRefused, WasNotTaken};
 ghost use Rattle.lock_calls.specs.Tries.{GainsAndNotes, WasBusyFor, as_tried};
 
-use crate::answers::{Next, ReleaseNext};
+use crate::answers::{Next, ReleaseNext, TakeNext};
 use crate::dropping::begin_giving_up;
 use crate::releasing::{begin_release, go_on_releasing, release_on};
 use crate::spinning::LOOKS;
@@ -28,8 +28,9 @@ use std::sync::Wait;
 /// Takes a lock in a mode, and waits until it has it. `Reversal` comes exactly where, by the class graph as this call's
 /// check found it, the class of a lock that the thread holds forbids that of the lock; it has the first such class in
 /// order of acquisition, the refusal is noted, and nothing else of the thread is new. A thread that holds nothing is
-/// never refused so. `Halted` comes only of an sx lock, where an abort ended this call's own sleep: that is noted, and
-/// the lock isn't held then. The floor has one chain of turnstiles.
+/// never refused so. Where its sleep would leave nobody awake, the call halts those who sleep. `Halted` comes only of
+/// an sx lock, where an abort ended this call's own sleep: that is noted, and the lock isn't held then. The floor has
+/// one chain of turnstiles.
 pub fn take_or_halt<R: Wait>(
     floor: &Floor,
     rt: &R,
@@ -64,7 +65,7 @@ pub fn take_or_halt<R: Wait>(
                 floor.sleep(rt, pass);
                 backoff.reset();
             }
-            Next::Wake(_) => unreachable!(),
+            Next::Wake(t) => floor.unpark(t),
             Next::Reversed(reversal) => return Err(Refused::Reversal(reversal)),
             Next::Halted => return Err(Refused::Halted(Halted)),
         }
@@ -191,9 +192,9 @@ pub fn release_held<R: Wait>(floor: &Floor, rt: &R, pass: &mut Pass, l: LockNo)
     }
 }
 
-/// Gives a lock up within a wait, as `lc_unlock` in FreeBSD's sys/lock.h: the thread gained it last, and runs or stands on
-/// a channel's queue. It is a release that isn't noted: it looks at the lock's word first, and wakes those who wait for
-/// the lock.
+/// Gives a lock up within a wait, as `lc_unlock` in FreeBSD's sys/lock.h: the thread gained it last, and runs or stands
+/// on a channel's queue. It is a release that isn't noted: it looks at the lock's word first, and wakes those who wait
+/// for the lock.
 pub fn give_up<R: Wait>(floor: &Floor, rt: &R, pass: &mut Pass, l: LockNo)
     requires own { IsOf floor.now pass.old }
     requires lock { l.0 < length floor.now.description.locks }
@@ -245,9 +246,10 @@ fn give_up_held<R: Wait>(floor: &Floor, rt: &R, pass: &mut Pass, l: LockNo, mode
     unreachable!()
 }
 
-/// Takes a lock back within a wait, in that mode, as `lc_lock` in FreeBSD's sys/lock.h: the thread wants it since it was
-/// woken, and is in a round of it. It is a take that checks no order and makes no entry. A sleep of it that an abort ends
-/// only looks again. The floor has one chain of turnstiles.
+/// Takes a lock back within a wait, in that mode, as `lc_lock` in FreeBSD's sys/lock.h: the thread wants it since it
+/// was woken, and is in a round of it. It is a take that checks no order and makes no entry. Where its sleep would
+/// leave nobody awake, it halts those who sleep; and a sleep of it that an abort ends only looks again. The floor has
+/// one chain of turnstiles.
 pub fn take_back<R: Wait>(floor: &Floor, rt: &R, pass: &mut Pass, l: LockNo, mode: Mode)
     requires own { IsOf floor.now pass.old }
     requires lock { l.0 < length floor.now.description.locks }
@@ -262,8 +264,12 @@ pub fn take_back<R: Wait>(floor: &Floor, rt: &R, pass: &mut Pass, l: LockNo, mod
     for _ in rt.forever() {
         let before = at;
         match retake_on(floor, pass, l, mode, at) {
-            Some(to) => at = to,
-            None => return,
+            TakeNext::Gained => return,
+            TakeNext::At(to) => at = to,
+            TakeNext::Wake(t, to) => {
+                floor.unpark(t);
+                at = to;
+            }
         }
         match at {
             TakeAt::Sleeps => {
@@ -275,7 +281,8 @@ pub fn take_back<R: Wait>(floor: &Floor, rt: &R, pass: &mut Pass, l: LockNo, mod
             | TakeAt::ComesIn
             | TakeAt::Contends(_)
             | TakeAt::Walks(_)
-            | TakeAt::Hops(_) => pause(
+            | TakeAt::Hops(_)
+            | TakeAt::Halts(_) => pause(
                 &backoff,
                 Call::Take {
                     l,
@@ -315,6 +322,7 @@ fn spins(call: Call) -> bool {
             | TakeAt::Contends(_)
             | TakeAt::Walks(_)
             | TakeAt::Hops(_)
+            | TakeAt::Halts(_)
             | TakeAt::Sleeps,
             ..
         } => false,

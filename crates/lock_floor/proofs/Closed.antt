@@ -30,7 +30,7 @@ use Rattle.floor_table.specs.Descriptions.{config_in}
 use Rattle.floor_table.specs.declared.description.Description.{Description}
 use Rattle.floor_table.specs.declared.slot.Slot.{Slot}
 use Rattle.floor_table.specs.declared.slot.Slot.TheVariants.{Record as Recorded, Cell, Turnstiles, SleepQueues, Graph}
-use Rattle.floor_table.specs.Places.{slots_for, latch_word}
+use Rattle.floor_table.specs.Places.{slots_for, latch_word, word_at, halt_line}
 use Rattle.floor_table.specs.Shares.{Share, ShareColumns, start_share, share_in, columns_of}
 use Rattle.floor_table.specs.Views.{OfThread, Runs, Knowledge, nothing}
 use Rattle.floor_table.specs.Represents.{Board, IsOf, objects_in, seat, keeper_in, thread_in, total, live, one_thread, IsTakenIn, IsPosed, Represents}
@@ -177,11 +177,18 @@ module _ (floor : Description) (v : Knowledge) (ws : List ℕ) (xs : List Slot)
   abbrev pub left : State
   left = final.1.0.state
 
-  abbrev pub sound : IsSound floor final.1.0.past left
+  abbrev pub steps : List Step
+  steps = final.1.0.past
+
+  abbrev pub sound : IsSound floor steps left
   sound = final.1.0.sound
 
   abbrev pub represents : Represents floor b left
   represents = final.1.0.represents
+
+  -- the halt word is 1 exactly where it was set
+  pub halt_word : word_at ws halt_line ≡ one left.halted
+  halt_word = ap (λ (words : List ℕ). word_at words halt_line) (sym final.2) ∙ represents.words.halted
 
   keeper : keeper_in b.views ≡ v
   keeper = at_or b.views 0 v nothing final.1.1

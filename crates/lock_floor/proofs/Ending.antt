@@ -1,5 +1,6 @@
 -- What is left of a floor that is closed.
 use Rattle.std.proofs.Common.{◌≡◌, ℕ, ◌+◌, ◌<◌, Bool, true, false, cond, List, [], length, map, reverse, get_or, None, refl, sym, ap, ◌∙◌, subst, arith}
+use Rattle.std.specs.Prelude.{◌↔◌}
 use Rattle.std.specs.FinMap.{get, same_map}
 use Rattle.std.specs.List.{All, list_any}
 use mathlib.Core.Option.{some, some-injective}
@@ -13,16 +14,17 @@ use Rattle.count_laws.proofs.Explaining as halts
 use Rattle.order_laws.proofs.TakeFacts.Whole as whole
 use Rattle.sleep_laws.proofs.LegalSoFar.{legal_so_far, may_halt}
 use Rattle.sleep_laws.specs.Sleepers.{by_chain}
+use Rattle.lock_model.specs.Counts.{one}
 use Rattle.lock_model.specs.History.{value_at, tables_of}
 use Rattle.lock_objects.specs.Represents.{RecordColumns, RepresentsRecord, record_in, columns_of}
-use Rattle.lock_state.specs.Facts.{TablesReplay, NextIsNew}
+use Rattle.lock_state.specs.Facts.{TablesReplay, NextIsNew, UnhaltedBefore}
 use Rattle.lock_state.specs.State.{State}
 use Rattle.thread_records.specs.declared.record.ThreadRec.{ThreadRec}
 use Rattle.floor_table.specs.Descriptions.{config_in}
 use Rattle.floor_table.specs.declared.description.Description.{Description}
 use Rattle.floor_table.specs.declared.slot.Slot.{Slot}
 use Rattle.floor_table.specs.declared.slot.Slot.TheVariants.{Record as Recorded, Cell, Turnstiles, SleepQueues, Graph}
-use Rattle.floor_table.specs.Places.{is_cell}
+use Rattle.floor_table.specs.Places.{is_cell, word_at, halt_line}
 use Rattle.floor_table.specs.Rule.{FloorHolds}
 use Rattle.floor_table.specs.Views.{Knowledge}
 use Rattle.lock_floor.specs.Closings.{IsClosing}
@@ -40,6 +42,16 @@ recorded (Graph b) d = d
 same_record : (b c : Box ThreadRec Global) → some (Recorded b) ≡ some (Recorded c) → b ≡ c
 unfolding recorded
 same_record b c e = ap (λ x. recorded x b) (some-injective (Recorded b) (Recorded c) e)
+
+-- two that are true where the other is are the same
+same_truth : (b c : Bool) → (b ≡ true → c ≡ true) → (c ≡ true → b ≡ true) → b ≡ c
+same_truth true c to from = sym (to refl)
+same_truth false true to from = from refl
+same_truth false false to from = refl
+
+one_is : (b : Bool) → one b ≡ 1 → b ≡ true
+one_is true e = refl
+one_is false e = absurd cc
 
 -- the last table, of which the keeper's seat, the first, tells
 pub last : (floor : Description) (v : Knowledge) (i : ℕ) (ws : List ℕ) (xs : List Slot) → i ≡ 0
@@ -69,7 +81,7 @@ module _ (floor : Description) (v : Knowledge) (ws : List ℕ) (xs : List Slot)
         → get x.tables.present (l, key) ≡ cond (list_any (is_cell l key) floor.keys) (s.table l key) None
     pub none_taken : All (λ g. g.1.doing.taking ≡ None) v.gathered
     pub none_held : All (λ g. g.1.held ≡ []) v.gathered
-    pub going : x.halted ≡ false
+    pub halted : (x.halted ≡ true) ↔ (word_at ws halt_line ≡ 1)
 
   module _ (x : Closing) (h : HasAll x) where
     its_record : (t : ℕ) (d : Box ThreadRec Global) → t < length floor.threads
@@ -107,7 +119,14 @@ module _ (floor : Description) (v : Knowledge) (ws : List ℕ) (xs : List Slot)
         let j' : u < length floor.threads = omega (arith, j, h.count) in
         apart t u i' j' (ap part (sym (its_record t d i').columns) ∙ e ∙ ap part (its_record u d j').columns)
 
+    -- the halt word is 1 exactly where the last state is halted
+    its_halt : x.halted ≡ s.halted
+    its_halt = same_truth x.halted s.halted
+        (λ e. one_is s.halted (sym (closed.halt_word floor v ws xs final all) ∙ h.halted.0 e))
+        (λ e. h.halted.1 (closed.halt_word floor v ws xs final all ∙ ap one e))
+
     pub is_closing : IsClosing floor (map (λ g. g.0) v.gathered) x
+    unfolding UnhaltedBefore
     is_closing =
         let sound = closed.sound floor v ws xs final all in
         let running = closed.running floor v ws xs final all in
@@ -132,5 +151,10 @@ module _ (floor : Description) (v : Knowledge) (ws : List ℕ) (xs : List Slot)
           turnstiles_differ = part_differs (λ r. r.turnstile) (closed.turnstiles_differ floor s sound running);
           sleep_queues_differ = part_differs (λ r. r.sleep_queue) (closed.sleep_queues_differ floor s sound running);
           tables = same_map place_total place_exact x.tables.present (tables_of s.history) replayed;
-          halted = h.going;
+          past = closed.steps floor v ws xs final all;
+          last = s;
+          reached = sound.reached;
+          left = refl;
+          halted = its_halt;
+          unhalted = λ e. sound.explained.unhalted_before (sym its_halt ∙ e);
         }

@@ -9,7 +9,7 @@ use Rattle.sleep_queues.specs.Changes.{waiters}
 use Rattle.sleep_queues.specs.Seen.{SleepQueue}
 use Rattle.lock_floor.specs.Aborts.{IsSleeping, KeepsWord}
 use Rattle.lock_floor.specs.Halting.{IsLastAsleep, SleepsFirst}
-use Rattle.lock_floor.specs.declared.halting.Asleep.{Asleep}
+use Rattle.lock_floor.specs.declared.halting.FirstSleeper.{FirstSleeper}
 
 none_there : (ws : List Waiter) → is_empty ws ≡ true → ws ≡ []
 none_there [] e = refl
@@ -19,7 +19,7 @@ some_there : (ws : List Waiter) → is_empty ws ≡ false → ws ≢ []
 some_there [] e none = cc
 some_there (w ∷ ws) e none = cc
 
-module _ (q : QueueName) (x : Asleep) (chain : List (QueueName × SleepQueue)) (h : SleepsFirst q x chain) where
+module _ (q : QueueName) (x : FirstSleeper) (chain : List (QueueName × SleepQueue)) (h : SleepsFirst q x chain) where
   itself : eqb x.thread.0 h.first.thread ≡ true
   itself = eq-eqb x.thread.0 h.first.thread (sym h.thread)
 

@@ -93,9 +93,9 @@ module _ (floor : Description) (me behind : Me Slot Knowledge) (l : ℕ) (side :
           of_floor = told.of_floor;
         } in
         subst (λ (xs : List Place). IsTied who locks (AbortedSleepers xs) book fin new) (sym woken_are)
-        (tied_then who locks locks marked (AbortedSleepers ps) book fin me new then going h call_view new_out refl h.held
-        h.room (subst (λ (k : Description). AreMarked k (AbortedSleepers ps) (map (mark_by ByAbort q) ps)) (sym mine)
-        are))
+        (tied_then who locks locks marked (AbortedSleepers ps) book fin me new then going h call_view new_out refl
+        h.held h.room (subst (λ (k : Description). AreMarked k (AbortedSleepers ps) (map (mark_by ByAbort q) ps))
+        (sym mine) are))
 
     pub call_aborts : AbortsLast floor l side u me.0 new.0
     call_aborts = record {

@@ -45,8 +45,8 @@ use Rattle.lock_floor.proofs.Taking.{record_at}
 -- 1. An end
 
 -- a thread that runs, goes on, holds and wants nothing, and took its own record last, may end
-pub may_end : (floor : Description) (v : Knowledge) (b : Box ThreadRec Global) → v.pose ≡ Runs → IsGoing v → v.share.held ≡ []
-    → v.share.doing.wanted ≡ None → v.out ≡ (v.thread, Record b) ∷ rest v.out
+pub may_end : (floor : Description) (v : Knowledge) (b : Box ThreadRec Global) → v.pose ≡ Runs → IsGoing v
+    → v.share.held ≡ [] → v.share.doing.wanted ≡ None → v.out ≡ (v.thread, Record b) ∷ rest v.out
     → MayMake floor v (λ s. Unit {0}) (CountsEnd v.thread ∷ [])
 may_end floor v b runs going bare wants out s f _ = (
   record {

@@ -9,10 +9,14 @@ use Rattle.lock_model.specs.History.{base_in, entries_of, tables_of}
 use Rattle.lock_model.specs.Legal.{IsLegalSoFar}
 use Rattle.lock_model.specs.Takes.{OrdersAreLegal}
 use Rattle.lock_model.specs.declared.event.Entry.{Entry}
+use Rattle.lock_state.specs.Facts.Halts.{NobodyIsHalted}
+use Rattle.lock_state.specs.State.{State}
+use Rattle.lock_state.specs.Steps.{Step}
 use Rattle.thread_records.specs.Records.{Record}
 use Rattle.thread_records.specs.declared.record.ThreadRec.{ThreadRec}
 use Rattle.floor_table.specs.Descriptions.{config_in}
 use Rattle.floor_table.specs.declared.description.Description.{Description}
+use Rattle.floor_table.specs.Past.{LeadsTo}
 use Rattle.lock_floor.specs.declared.closing.Closing.{Closing}
 
 -- Logs are those of these threads, in their order, behind a history, whose newest entry is first: each is its thread's
@@ -44,8 +48,9 @@ Differ part recs =
     → part (record_at recs t d) ≡ part (record_at recs u d) → t ≡ u
 
 -- What is left of a floor, which took in the passes of these threads, in that order: the logs of a history that keeps
--- the law, but for its part on operations; each thread's record, in its place; and the tables that the history leaves.
--- Nobody is halted yet.
+-- the law, but for its part on operations; each thread's record, in its place; the tables that the history leaves; and
+-- whether the halt word was set. All steps that were made on the floor led to a state with that history and that halt
+-- word; and where it wasn't set, nobody was halted or passed over
 pub record IsClosing (floor : Description) (threads : List ℕ) (x : Closing) : Type 0 where
   pub history : List Entry
   pub logs : AreLogsOf threads (map (λ b. b.entries) x.logs.items) history
@@ -60,4 +65,9 @@ pub record IsClosing (floor : Description) (threads : List ℕ) (x : Closing) : 
   pub turnstiles_differ : Differ (λ r. r.turnstile) x.recs.items
   pub sleep_queues_differ : Differ (λ r. r.sleep_queue) x.recs.items
   pub tables : x.tables.present ≡ tables_of history
-  pub halted : x.halted ≡ false
+  pub past : List Step
+  pub last : State
+  pub reached : LeadsTo floor past last
+  pub left : last.history ≡ history
+  pub halted : x.halted ≡ last.halted
+  pub unhalted : x.halted ≡ false → NobodyIsHalted (config_in floor) history

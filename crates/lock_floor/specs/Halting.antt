@@ -16,7 +16,7 @@ use Rattle.floor_table.specs.Views.{Knowledge, seeing}
 use Rattle.floor_table.specs.declared.description.Description.{Description}
 use Rattle.lock_floor.specs.Aborts.{aborted_off, out_aborted}
 use Rattle.lock_floor.specs.Sleeps.{HasSleepersOut}
-use Rattle.lock_floor.specs.declared.halting.Asleep.{Asleep}
+use Rattle.lock_floor.specs.declared.halting.FirstSleeper.{FirstSleeper}
 
 -- 1. Who sleeps
 
@@ -31,22 +31,22 @@ IsFirstSide S h = waiters X h.contents ≡ []
 
 -- the sleeper is the first of its side of a queue, and that is the first side on which somebody sleeps; it is alone
 -- exactly where nobody else sleeps there
-pub record SleepsFirst (q : QueueName) (x : Asleep) (chain : List (QueueName × SleepQueue)) : Type 0
-  where
-    pub head : SleepQueue
-    pub there : head_of q chain ≡ Some head
-    pub side : IsFirstSide x.side head
-    pub first : Waiter
-    pub others : List Waiter
-    pub list : waiters x.side head.contents ≡ first ∷ others
-    pub thread : first.thread ≡ x.thread.0
-    pub alone : x.alone ≡ is_empty others
+pub record SleepsFirst (q : QueueName) (x : FirstSleeper) (chain : List (QueueName × SleepQueue))
+    : Type 0 where
+  pub head : SleepQueue
+  pub there : head_of q chain ≡ Some head
+  pub side : IsFirstSide x.side head
+  pub first : Waiter
+  pub others : List Waiter
+  pub list : waiters x.side head.contents ≡ first ∷ others
+  pub thread : first.thread ≡ x.thread.0
+  pub alone : x.alone ≡ is_empty others
 
 -- 2. The last of a side
 
 -- a sleeper stands alone on that side of the queue, whose sleep queue is in the chain
-pub record IsLastAsleep (q : QueueName) (side : Side) (u : ℕ) (chain : List (QueueName × SleepQueue))
-    : Type 0 where
+pub record IsLastAsleep (q : QueueName) (side : Side) (u : ℕ)
+    (chain : List (QueueName × SleepQueue)) : Type 0 where
   pub head : SleepQueue
   pub there : head_of q chain ≡ Some head
   pub stands : 0 < times_waiting u (waiters side head.contents)

@@ -12,4 +12,5 @@ chan_at floor d =
 -- a queue by its place: those of locks come by their numbers, and then those of channels
 abbrev pub queue_at : Description → ℕ → Option QueueName
 queue_at floor k =
-    if nat_lt k (length floor.locks) then Some (lock_queue k) else chan_at floor (k - length floor.locks)
+    if nat_lt k (length floor.locks) then Some (lock_queue k)
+    else chan_at floor (k - length floor.locks)

@@ -2,6 +2,7 @@
 //! stands where it is and is gone on with later, as a thread of a kernel that blocks leaves a continuation. What it
 //! needs then is here. The crate of those calls says what each place of a call means.
 
+use crate::queues::HaltAt;
 use lock_model::{LockNo, Mode};
 use prio_lending::Walk;
 
@@ -49,6 +50,8 @@ pub enum TakeAt {
     Walks(Walk),
     /// The same within that hop: it has the chain of turnstiles out.
     Hops(Walk),
+    /// It has counted itself out, and that left nobody awake: it halts others.
+    Halts(HaltAt),
     /// It has counted itself out: it runs again, if it was woken.
     Sleeps,
 }

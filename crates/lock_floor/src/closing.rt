@@ -1,5 +1,5 @@
 //! The end of a floor: its passes are taken in, and it is closed.
-ghost use Rattle.std.specs.Prelude.{ℕ, ◌≡◌, ◌+◌, ◌<◌, ◌≤◌, ◌^◌, ◌++◌, false, None, Option, IfSome, IfNone, [], ◌∷◌, length, map, reverse, slice_index_or, vec_capacity, if◌then◌else◌};
+ghost use Rattle.std.specs.Prelude.{ℕ, ◌≡◌, ◌↔◌, ◌+◌, ◌<◌, ◌≤◌, ◌^◌, ◌++◌, true, false, None, Option, IfSome, IfNone, [], ◌∷◌, length, map, reverse, slice_index_or, vec_capacity, if◌then◌else◌};
 ghost use Rattle.std.specs.FinMap.{empty, get, insert};
 ghost use Rattle.std.specs.List.{Contains, list_any};
 ghost use Rattle.std.specs.Mem.Slots.{slots_items, slots_filled, slots_len, IsFull};
@@ -7,7 +7,7 @@ ghost use Rattle.std.specs.Mem.Slots.Ownership.{Filled};
 ghost use mathlib.Core.Option.{some};
 ghost use lib.ListN.{get_elem?};
 ghost use Rattle.atomic_table.specs.Table.{Allows};
-ghost use Rattle.floor_table.specs.Places.{is_cell, spot, ticket_line};
+ghost use Rattle.floor_table.specs.Places.{is_cell, spot, ticket_line, halt_line, word_at};
 ghost use Rattle.floor_table.specs.Rule.{FloorHolds};
 ghost use Rattle.floor_table.specs.declared.slot.Slot.TheVariants.{Record, Cell};
 ghost use Rattle.lock_floor.specs.Closings.{IsClosing};
@@ -17,7 +17,9 @@ use crate::floor::{Floor, FloorOf};
 use crate::keeper::{HandOut, Keeper};
 use crate::pass::{Pass, PassOf};
 use atomic_table::{Closed, Join};
-use floor_table::{Board, Description, FloorSeat, Law, Slot, Tells, Told, View, ticket_spot};
+use floor_table::{
+    Board, Description, FloorSeat, Law, Slot, Tells, Told, View, halt_spot, ticket_spot,
+};
 use lock_history::{Log, Tables};
 use lock_model::LockNo;
 use std::alloc::Global;
@@ -55,7 +57,7 @@ impl Closing {
         &self.tables
     }
 
-    /// Whether the run was halted because every live thread slept.
+    /// Whether a thread set the halt word: at a moment at which every other had ended or stood on a queue, unwoken.
     pub fn halted(&self) -> bool
         ensures { result ≡ self.now.halted }
     {
@@ -135,6 +137,7 @@ impl FloorOf<Slot, View, Description, Law> {
         } = keeper;
         let threads = description.threads.as_slice().len();
         let mut closed = board.close_with(seat);
+        let halted = was_halted(&closed);
         take_records(&mut closed, threads, &mut recs);
         take_cells(
             &mut closed,
@@ -148,9 +151,18 @@ impl FloorOf<Slot, View, Description, Law> {
             recs,
             logs,
             tables,
-            halted: false,
+            halted,
         }
     }
+}
+
+// Whether the halt word is 1.
+fn was_halted(closed: &Closed<Slot, Global>) -> bool
+    requires words { spot halt_line < slots_len closed.now.words }
+    requires full { IsFull closed.now.words }
+    ensures { (result ≡ true) ↔ (word_at (slots_items closed.now.words) halt_line ≡ 1) }
+{
+    closed.word(halt_spot()) == 1
 }
 
 // Takes the records of so many threads out of their places, in order.

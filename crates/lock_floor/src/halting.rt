@@ -27,9 +27,9 @@ use lock_objects::Marked;
 use sleep_queues::SleepQueue;
 use std::marker::Brand;
 
-/// A thread that sleeps on a queue.
+/// The first of those that sleep on a queue.
 #[derive(Clone, Copy, Debug, PartialEq, Eq)]
-pub struct Asleep {
+pub struct FirstSleeper {
     pub thread: ThreadNo,
     pub side: Side,
     /// Whether nobody else sleeps on that side.
@@ -68,7 +68,7 @@ impl FloorOf<Slot, View, Description, Law> {
 
     /// The first sleeper of a queue, whose chain was taken last: those of the exclusive side come first. `None` comes
     /// exactly where nobody sleeps there. It is no step.
-    pub fn first_sleeper(&self, pass: &mut Pass, q: QueueName) -> Option<Asleep>
+    pub fn first_sleeper(&self, pass: &mut Pass, q: QueueName) -> Option<FirstSleeper>
         requires own { IsOf self.now pass.old }
         requires queue { IsQueueOf self.now.description q }
         requires last { (chain : _) × (pass.old.view.out
@@ -91,7 +91,7 @@ impl FloorOf<Slot, View, Description, Law> {
 }
 
 // The first sleeper of a queue in a chain. `None` comes exactly where nobody sleeps there.
-fn first_asleep(chain: &Chain<SleepQueue>, q: QueueName) -> Option<Asleep>
+fn first_asleep(chain: &Chain<SleepQueue>, q: QueueName) -> Option<FirstSleeper>
     ensures none { IfNone result (NobodySleeps q chain.now) }
     ensures some { IfSome result (λ x. SleepsFirst q x chain.now) }
 {
@@ -103,14 +103,14 @@ fn first_asleep(chain: &Chain<SleepQueue>, q: QueueName) -> Option<Asleep>
 }
 
 // The first sleeper of a side. `None` comes exactly where nobody sleeps there.
-fn first_on(head: &SleepQueue, side: Side) -> Option<Asleep>
+fn first_on(head: &SleepQueue, side: Side) -> Option<FirstSleeper>
     ensures none { IfNone result (waiters side head.now.contents ≡ []) }
     ensures some { IfSome result (λ x. (x.side ≡ side)
         × ((w : _) × (ws : _) × (waiters side head.now.contents ≡ w ∷ ws)
         × (w.thread ≡ x.thread.0) × (x.alone ≡ is_empty ws))) }
 {
     match head.waiter_at(side, 0) {
-        Some(first) => Some(Asleep {
+        Some(first) => Some(FirstSleeper {
             thread: first.0,
             side,
             alone: is_alone(head, side),

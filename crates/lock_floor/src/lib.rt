@@ -63,7 +63,7 @@ pub use calls::{Call, ReleaseAt, TakeAt, TryAt};
 pub use closing::Closing;
 pub use counts::Count;
 pub use floor::{Floor, FloorOf};
-pub use halting::Asleep;
+pub use halting::FirstSleeper;
 pub use keeper::Keeper;
 pub use pass::{Pass, PassOf};
 pub use queues::HaltAt;

@@ -1,12 +1,14 @@
 //! The priorities of a thread at rest, and its end. A call about priorities takes the thread's record out of its home,
 //! makes one entry, and gives the record back. None takes memory.
-ghost use Rattle.std.specs.Prelude.{◌≡◌, ◌≤◌, true, Some, [], ◌∷◌};
+ghost use Rattle.std.specs.Prelude.{◌≡◌, ◌≤◌, true, None, Some, [], ◌∷◌};
 ghost use Rattle.atomic_table.specs.Table.{rest};
 ghost use Rattle.lock_model.specs.declared.event.Event.TheVariants.{Base, Shown};
+ghost use Rattle.lock_state.specs.State.{is_parked};
 ghost use Rattle.lock_state.specs.Steps.Items.{RecordOf};
 ghost use Rattle.floor_table.specs.declared.slot.Slot.TheVariants.{Record};
 ghost use Rattle.floor_table.specs.Places.{slot_of};
 ghost use Rattle.floor_table.specs.Steps.{MakesEach};
+ghost use Rattle.floor_table.specs.Views.{Runs};
 ghost use Rattle.lock_floor.specs.Passes.{IsOf, IsReady, MakesEntry, with_item};
 
 use crate::floor::FloorOf;
@@ -52,9 +54,15 @@ impl FloorOf<Slot, View, Description, Law> {
         (base, eff)
     }
 
-    /// Ends the thread, which holds nothing. Its pass makes no step any more.
-    pub fn finish<R: Wait>(&self, _rt: &R, pass: &mut Pass)
-        requires ready { IsReady self.now pass.old }
+    /// Finishes a pass whose thread has ended: it counted itself among those that have, and out of those that are awake,
+    /// and holds nothing and takes nothing. The pass makes no step any more.
+    pub fn finish(&self, pass: &mut Pass)
+        requires own { IsOf self.now pass.old }
+        requires ended { pass.old.view.share.doing.has_ended ≡ true }
+        requires counted { is_parked pass.old.view.share.doing.phase ≡ true }
+        requires runs { pass.old.view.pose ≡ Runs }
+        requires nothing_out { pass.old.view.out ≡ [] }
+        requires takes_nothing { pass.old.view.share.doing.taking ≡ None }
         requires unheld { pass.old.view.share.held ≡ [] }
         ensures { pass.new ≡ record pass.old { finished = true } }
     {

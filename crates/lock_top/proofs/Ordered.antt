@@ -1,6 +1,6 @@
 -- What a call answers of a script of an ordered plan: no run of it is stuck or reversed, and one of its threads is
 -- done.
-use Rattle.std.proofs.Common.{◌≡◌, ◌≢◌, ℕ, Bool, true, false, List, [], ◌∷◌, Option, Some, None, refl, sym, ap, subst, ◌∙◌, inl, inr}
+use Rattle.std.proofs.Common.{◌≡◌, ◌≢◌, ℕ, Bool, true, false, List, Option, Some, None, refl, sym, ap, subst, ◌∙◌, inl, inr}
 use Rattle.std.specs.Option.{option_map_or}
 use Rattle.command_line.specs.Forms.{is_run, runs_threads, words_of}
 use Rattle.command_line.specs.declared.args.Command.{Command}
@@ -8,13 +8,11 @@ use Rattle.command_line.specs.declared.args.Command.TheVariants.{Check, Profile,
 use Rattle.command_line.specs.declared.args.LockrunArgs.{LockrunArgs}
 use Rattle.complaints.specs.declared.status.Status.{Status}
 use Rattle.complaints.specs.declared.status.Status.TheVariants.{Done, BadScript, ReadFault, WriteFault, NoMemory, Stuck, Reversed, TooLong, TooBig, Usage}
-use Rattle.floor_run.specs.Runs.{HasNoChannels}
 use Rattle.floor_run.proofs.Ordered.{ordered_done}
 use Rattle.lock_model.specs.Operations.{IsProper}
 use Rattle.lock_model.specs.OrderedPlans.{IsOrdered}
 use Rattle.lock_model.specs.Script.{IsAccepted}
 use Rattle.lock_model.specs.Text.{Ending, IsDone, IsStuck, IsReversed, IsTooLong}
-use Rattle.lock_model.specs.declared.plan.ChanDecl.{ChanDecl}
 use Rattle.lock_model.specs.declared.plan.Plan.{Plan}
 use Rattle.lock_state.specs.Run.{scheduled_run}
 use Rattle.run_laws.proofs.OrderedRuns.{ordered_not_stuck, ordered_not_reversed}
@@ -65,17 +63,11 @@ module _ (bytes : List ℕ) (plan : Plan) (accepted : IsAccepted bytes plan) (i 
   unfolding scheduled_run
   scheduled chains turns = by_ending _ (ordered_not_stuck plan turns p i) (ordered_not_reversed plan turns p i)
 
-  threads_done : (pair : Status × List ℕ) → HasNoChannels plan → IsOutputOfThreads plan pair → pair.0 ≡ Done
-  threads_done pair none h =
-      let ran = h.ran none in
-      its_status ran.2 ∙ ap status_of (ordered_done plan ran.0 p i ran.1)
+  threads_done : (pair : Status × List ℕ) → IsOutputOfThreads plan pair → pair.0 ≡ Done
+  threads_done pair h = its_status h.same ∙ ap status_of (ordered_done plan h.outcome p i h.run)
 
   threads : (pair : Status × List ℕ) → IsOutputOfThreads plan pair → IsUnstopped pair.0
-  threads pair h = go plan.chans refl
-    where
-      go : (chans : List ChanDecl) → plan.chans ≡ chans → IsUnstopped pair.0
-      go [] e = subst IsUnstopped (sym (threads_done pair e h)) done_unstopped
-      go (d ∷ ds) e = same_unstopped (h.refused (λ none. absurd (let z : [] ≡ d ∷ ds = sym none ∙ e in cc))) bad_unstopped
+  threads pair h = subst IsUnstopped (sym (threads_done pair h)) done_unstopped
 
   by_ticks : (pair : Status × List ℕ) → IsOutputOfTicks bytes pair → IsUnstopped pair.0
   unfolding IsOutputOfTicks
@@ -104,22 +96,22 @@ module _ (bytes : List ℕ) (plan : Plan) (accepted : IsAccepted bytes plan) (i 
       go None k = same_unstopped k usage_unstopped
       go (Some said) k = by_command said.command said.chains said.turns pair k
 
-  run_by : (command : Command) (chains turns : ℕ) (pair : Status × List ℕ) → HasNoChannels plan
-      → runs_threads command ≡ true → IsOutputBy command chains turns bytes pair → pair.0 ≡ Done
-  run_by Check chains turns pair none r h = absurd cc
-  run_by Step chains turns pair none r h = absurd cc
-  run_by Run chains turns pair none r h = threads_done pair none (of_plan IsOutputOfThreads pair h)
-  run_by Ticks chains turns pair none r h = absurd cc
-  run_by Profile chains turns pair none r h = absurd cc
+  run_by : (command : Command) (chains turns : ℕ) (pair : Status × List ℕ) → runs_threads command ≡ true
+      → IsOutputBy command chains turns bytes pair → pair.0 ≡ Done
+  run_by Check chains turns pair r h = absurd cc
+  run_by Step chains turns pair r h = absurd cc
+  run_by Run chains turns pair r h = threads_done pair (of_plan IsOutputOfThreads pair h)
+  run_by Ticks chains turns pair r h = absurd cc
+  run_by Profile chains turns pair r h = absurd cc
 
-  run_done : (words : List (List ℕ)) (pair : Status × List ℕ) → HasNoChannels plan → is_run words ≡ true
-      → IsOutput words bytes pair → pair.0 ≡ Done
-  run_done words pair none r h = go (words_of words) r h
+  run_done : (words : List (List ℕ)) (pair : Status × List ℕ) → is_run words ≡ true → IsOutput words bytes pair
+      → pair.0 ≡ Done
+  run_done words pair r h = go (words_of words) r h
     where
       go : (said : Option LockrunArgs) → option_map_or (λ (x : LockrunArgs). runs_threads x.command) said false ≡ true
           → IsOutputWhereSaid said bytes pair → pair.0 ≡ Done
       go None e k = absurd cc
-      go (Some said) e k = run_by said.command said.chains said.turns pair none e k
+      go (Some said) e k = run_by said.command said.chains said.turns pair e k
 
 -- 4. What a call promises
 
@@ -151,8 +143,8 @@ pub writes_all : (words : List (List ℕ)) (status : Status) (source old new : T
 writes_all words status None old new h whole = record { text = tt; ordered = λ r. tt }
 writes_all words status (Some bytes) old new h whole = record {
   text = whole;
-  ordered = λ r plan few accepted none i. elim (whole few) [
-    | inl text ↦ let o = h.output text in inl (run_done bytes plan accepted i words (status, o.0) none r o.1)
+  ordered = λ r plan few accepted i. elim (whole few) [
+    | inl text ↦ let o = h.output text in inl (run_done bytes plan accepted i words (status, o.0) r o.1)
     | inr no_memory ↦ inr no_memory
   ];
 }

@@ -2,13 +2,12 @@
 use Rattle.std.proofs.Common.{◌≡◌, ℕ, List, refl, sym, ap, subst}
 use Rattle.std.proofs.lemmas.List.{reverse-reverse}
 use Rattle.std.specs.FinMap.{entries}
-use Rattle.floor_run.specs.Runs.{HasNoChannels, IsOutcome}
 use Rattle.lock_model.specs.Operations.{IsProper}
 use Rattle.lock_model.specs.History.{tables_of, value_at}
 use Rattle.lock_state.specs.Facts.{Lawful}
 use Rattle.lock_state.specs.Run.{scheduled_run}
 use Rattle.lock_model.specs.Script.{IsAccepted, IsFaulty}
-use Rattle.lock_model.specs.Text.{Outcome, counts_text, fault_text}
+use Rattle.lock_model.specs.Text.{counts_text, fault_text}
 use Rattle.lock_model.specs.declared.plan.Plan.{Plan}
 use Rattle.lock_model.specs.declared.event.Entry.{Entry}
 use Rattle.script_laws.proofs.Accepted.{accepted_proper}
@@ -26,7 +25,7 @@ use Rattle.tick_sleep.specs.Reading as reading
 use Rattle.tick_sleep.specs.Script as ticks
 use Rattle.tick_sleep.specs.Text.{tick_run}
 use Rattle.tick_sleep.specs.declared.plan.TickPlan.{TickPlan}
-use Rattle.lock_top.specs.Output.{IsFaultOf, IsLawfulRun, IsLawfulState, IsOutputOfCounts, IsOutputOfLocks, IsOutputOfReading, IsOutputOfThreads, IsOutputOfTickReading, IsOutputOfTicks, TellsTables, output_of, state_behind}
+use Rattle.lock_top.specs.Output.{IsFaultOf, IsLawfulRun, IsLawfulState, IsOutputOfCounts, IsOutputOfLocks, IsOutputOfReading, IsOutputOfTickReading, IsOutputOfTicks, TellsTables, state_behind}
 
 -- each state of the run of a proper plan is lawful
 lawful_state : (plan : Plan) (n : ℕ) → IsProper plan → IsLawfulState (config_of plan) (state_behind plan n)
@@ -77,11 +76,6 @@ pub accepted_counts : (bytes : List ℕ) (plan : Plan) (text : List ℕ) → IsA
 accepted_counts bytes plan text accepted is =
     let pair : List ℕ → Status × List ℕ = λ t. (Done, t) in
     accepted_output IsOutputOfCounts bytes plan (Done, text) accepted (ap pair is)
-
--- what a run of a plan's threads leaves belongs to it
-pub ran_output : (plan : Plan) (o : Outcome) (pair : Status × List ℕ) → HasNoChannels plan → IsOutcome plan o
-    → pair ≡ output_of plan o → IsOutputOfThreads plan pair
-ran_output plan o pair none is same = record { ran = λ x. (o, is, same); refused = λ some. absurd (some none) }
 
 -- The same of a script of ticks.
 pub accepted_ticks : (bytes : List ℕ) (plan : TickPlan) (text : List ℕ) → ticks.IsAccepted bytes plan

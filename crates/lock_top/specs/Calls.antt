@@ -4,7 +4,6 @@ use Rattle.std.specs.Prelude.{◌≡◌, ◌≢◌, ◌⊎◌, ◌≤◌, ℕ, L
 use Rattle.command_line.specs.Forms.{is_form, is_run}
 use Rattle.complaints.specs.declared.status.Status.{Status}
 use Rattle.complaints.specs.declared.status.Status.TheVariants.{Done, NoMemory, Reversed, Stuck, Usage, WriteFault}
-use Rattle.floor_run.specs.Runs.{HasNoChannels}
 use Rattle.lock_io.specs.Whole.{AddsFront}
 use Rattle.lock_model.specs.Limits.{most_bytes}
 use Rattle.lock_model.specs.OrderedPlans.{IsOrdered}
@@ -35,12 +34,12 @@ abbrev pub WritesWhole : Status → Told → Type 0
 WritesWhole status source = IfSome source (λ bytes. length bytes ≤ most_bytes
     → (has_text status ≡ true) ⊎ (status ≡ NoMemory))
 
--- So it has. Where the words ask for a run of threads, and the source is a script of an ordered plan without condition
--- variables and channels, that run is done, save for want of memory.
+-- So it has. Where the words ask for a run of threads, and the source is a script of an ordered plan, that run is done,
+-- save for want of memory.
 pub record WritesAll (words : List (List ℕ)) (status : Status) (source : Told) : Type 0 where
   pub text : WritesWhole status source
   pub ordered : is_run words ≡ true → IfSome source (λ bytes. (plan : Plan)
-      → length bytes ≤ most_bytes → IsAccepted bytes plan → HasNoChannels plan → IsOrdered plan
+      → length bytes ≤ most_bytes → IsAccepted bytes plan → IsOrdered plan
       → (status ≡ Done) ⊎ (status ≡ NoMemory))
 
 -- whatever the words ask for, no run of a script of an ordered plan is stuck or reversed

@@ -8,7 +8,7 @@ use Rattle.command_line.specs.declared.args.Command.TheVariants.{Check, Profile,
 use Rattle.command_line.specs.declared.args.LockrunArgs.{LockrunArgs}
 use Rattle.complaints.specs.declared.status.Status.{Status}
 use Rattle.complaints.specs.declared.status.Status.TheVariants.{Done, BadScript, ReadFault, WriteFault, NoMemory, Stuck, Reversed, TooLong, TooBig, Usage}
-use Rattle.floor_run.specs.Runs.{HasNoChannels, IsOutcome}
+use Rattle.floor_run.specs.Runs.{IsOutcome}
 use Rattle.hold_profile.specs.ProfileText.{profile_text}
 use Rattle.hold_profile.specs.Profiles.{profile_of}
 use Rattle.lock_model.specs.Config.{Config}
@@ -43,11 +43,11 @@ profile_output_of plan o =
     (status_of o.ending, profile_text plan (profile_of plan o.history) o.ending)
 
 -- A status and a text belong to a run of a plan's threads. Which threads meet which is not said, so each outcome of
--- such a run has its own. A plan that declares a condition or a channel has one that tells that its threads can't run
--- yet.
+-- such a run has its own.
 pub record IsOutputOfThreads (plan : Plan) (pair : Status × List ℕ) : Type 0 where
-  pub ran : HasNoChannels plan → (o : Outcome) × IsOutcome plan o × (pair ≡ output_of plan o)
-  pub refused : (HasNoChannels plan → ⊥) → pair ≡ (BadScript, fault_text 0 0)
+  pub outcome : Outcome
+  pub run : IsOutcome plan outcome
+  pub same : pair ≡ output_of plan outcome
 
 -- They belong to what a plan has: check counts it, and runs nothing.
 abbrev pub IsOutputOfCounts : Plan → Status × List ℕ → Type 0

@@ -11,9 +11,9 @@ ghost use Rattle.lock_top.specs.Output.{has_text, IsOutputOfCounts, IsOutputOfLo
 
 use command_line::{Command, LockrunArgs};
 use complaints::Status;
-use floor_run::{has_no_channels, run_plan};
+use floor_run::run_plan;
 use hold_profile::{print_profile, profile};
-use lock_history::{Last, Outcome, print, print_counts, print_fault};
+use lock_history::{Last, Outcome, print, print_counts};
 use lock_io::Gate;
 use lock_model::Plan;
 use script_read::{ReadError, read_script};
@@ -138,7 +138,7 @@ fn ticks(alloc: Global, bytes: &[u8]) -> Result<(Status, Vec<u8>), ReadError>
     Ok((Status::Done, text))
 }
 
-/// `run`: those of a run of the script's threads, or of a plan whose threads can't run yet.
+/// `run`: those of a run of the script's threads.
 #[tactic(auto, using(crate::proofs::Outcome::refused_output))]
 pub fn by_threads<R: Threads + Wait + Sync, G: Gate>(
     rt: &R,
@@ -167,10 +167,6 @@ fn of_threads<R: Threads + Wait + Sync, G: Gate>(
     ensures pair { IfOk result (λ a. IsOutputOfThreads plan.now (a.0, a.1.items)) }
     ensures has_text { IfOk result (λ a. has_text a.0 ≡ true) }
 {
-    if !has_no_channels(plan) {
-        let text = print_fault(alloc, 0, 0)?;
-        return Ok((Status::BadScript, text));
-    }
     let (outcome, _) = run_plan(rt, alloc, plan, 1, gate)?;
     of_outcome(alloc, plan, &outcome)
 }

@@ -1,9 +1,8 @@
 //! Profiles of worked scripts, with counts worked out by hand from their entries.
 ghost use Rattle.std.specs.Prelude.{IfOk};
-ghost use Rattle.floor_run.specs.Runs.{HasNoChannels};
 ghost use Rattle.lock_model.specs.Operations.{IsProper};
 
-use floor_run::{has_no_channels, run_plan};
+use floor_run::run_plan;
 use hold_profile::{print_profile, profile};
 use lock_io::OpenGate;
 use lock_model::Plan;
@@ -112,7 +111,7 @@ fn profiles_of_threads(rt: HostRuntime) -> Result<(), Fail> {
         script.push_str("end;")?;
     }
     script.push_str("done;")?;
-    let plan = plan_to_run(alloc, &script)?;
+    let plan = plan_of(alloc, &script)?;
     let (outcome, _closing) = run_plan(&rt, alloc, &plan, 1, &OpenGate)?;
     assert_eq!(rt; outcome.history.len(), 2400);
     let counted = profile(alloc, &plan, &outcome.history)?;
@@ -134,18 +133,5 @@ fn plan_of(alloc: Global, script: &str) -> Result<Plan, Fail>
     match read_script(alloc, script.as_bytes()) {
         Ok(plan) => Ok(plan),
         Err(_) => Err("the bytes are a script".into()),
-    }
-}
-
-// The plan of a script without conditions and channels.
-fn plan_to_run(alloc: Global, script: &str) -> Result<Plan, Fail>
-    ensures proper { IfOk result IsProper }
-    ensures channels { IfOk result HasNoChannels }
-{
-    let plan = plan_of(alloc, script)?;
-    if has_no_channels(&plan) {
-        Ok(plan)
-    } else {
-        Err("the script has no condition and no channel".into())
     }
 }

@@ -1,17 +1,18 @@
 //! Command lines, scripts and ends as tests write them. In a command line `_` stands for a blank in a word, and in a
 //! script `;` for the end of a line.
 ghost use Rattle.std.specs.Prelude.{IfOk};
-ghost use Rattle.floor_run.specs.Runs.{HasNoChannels};
 ghost use Rattle.lock_model.specs.Operations.{IsProper};
 
 use complaints::Status;
-use floor_run::has_no_channels;
-use lock_io::{MemSink, MemSource};
+use lock_io::{Gate, MemSink, MemSource};
 use lock_model::Plan;
+use lock_top::lockrun;
 use script_laws::scripts::scripts_have_proper_plans;
 use script_read::read_script;
 use std::alloc::Global;
+use std::sync::Wait;
 use std::test::Fail;
+use std::thread::Threads;
 
 /// The words of a line.
 pub(crate) fn words_of(alloc: Global, line: &str) -> Result<Vec<String>, Fail> {
@@ -68,17 +69,20 @@ pub(crate) fn plan_of(alloc: Global, script: &str) -> Result<Plan, Fail>
     }
 }
 
-/// The plan of a script without conditions and channels.
-pub(crate) fn plan_to_run(alloc: Global, script: &str) -> Result<Plan, Fail>
-    ensures proper { IfOk result IsProper }
-    ensures channels { IfOk result HasNoChannels }
-{
-    let plan = plan_of(alloc, script)?;
-    if has_no_channels(&plan) {
-        Ok(plan)
-    } else {
-        Err("the script has no condition and no channel".into())
-    }
+/// The status of a call of `lockrun`, and its sink.
+pub(crate) fn call<R: Threads + Wait + Sync, G: Gate>(
+    rt: &R,
+    alloc: Global,
+    line: &str,
+    bytes: Vec<u8>,
+    source_fails: u32,
+    sink_fails: u32,
+    gate: &G,
+) -> Result<(Status, MemSink), Fail> {
+    let words = words_of(alloc, line)?;
+    let (mut source, mut sink) = ends(alloc, bytes, source_fails, sink_fails)?;
+    let status = lockrun(rt, alloc, &words, &mut source, &mut sink, gate);
+    Ok((status, sink))
 }
 
 /// One thread that takes a mutex, sets a key of it, and releases it.

@@ -8,6 +8,7 @@
 //! - `rows`: what each thing of a scheduled run is between turns.
 //! - `mutexes`: the calls of mutexes on a floor, and `sx_locks`: those of sx locks.
 //! - `threads`: running threads that meet, and `barrier`, a gate at which all of them do.
+//! - `sleepers`: running threads that sleep, and `holding`, a gate that holds one until others sleep.
 #![tactic(auto)]
 
 #[cfg(test)]
@@ -15,11 +16,15 @@ mod barrier;
 #[cfg(test)]
 mod fixtures;
 #[cfg(test)]
+mod holding;
+#[cfg(test)]
 mod mutexes;
 #[cfg(test)]
 mod pictures;
 #[cfg(test)]
 mod rows;
+#[cfg(test)]
+mod sleepers;
 #[cfg(test)]
 mod sx_locks;
 #[cfg(test)]

@@ -1,20 +1,12 @@
 //! Calls of `lockrun`: what no file of `example_rows` can say. Ends that fail, a source that is too big, words that are
 //! no form, for which nothing is read, and threads that meet at a gate. And a thread that runs and is refused a take.
-use crate::fixtures::{Case, FIRST, MEETINGS, NEVER, bytes_of, ends, words_of};
+use crate::fixtures::{Case, FIRST, MEETINGS, NEVER, bytes_of, call};
 use complaints::Status;
 use complaints::Status::{BadScript, Done, ReadFault, Reversed, TooBig, Usage, WriteFault};
-use lock_io::{Gate, Meeting, MemSink, OpenGate};
-use lock_top::lockrun;
+use lock_io::{Meeting, OpenGate};
 use std::alloc::{AllocError, Global};
 use std::str;
-use std::sync::Wait;
 use std::test::Fail;
-use std::thread::Threads;
-
-// In either order of its takes a thread sleeps with one lock, and the other blocks.
-const TWO_QUEUES: &str = "lockrun 1;mutex m k;sx s j;cond c m;\
-    thread a 100;xlock s;lock m;wait c;unlock m;xunlock s;end;\
-    thread b 50;xlock s;xunlock s;end;done;";
 
 // FIRST has 68 bytes: seventeen calls of the source, and one that finds its end. Behind the pieces of a text the sink
 // is flushed: at `ok` that is call 1. The text of a case is what the sink holds in the end.
@@ -41,19 +33,11 @@ const CASES: &[Case] = &[
         "0 t lock m\n1",
     ),
     ("check", FIRST, 0, NEVER, 2, WriteFault, "ok threa"),
-    (
-        "--turns 1 run",
-        TWO_QUEUES,
-        0,
-        NEVER,
-        2,
-        WriteFault,
-        "line 0 c",
-    ),
+    ("--turns 1 run", FIRST, 0, NEVER, 2, WriteFault, "0 t lock"),
     ("step", FIRST, 0, 1, NEVER, ReadFault, ""),
     ("step", FIRST, 0, 17, NEVER, ReadFault, ""),
     ("check", FIRST, 0, 1, NEVER, ReadFault, ""),
-    ("run", TWO_QUEUES, 0, 1, NEVER, ReadFault, ""),
+    ("run", FIRST, 0, 1, NEVER, ReadFault, ""),
     ("check", "", 1_048_577, NEVER, NEVER, TooBig, ""),
     ("run", "", 1_048_577, NEVER, NEVER, TooBig, ""),
     ("step", "", 1_048_577, NEVER, NEVER, TooBig, ""),
@@ -182,20 +166,4 @@ fn one_philosopher_is_refused(rt: HostRuntime) -> Result<(), Fail> {
         assert_eq!(rt; text.lines().last(), Some(last));
     }
     Ok(())
-}
-
-// The status of a call, and its sink.
-fn call<R: Threads + Wait + Sync, G: Gate>(
-    rt: &R,
-    alloc: Global,
-    line: &str,
-    bytes: Vec<u8>,
-    source_fails: u32,
-    sink_fails: u32,
-    gate: &G,
-) -> Result<(Status, MemSink), Fail> {
-    let words = words_of(alloc, line)?;
-    let (mut source, mut sink) = ends(alloc, bytes, source_fails, sink_fails)?;
-    let status = lockrun(rt, alloc, &words, &mut source, &mut sink, gate);
-    Ok((status, sink))
 }

@@ -28,6 +28,17 @@ pub struct Hold<'a> {
     pub ticket: u64,
 }
 
+/// A sleep that a halt ended.
+#[derive(Clone, Copy, Debug)]
+pub struct Halt<'a> {
+    /// The wait, or the take of an sx lock.
+    pub operation: Operation<'a>,
+    /// The ticket of the thread's entry before: of a wait that is the one that says that it sleeps.
+    pub since: Option<u64>,
+    /// That of the entry that says that it was halted.
+    pub ticket: u64,
+}
+
 /// A thread.
 #[derive(Drop)]
 pub struct Actor<'a> {
@@ -40,8 +51,9 @@ pub struct Actor<'a> {
     /// The wait in which it is, and whether it was woken from that.
     pub asleep: Option<Operation<'a>>,
     pub is_woken: bool,
-    /// It was refused a lock, and makes no operation more.
+    /// It was refused a lock or halted, and makes no operation more.
     pub is_cut: bool,
+    pub halted: Option<Halt<'a>>,
 }
 
 impl<'a> Actor<'a> {
@@ -55,6 +67,7 @@ impl<'a> Actor<'a> {
             asleep: None,
             is_woken: false,
             is_cut: false,
+            halted: None,
         }
     }
 

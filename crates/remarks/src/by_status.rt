@@ -3,7 +3,7 @@
 ghost use Rattle.std.specs.Prelude.{◌≡◌, ◌++◌, IfOk, List, ℕ, OnOk, IsErrOf};
 ghost use Rattle.remarks.specs.Remarks.{AreRemarks};
 
-use crate::faults::{of_fault, of_threads};
+use crate::faults::of_fault;
 use crate::places::{line_at, text_of, word_at};
 use crate::refusals::of_refusal;
 use crate::shape::shaped;
@@ -13,7 +13,8 @@ use script_read::number_of;
 use std::alloc::{AllocError, Global};
 
 /// The lines below the sentence: of a fault its cause, with the line and a mark below the place; of a reversal both
-/// locks, and the takes that forbid it; of a stuck run where each thread waits. Nothing where there is nothing to say.
+/// locks, and the takes that forbid it; of a stuck run where each thread waits, or was halted. Nothing where there is
+/// nothing to say.
 ///
 /// ```
 /// let text = b"line 5 code 14\n";
@@ -46,12 +47,9 @@ pub fn remarks(
     shaped(alloc, &lines)
 }
 
-// Of the line `line L code C`, or of the line that tells of a plan whose threads can't run yet.
+// Of the line `line L code C`.
 fn of_no_script(alloc: Global, source: &[u8], text: &[u8]) -> Result<Vec<String>, AllocError> {
     let line = text_of(line_at(text, 1));
-    if line == "line 0 code 0" {
-        return of_threads(alloc, source);
-    }
     let number = number_of(word_at(line, 1).as_bytes());
     let code = number_of(word_at(line, 3).as_bytes());
     let (Some(number), Some(code)) = (number, code) else {

@@ -1,12 +1,11 @@
 //! What is said of a script's fault: its cause, the line, and the mark.
 
-use crate::book::{Book, Named};
+use crate::book::Book;
 use crate::causes::cause;
 use crate::excerpt::excerpt_of;
 use crate::finding::{Fault, Finding};
 use crate::places::{line_at, place_of, text_of, word_at};
-use crate::verbs::{Sort, verb_of};
-use lock_model::Kind;
+use crate::verbs::verb_of;
 use script_read::split_line;
 use std::alloc::{AllocError, Global};
 
@@ -21,38 +20,6 @@ pub fn of_fault(
     match cause(&fault, code)? {
         Some(found) => lines_of(&fault, found),
         None => Ok(Vec::new(alloc)),
-    }
-}
-
-/// What is said of a script whose threads can't run beside each other yet.
-pub fn of_threads(alloc: Global, source: &[u8]) -> Result<Vec<String>, AllocError> {
-    let fault = fault_at(alloc, source, u32::MAX)?;
-    let mut lines = Vec::new(alloc);
-    let Some(named) = fault.book.names.iter().find(|n| !runs(n.sort)).copied() else {
-        return Ok(lines);
-    };
-    let Named {
-        name,
-        line,
-        sort,
-        ..
-    } = named;
-    let sort = sort.told();
-    let bytes = line_at(source, line);
-    let shown = excerpt_of(alloc, line, bytes, place_of(text_of(bytes), 1))?;
-    lines.push(format!(in alloc;
-        "    {name} is {sort}, declared in line {line}; `lockrun step` runs this script, turn by turn"
-    )?)?;
-    lines.push(shown.text)?;
-    lines.push(shown.mark)?;
-    Ok(lines)
-}
-
-// Whether threads run on it already.
-fn runs(sort: Sort) -> bool {
-    match sort {
-        Sort::Lock(Kind::Mtx | Kind::Rw | Kind::Sx) | Sort::Thread => true,
-        Sort::Condition | Sort::Channel | Sort::Sleeper => false,
     }
 }
 

@@ -2,7 +2,7 @@
 //! class of locks before another. The history is that of the printed text, and the lines are found by reading the
 //! script again: a thread's entries follow its operations, one by one.
 
-use crate::actor::{Actor, Hold, Operation};
+use crate::actor::{Actor, Halt, Hold, Operation};
 use crate::book::Book;
 use crate::places::{text_of, word_at};
 use crate::verbs::{Role, verb_of};
@@ -18,7 +18,7 @@ pub struct Order<'a> {
     pub wanted: &'a str,
     pub held: &'a str,
     pub line: u32,
-    /// That of the entry of its gain; `None` where it waits still.
+    /// That of the entry of its gain, or of its halt; `None` where it waits still.
     pub ticket: Option<u64>,
     /// That of the thread's last entry before, behind which it asked.
     pub after: Option<u64>,
@@ -210,6 +210,7 @@ fn make_in<'a>(
             actor.skip_block();
             Ok(())
         }
+        "halted" => halt(actor, entry, book, orders),
         "reversed" => {
             let refused = refuse(actor, entry, book);
             if refusal.is_none() {
@@ -223,6 +224,36 @@ fn make_in<'a>(
         }
         _ => go_on(actor, entry, book, orders, empty_wakes),
     }
+}
+
+// A sleep is halted, and its thread is cut: it is that of a wait, or of a take, which has put classes in order all the
+// same.
+fn halt<'a>(
+    actor: &mut Actor<'a>,
+    entry: Entry<'a>,
+    book: &Book<'a>,
+    orders: &mut Vec<Order<'a>>,
+) -> Result<(), AllocError> {
+    let (since, ticket) = (actor.last, entry.ticket);
+    let operation = match actor.asleep {
+        Some(operation) => operation,
+        None => {
+            let Some(operation) = actor.go_on() else {
+                return Ok(());
+            };
+            let (lock, line) = (operation.name(), operation.line);
+            teach(actor, book, orders, lock, line, Some(ticket))?;
+            operation
+        }
+    };
+    actor.asleep = None;
+    actor.is_cut = true;
+    actor.halted = Some(Halt {
+        operation,
+        since,
+        ticket,
+    });
+    Ok(())
 }
 
 // A take is refused, and its thread is cut.

@@ -28,6 +28,21 @@ table a 0 0
 stuck
 ";
 
+// Threads ran: b ended, and the others were halted in their sleep.
+const HALTED: &str = "0 b xlock s
+1 c wait z
+2 halted wait z
+3 c halted z
+4 a halted s
+5 halted halted z
+6 b xunlock s
+thread a base 100 eff 100
+thread b base 50 eff 50
+thread c base 70 eff 70
+thread halted base 1 eff 1
+stuck
+";
+
 const REVERSED: &str = "0 p lock m
 1 p reversed d kd
 2 p unlock m
@@ -59,38 +74,33 @@ const SAID: &[(Status, &str, &str)] = &[
     (
         Status::BadScript,
         "line 5 code 21\n",
-        "lockrun: the source is no script, or its threads can't run yet\n",
+        "lockrun: the source is no script\n",
     ),
     (
         Status::BadScript,
         "line 5 code 267\n",
-        "lockrun: the source is no script, or its threads can't run yet\n",
+        "lockrun: the source is no script\n",
     ),
     (
         Status::BadScript,
         "line 5 code x\n",
-        "lockrun: the source is no script, or its threads can't run yet\n",
+        "lockrun: the source is no script\n",
     ),
     (
         Status::BadScript,
         "line 5\n",
-        "lockrun: the source is no script, or its threads can't run yet\n",
+        "lockrun: the source is no script\n",
     ),
-    (
-        Status::BadScript,
-        "",
-        "lockrun: the source is no script, or its threads can't run yet\n",
-    ),
+    (Status::BadScript, "", "lockrun: the source is no script\n"),
     (
         Status::BadScript,
         "line 0 code 0\n",
-        "lockrun: threads run on locks alone so far, and the script declares a condition variable \
-        or a channel\n",
+        "lockrun: the source is no script\n",
     ),
     (
         Status::BadScript,
         "line 1 code 0\n",
-        "lockrun: the source is no script, or its threads can't run yet\n",
+        "lockrun: the source is no script\n",
     ),
     (
         Status::ReadFault,
@@ -112,6 +122,17 @@ const SAID: &[(Status, &str, &str)] = &[
         Status::Stuck,
         SLEEPERS,
         "lockrun: stuck: b waits for c, ab for c, a for c\n",
+    ),
+    (
+        Status::Stuck,
+        HALTED,
+        "lockrun: stuck: a was halted on s, c on z, halted on z\n",
+    ),
+    (
+        Status::Stuck,
+        "lock halted class k holds 1 total 1 longest 1 together 1 busy 0 waits 0 halted 0\n\
+        order k halted 1\nstuck\n",
+        "lockrun: stuck\n",
     ),
     (Status::Stuck, "stuck\n", "lockrun: stuck\n"),
     (Status::Stuck, "", "lockrun: stuck\n"),

@@ -1,14 +1,14 @@
-use Rattle.std.proofs.Common.{◌≡◌, ℕ, suc, ◌+◌, Some, slice_get, arith, ap, sym, subst, ◌∙◌, inl, inr}
+use Rattle.std.proofs.Common.{◌≡◌, ℕ, suc, ◌+◌, Some, slice_get, arith, ap, sym, subst, ◌∙◌}
 use Rattle.std.proofs.lemmas.Option.{slice_get_within}
 use Rattle.lock_model.specs.Plans.{operations_of}
 use Rattle.lock_model.specs.declared.plan.Op.{Op}
 use Rattle.floor_table.specs.Views.{Knowledge}
 use Rattle.lock_floor.specs.Floors.{Pass}
 use Rattle.floor_run.specs.Progress.{IsBefore}
-use Rattle.floor_run.proofs.Cutting.{not_taken}
+use Rattle.floor_run.proofs.Cutting.{not_taken, slept_halted}
 use Rattle.floor_run.proofs.Operating as lemma
 use Rattle.floor_run.proofs.worker.operate.Goals as goal
-use Rattle.floor_run.proofs.worker.operate.Goals.{in-Take+in-Ok, in-Try+in-Ok-try_take, in-EndTry, in-Release, in-Set, in-Add, in-Get, in-Base, in-Show}
+use Rattle.floor_run.proofs.worker.operate.Goals.{in-Take+in-Ok, in-Try+in-Ok-try_take, in-EndTry, in-Release, in-Set, in-Add, in-Get, in-Base, in-Show, in-Sleep+in-Ok-sleep_on, in-WakeOne, in-WakeAll}
 
 pub take_or_halt-requires-clause-may : goal.take_or_halt-requires-clause-may
 take_or_halt-requires-clause-may g c =
@@ -80,19 +80,28 @@ show-requires-clause-room g c =
     lemma.room_for_one _ _ c.requires.given c.requires.proper _ _ _ c.requires.before c.args.op
     c.requires.op
 
-pub unreachable-requires : goal.unreachable-requires
-unreachable-requires g c =
-    let q = c.requires.given in
-    let p = c.requires.proper in
-    let m = c.requires.channels in
-    let no_sleep = lemma.no_sleep _ _ q p _ _ _ c.requires.before m in
-    let no_wake_one = lemma.no_wake_one _ _ q p _ _ _ c.requires.before m in
-    let no_wake_all = lemma.no_wake_all _ _ q p _ _ _ c.requires.before m in
-    elim c.in-Sleep.is [
-      | inl x ↦ no_sleep x.0 (c.requires.op ∙ ap Some x.1)
-      | inr (inl x) ↦ no_wake_one x.0 (c.requires.op ∙ ap Some x.1)
-      | inr (inr x) ↦ no_wake_all x.0 (c.requires.op ∙ ap Some x.1)
-    ]
+pub sleep_on-requires-clause-ready : goal.sleep_on-requires-clause-ready
+sleep_on-requires-clause-ready g c = c.requires.before.ready
+
+pub sleep_on-requires-clause-may : goal.sleep_on-requires-clause-may
+sleep_on-requires-clause-may g c =
+    lemma.may_wait _ _ c.requires.given c.requires.proper _ _ _ c.requires.before c.in-Sleep.c
+    (c.requires.op ∙ ap Some c.in-Sleep.is)
+
+pub sleep_on-requires-clause-lock : goal.sleep_on-requires-clause-lock
+sleep_on-requires-clause-lock g c =
+    lemma.lock_there _ _ c.requires.given c.requires.proper _ _ _ c.requires.before c.in-Sleep.c
+    (c.requires.op ∙ ap Some c.in-Sleep.is)
+
+pub wake_one-requires-clause-may : goal.wake_one-requires-clause-may
+wake_one-requires-clause-may g c =
+    lemma.may_wake_one _ _ c.requires.given c.requires.proper _ _ _ c.requires.before c.in-WakeOne.c
+    (c.requires.op ∙ ap Some c.in-WakeOne.is)
+
+pub wake_all-requires-clause-may : goal.wake_all-requires-clause-may
+wake_all-requires-clause-may g c =
+    lemma.may_wake_all _ _ c.requires.given c.requires.proper _ _ _ c.requires.before c.in-WakeAll.c
+    (c.requires.op ∙ ap Some c.in-WakeAll.is)
 
 pub overflow_add-result : goal.overflow_add-result
 overflow_add-result g c =
@@ -144,6 +153,15 @@ returns-clause-before g c =
       | in-Show w ↦ leads w.show.new.pass w.pass-is
           (lemma.shown plan f q p t c.args.n c.args.pass.now b w.show.new.pass w.show.result.0 w.show.result.1
           (at _ w.in-Show.is) w.show.ensures.ready w.show.ensures.entry)
+      | in-Sleep+in-Ok-sleep_on w ↦ leads w.sleep_on.new.pass w.pass-is
+          (lemma.slept plan f q p t c.args.n c.args.pass.now b w.sleep_on.new.pass w.in-Sleep.c (at _ w.in-Sleep.is)
+          w.sleep_on.ensures.ready w.in-Ok-sleep_on.ensures.woken)
+      | in-WakeOne w ↦ leads w.wake_one.new.pass w.pass-is
+          (lemma.woke_one plan f q p t c.args.n c.args.pass.now b w.wake_one.new.pass w.in-WakeOne.c
+          (at _ w.in-WakeOne.is) w.wake_one.ensures.ready w.wake_one.ensures.woken)
+      | in-WakeAll w ↦ leads w.wake_all.new.pass w.pass-is
+          (lemma.woke_all plan f q p t c.args.n c.args.pass.now b w.wake_all.new.pass w.in-WakeAll.c
+          (at _ w.in-WakeAll.is) w.wake_all.ensures.ready w.wake_all.ensures.woken)
     ]
 
 pub returns-in-Err-clause-cut : goal.returns-in-Err-clause-cut
@@ -162,3 +180,8 @@ pub returns-in-Err-try_take-clause-further : goal.returns-in-Err-try_take-clause
 returns-in-Err-try_take-clause-further g c =
     lemma.further_on _ _ c.requires.given c.requires.proper _ _ _ c.requires.before c.in-Try.l
     c.in-Try.mode c.in-Try.past (c.requires.op ∙ ap Some c.in-Try.is)
+
+pub returns-in-Err-sleep_on-clause-cut : goal.returns-in-Err-sleep_on-clause-cut
+returns-in-Err-sleep_on-clause-cut g c =
+    slept_halted _ _ c.requires.given c.requires.proper _ _ _ c.requires.before c.sleep_on.new.pass c.in-Sleep.c
+    (c.requires.op ∙ ap Some c.in-Sleep.is) c.sleep_on.ensures.ready c.in-Err-sleep_on.ensures.halted

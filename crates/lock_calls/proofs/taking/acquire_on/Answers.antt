@@ -1,6 +1,9 @@
 use Rattle.std.proofs.Common.{inl, inr, sym, ap, ◌∙◌, subst}
-use Rattle.lock_floor.specs.declared.calls.TakeAt.TheVariants.{Spins}
-use Rattle.lock_calls.specs.Takes.{IsUnderAcquiring, IsBetween, TakesOn}
+use Rattle.lock_floor.specs.declared.calls.TakeAt.{TakeAt}
+use Rattle.lock_floor.specs.declared.calls.TakeAt.TheVariants.{Spins, Contends}
+use Rattle.lock_calls.specs.declared.answers.TakeNext.{TakeNext}
+use Rattle.lock_calls.specs.Takes.{IsUnderAcquiring, IsBetween, TakesOn, TakesPart}
+use Rattle.lock_calls.proofs.Calls.{takes_part}
 use Rattle.lock_calls.proofs.taking.acquire_on.Goals as goal
 
 pub come-requires-clause-under_way : goal.come-requires-clause-under_way
@@ -19,6 +22,13 @@ spin-requires-clause-under_way c =
     subst (λ a. IsUnderAcquiring c.args.floor.now.description c.args.l c.args.mode a c.args.pass.now.view)
     c.in-Spins.is c.requires.under_way
 
+pub returns-else-left-eq0-clause-on : goal.returns-else-left-eq0-clause-on
+returns-else-left-eq0-clause-on c =
+    let part = takes_part c.args.floor.now.description c.args.l c.args.mode (Spins c.in-Spins.left) c.spin.result
+    c.args.pass.now.view c.spin.new.pass.view c.spin.ensures.gained c.spin.ensures.end c.spin.ensures.on in
+    subst (λ (z : TakeAt × TakeNext). TakesPart c.args.floor.now.description c.args.l c.args.mode z.0 z.1
+    c.args.pass.now.view c.spin.new.pass.view) (λ i. (sym c.in-Spins.is i, sym c.stands.ensures i)) part
+
 pub come_in-requires-clause-under_way : goal.come_in-requires-clause-under_way
 come_in-requires-clause-under_way c =
     subst (λ a. IsUnderAcquiring c.args.floor.now.description c.args.l c.args.mode a c.args.pass.now.view)
@@ -34,6 +44,15 @@ pub contend-requires-clause-under_way : goal.contend-requires-clause-under_way
 contend-requires-clause-under_way c =
     subst (λ a. IsUnderAcquiring c.args.floor.now.description c.args.l c.args.mode a c.args.pass.now.view)
     c.in-Contends.is c.requires.under_way
+
+pub returns-in-Contends-clause-on : goal.returns-in-Contends-clause-on
+returns-in-Contends-clause-on c =
+    let part = takes_part c.args.floor.now.description c.args.l c.args.mode (Contends c.in-Contends.seen)
+    c.contend.result c.args.pass.now.view c.contend.new.pass.view c.contend.ensures.gained c.contend.ensures.end
+    c.contend.ensures.on in
+    subst (λ (z : TakeAt × TakeNext). TakesPart c.args.floor.now.description c.args.l c.args.mode z.0 z.1
+    c.args.pass.now.view c.contend.new.pass.view)
+    (λ i. (sym c.in-Contends.is i, sym c.stands-in-Contends.ensures i)) part
 
 pub walk_on-requires-clause-under_way : goal.walk_on-requires-clause-under_way
 walk_on-requires-clause-under_way c =
@@ -56,6 +75,17 @@ returns-in-Hops-clause-on c =
     subst (λ a. TakesOn c.args.floor.now.description c.args.l c.args.mode a c.hop_on.result c.args.pass.now.view
     c.hop_on.new.pass.view)
     (sym c.in-Hops.is) c.hop_on.ensures.on
+
+pub halt_on-requires-clause-under_way : goal.halt_on-requires-clause-under_way
+halt_on-requires-clause-under_way c =
+    subst (λ a. IsUnderAcquiring c.args.floor.now.description c.args.l c.args.mode a c.args.pass.now.view)
+    c.in-Halts.is c.requires.under_way
+
+pub returns-in-Halts-clause-on : goal.returns-in-Halts-clause-on
+returns-in-Halts-clause-on c =
+    subst (λ a. TakesPart c.args.floor.now.description c.args.l c.args.mode a c.halt_on.result c.args.pass.now.view
+    c.halt_on.new.pass.view)
+    (sym c.in-Halts.is) c.halt_on.ensures.on
 
 pub unreachable-requires : goal.unreachable-requires
 unreachable-requires c = elim c.in-Checks.is [

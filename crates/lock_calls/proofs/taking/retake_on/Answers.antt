@@ -12,9 +12,12 @@ acquire_on-requires-clause-between c = elim c.in-Spins.is [
     | inl is ↦ subst IsBetween (sym is) tt
     | inr b ↦ elim b [
       | inl is ↦ subst IsBetween (sym is.1) tt
-      | inr e ↦ elim e [
+      | inr d ↦ elim d [
         | inl is ↦ subst IsBetween (sym is.1) tt
-        | inr is ↦ subst IsBetween (sym is.1) tt
+        | inr e ↦ elim e [
+          | inl is ↦ subst IsBetween (sym is.1) tt
+          | inr is ↦ subst IsBetween (sym is.1) tt
+        ]
       ]
     ]
   ]

@@ -1,12 +1,23 @@
 use Rattle.std.proofs.Common.{inl, inr, sym, subst}
-use Rattle.lock_calls.specs.Takes.{IsUnderTake, IsBetween, TakesOn, IsHalted, kept_at}
+use Rattle.lock_floor.specs.declared.calls.TakeAt.{TakeAt}
+use Rattle.lock_floor.specs.declared.calls.TakeAt.TheVariants.{Checks}
+use Rattle.lock_calls.specs.declared.answers.TakeNext.{TakeNext}
+use Rattle.lock_calls.specs.Takes.{IsUnderTake, IsBetween, TakesOn, TakesPart, IsHalted, kept_at}
 use Rattle.lock_calls.proofs.Attempts.{can_acquire}
+use Rattle.lock_calls.proofs.Calls.{takes_part}
 use Rattle.lock_calls.proofs.taking.take_on.Goals as goal
 
 pub check-requires-clause-under_way : goal.check-requires-clause-under_way
 check-requires-clause-under_way c =
     subst (λ a. IsUnderTake c.args.floor.now.description c.args.l c.args.mode a c.args.pass.now.view)
     c.in-Checks.is c.requires.under_way
+
+pub returns-in-Ok-clause-on : goal.returns-in-Ok-clause-on
+returns-in-Ok-clause-on c =
+    let part = takes_part c.args.floor.now.description c.args.l c.args.mode Checks c.in-Ok.to c.args.pass.now.view
+    c.check.new.pass.view c.in-Ok.ensures.gained c.in-Ok.ensures.end c.in-Ok.ensures.on in
+    subst (λ (z : TakeAt × TakeNext). TakesPart c.args.floor.now.description c.args.l c.args.mode z.0 z.1
+    c.args.pass.now.view c.check.new.pass.view) (λ i. (sym c.in-Checks.is i, sym c.stands.ensures i)) part
 
 pub returns-in-Err-clause-refused : goal.returns-in-Err-clause-refused
 returns-in-Err-clause-refused c = (c.in-Checks.is, c.in-Err.ensures.refused)
@@ -18,9 +29,12 @@ acquire_on-requires-clause-between c = elim c.in-Spins.is [
     | inl is ↦ subst IsBetween (sym is) tt
     | inr b ↦ elim b [
       | inl is ↦ subst IsBetween (sym is.1) tt
-      | inr e ↦ elim e [
+      | inr d ↦ elim d [
         | inl is ↦ subst IsBetween (sym is.1) tt
-        | inr is ↦ subst IsBetween (sym is.1) tt
+        | inr e ↦ elim e [
+          | inl is ↦ subst IsBetween (sym is.1) tt
+          | inr is ↦ subst IsBetween (sym is.1) tt
+        ]
       ]
     ]
   ]

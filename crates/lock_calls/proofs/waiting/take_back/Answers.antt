@@ -1,5 +1,8 @@
-use Rattle.lock_calls.proofs.TakenBack.{retakes_first, is_back, retakes_on, taken_back, back_steps}
+use Rattle.std.proofs.Common.{sym, subst}
+use Rattle.lock_calls.specs.Takes.{TakesPart}
+use Rattle.lock_calls.proofs.TakenBack.{RetakesSince, retakes_first, is_back, retakes_on, taken_back, back_steps}
 use Rattle.lock_calls.proofs.waiting.take_back.Goals as goal
+use Rattle.lock_calls.proofs.waiting.take_back.Goals.{in-At, in-Wake}
 
 pub loop-init : goal.loop-init
 loop-init g c = record {
@@ -19,28 +22,59 @@ retake_on-requires-clause-checked g c = c.loop.invariant.stands.off
 pub retake_on-requires-clause-under_way : goal.retake_on-requires-clause-under_way
 retake_on-requires-clause-under_way g c = c.loop.invariant.stands.under
 
-pub returns-in-None-retake_on-clause-back : goal.returns-in-None-retake_on-clause-back
-returns-in-None-retake_on-clause-back g c =
+pub returns-in-Gained-clause-back : goal.returns-in-Gained-clause-back
+returns-in-Gained-clause-back g c =
+    let gained = subst (λ n. TakesPart c.args.floor.now.description c.args.l c.args.mode c.loop.at n c.loop.pass.view
+    c.retake_on.new.pass.view) c.in-Gained.is c.retake_on.ensures.on in
     taken_back c.args.floor.now.description c.args.l c.args.mode c.args.pass.now.view c.requires.may c.loop.at
-    c.loop.pass.view c.retake_on.new.pass.view c.loop.invariant.stands c.in-None-retake_on.ensures.gained c.in-None-retake_on.ensures.end
+    c.loop.pass.view c.retake_on.new.pass.view c.loop.invariant.stands gained.0 gained.1
 
-pub returns-in-None-retake_on-clause-steps : goal.returns-in-None-retake_on-clause-steps
-returns-in-None-retake_on-clause-steps g c =
+pub returns-in-Gained-clause-steps : goal.returns-in-Gained-clause-steps
+returns-in-Gained-clause-steps g c =
+    let gained = subst (λ n. TakesPart c.args.floor.now.description c.args.l c.args.mode c.loop.at n c.loop.pass.view
+    c.retake_on.new.pass.view) c.in-Gained.is c.retake_on.ensures.on in
     back_steps c.args.floor.now.description c.args.l c.args.mode c.args.pass.now.view c.requires.may c.loop.at
-    c.loop.pass.view c.retake_on.new.pass.view c.loop.invariant.stands c.in-None-retake_on.ensures.gained c.in-None-retake_on.ensures.end
+    c.loop.pass.view c.retake_on.new.pass.view c.loop.invariant.stands gained.0 gained.1
+
+pub unpark-requires : goal.unpark-requires
+unpark-requires g c =
+    (subst (λ n. TakesPart c.args.floor.now.description c.args.l c.args.mode c.loop.at n c.loop.pass.view
+    c.retake_on.new.pass.view) c.in-Wake.is c.retake_on.ensures.on).of_floor
 
 pub loop-preserved-in-Sleeps : goal.loop-preserved-in-Sleeps
 loop-preserved-in-Sleeps g c = record {
   own = c.retake_on.ensures.own;
-  stands = retakes_on c.args.floor.now.description c.args.l c.args.mode c.args.pass.now.view c.requires.may c.loop.at
-      c.loop.pass.view c.retake_on.new.pass.view c.loop.invariant.stands c.in-Some-retake_on.to
-      c.in-Some-retake_on.ensures.on;
+  stands = elim c.match-retake_on.branch [
+    | in-At w ↦ subst (λ a. RetakesSince c.args.floor.now.description c.args.l c.args.mode c.args.pass.now.view a
+        c.retake_on.new.pass.view) (sym w.at-is)
+        (retakes_on c.args.floor.now.description c.args.l c.args.mode c.args.pass.now.view c.requires.may c.loop.at
+        c.loop.pass.view c.retake_on.new.pass.view c.loop.invariant.stands w.in-At.to
+        (subst (λ n. TakesPart c.args.floor.now.description c.args.l c.args.mode c.loop.at n c.loop.pass.view
+        c.retake_on.new.pass.view) w.in-At.is c.retake_on.ensures.on))
+    | in-Wake w ↦ subst (λ a. RetakesSince c.args.floor.now.description c.args.l c.args.mode c.args.pass.now.view a
+        c.retake_on.new.pass.view) (sym w.at-is)
+        (retakes_on c.args.floor.now.description c.args.l c.args.mode c.args.pass.now.view c.requires.may c.loop.at
+        c.loop.pass.view c.retake_on.new.pass.view c.loop.invariant.stands w.in-Wake.to
+        (subst (λ n. TakesPart c.args.floor.now.description c.args.l c.args.mode c.loop.at n c.loop.pass.view
+        c.retake_on.new.pass.view) w.in-Wake.is c.retake_on.ensures.on).on)
+  ];
 }
 
 pub loop-preserved : goal.loop-preserved
 loop-preserved g c = record {
   own = c.retake_on.ensures.own;
-  stands = retakes_on c.args.floor.now.description c.args.l c.args.mode c.args.pass.now.view c.requires.may c.loop.at
-      c.loop.pass.view c.retake_on.new.pass.view c.loop.invariant.stands c.in-Some-retake_on.to
-      c.in-Some-retake_on.ensures.on;
+  stands = elim c.match-retake_on.branch [
+    | in-At w ↦ subst (λ a. RetakesSince c.args.floor.now.description c.args.l c.args.mode c.args.pass.now.view a
+        c.retake_on.new.pass.view) (sym w.at-is)
+        (retakes_on c.args.floor.now.description c.args.l c.args.mode c.args.pass.now.view c.requires.may c.loop.at
+        c.loop.pass.view c.retake_on.new.pass.view c.loop.invariant.stands w.in-At.to
+        (subst (λ n. TakesPart c.args.floor.now.description c.args.l c.args.mode c.loop.at n c.loop.pass.view
+        c.retake_on.new.pass.view) w.in-At.is c.retake_on.ensures.on))
+    | in-Wake w ↦ subst (λ a. RetakesSince c.args.floor.now.description c.args.l c.args.mode c.args.pass.now.view a
+        c.retake_on.new.pass.view) (sym w.at-is)
+        (retakes_on c.args.floor.now.description c.args.l c.args.mode c.args.pass.now.view c.requires.may c.loop.at
+        c.loop.pass.view c.retake_on.new.pass.view c.loop.invariant.stands w.in-Wake.to
+        (subst (λ n. TakesPart c.args.floor.now.description c.args.l c.args.mode c.loop.at n c.loop.pass.view
+        c.retake_on.new.pass.view) w.in-Wake.is c.retake_on.ensures.on).on)
+  ];
 }

@@ -1,4 +1,4 @@
-use Rattle.lock_calls.proofs.Driven.{locked_at_once, stands_begun, begins_on, locked, stands_on, stands_asleep, wakes_nobody, was_refused, was_halted}
+use Rattle.lock_calls.proofs.Driven.{locked_at_once, stands_begun, begins_on, locked, stands_on, stands_asleep, halts_low, stands_waking, was_refused, was_halted}
 use Rattle.lock_calls.proofs.Refused.{bare_admitted}
 use Rattle.lock_calls.proofs.waiting.take_or_halt.Goals as goal
 
@@ -58,8 +58,8 @@ loop-preserved-in-Again-go_on_taking g c = record {
       c.in-Again-go_on_taking.is;
 }
 
-pub loop-preserved : goal.loop-preserved
-loop-preserved g c = record {
+pub loop-preserved-in-Sleep-go_on_taking : goal.loop-preserved-in-Sleep-go_on_taking
+loop-preserved-in-Sleep-go_on_taking g c = record {
   own = c.go_on_taking.ensures.own;
   stands = stands_asleep c.args.floor.now.description c.args.l c.args.mode c.args.pass.now.view c.loop.pass
       c.loop.invariant.stands
@@ -68,13 +68,23 @@ loop-preserved g c = record {
       c.in-Sleep-go_on_taking.is;
 }
 
-pub unreachable-requires-in-Wake : goal.unreachable-requires-in-Wake
-unreachable-requires-in-Wake g c =
-    wakes_nobody c.args.floor.now.description c.args.l c.args.mode c.args.pass.now.view c.loop.pass
+pub unpark-requires : goal.unpark-requires
+unpark-requires g c =
+    halts_low c.args.floor.now.description c.args.l c.args.mode c.args.pass.now.view c.loop.pass
     c.loop.invariant.stands
     c.go_on_taking.result c.go_on_taking.new.pass
     (c.go_on_taking.ensures.went c.args.l c.args.mode c.loop.invariant.stands.0 c.loop.invariant.stands.1)
-    c.in-Wake.field-0 c.in-Wake.is
+    c.in-Wake.t c.in-Wake.is
+
+pub loop-preserved : goal.loop-preserved
+loop-preserved g c = record {
+  own = c.go_on_taking.ensures.own;
+  stands = stands_waking c.args.floor.now.description c.args.l c.args.mode c.args.pass.now.view c.loop.pass
+      c.loop.invariant.stands
+      c.go_on_taking.result c.go_on_taking.new.pass
+      (c.go_on_taking.ensures.went c.args.l c.args.mode c.loop.invariant.stands.0 c.loop.invariant.stands.1)
+      c.in-Wake.t c.in-Wake.is;
+}
 
 pub returns-in-Reversed : goal.returns-in-Reversed
 returns-in-Reversed g c =

@@ -1,4 +1,4 @@
-use Rattle.std.proofs.Common.{◌≡◌, ℕ, ◌<◌, false, None, Option, List, length, map, cond, refl, sym, ap, ◌∙◌, subst}
+use Rattle.std.proofs.Common.{◌≡◌, ℕ, ◌<◌, arith, None, Option, List, length, map, cond, sym, ap, ◌∙◌, subst}
 use Rattle.std.specs.List.{list_any}
 use Rattle.std.specs.Mem.Slots.{slots_items}
 use Rattle.floor_table.specs.declared.description.Description.{Description}
@@ -17,6 +17,13 @@ use Rattle.lock_floor.proofs.closing.FloorOf+Slot+View+Description+Law.close.Goa
 count : (kept key : Description) (threads : List ThreadPart) → kept ≡ key → threads ≡ kept.threads
     → length threads ≡ length key.threads
 count kept key threads same are = ap length (are ∙ ap (λ (d : Description). d.threads) same)
+
+pub was_halted-halted-requires-clause-words : goal.was_halted-halted-requires-clause-words
+was_halted-halted-requires-clause-words c =
+    omega (arith, c.close_with-closed.ensures.counts.0, c.self.invariant.words)
+
+pub was_halted-halted-requires-clause-full : goal.was_halted-halted-requires-clause-full
+was_halted-halted-requires-clause-full c = c.close_with-closed.ensures.values.0
 
 pub take_records-requires-clause-records : goal.take_records-requires-clause-records
 take_records-requires-clause-records c t low =
@@ -60,7 +67,7 @@ returns-clause-closing c =
       recs = c.take_records.new.recs;
       logs = c.keeper.inside.logs;
       tables = c.take_cells.new.tables;
-      halted = false;
+      halted = c.was_halted-halted.result;
     } in
     let column : ℕ → ℕ → Option ℕ = (left key v _ _ final all).table in
     let values = c.take_cells.ensures.values column out in
@@ -73,5 +80,5 @@ returns-clause-closing c =
       values = λ l k. values l k ∙ ap (λ ks. cond (list_any (is_cell l k) ks) (column l k) None) keys;
       none_taken = c.keeper.invariant.none_taken;
       none_held = c.keeper.invariant.none_held;
-      going = refl;
+      halted = c.was_halted-halted.ensures;
     })

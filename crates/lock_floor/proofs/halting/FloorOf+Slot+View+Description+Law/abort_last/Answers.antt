@@ -55,8 +55,8 @@ returns-clause-own c = record {
   table = c.take_sleeper-woken.ensures.own ∙ c.hide.ensures.own
       ∙ ap (λ (p : Pass Knowledge). p.table) c.pass.view_is ∙ c.requires.own.table;
   description = ap (λ (w : Knowledge). w.description)
-      (call_view c.self.inside.board.shared.key c.pass.inside.seat.me c.hide.new.seat.me c.args.l.0 c.args.side c.args.t.0
-      c.hide.ensures.told.1 c.chain_slot-at.result
+      (call_view c.self.inside.board.shared.key c.pass.inside.seat.me c.hide.new.seat.me c.args.l.0 c.args.side
+      c.args.t.0 c.hide.ensures.told.1 c.chain_slot-at.result
       (c.chain_slot-at.ensures.place ∙ place_inside _ _ _ _ c.self.view_is c.pass.view_is c.args.l.0)
       c.pass.invariant.out c.take_sleeper-woken.new.seat.me c.take_sleeper-woken.result
       c.take_sleeper-woken.ensures.view c.take_sleeper-woken.ensures.out)
@@ -66,10 +66,10 @@ returns-clause-own c = record {
 
 pub returns-clause-aborts : goal.returns-clause-aborts
 returns-clause-aborts c =
-    subst (λ (z : Floor Description × Pass Knowledge). AbortsLast z.0.description c.args.l.0 c.args.side c.args.t.0 z.1.view
-    c.take_sleeper-woken.new.seat.me.0) (λ i. (c.self.view_is i, c.pass.view_is i))
-    (call_aborts c.self.inside.board.shared.key c.pass.inside.seat.me c.hide.new.seat.me c.args.l.0 c.args.side c.args.t.0
-    c.hide.ensures.told.1 c.chain_slot-at.result
+    subst (λ (z : Floor Description × Pass Knowledge). AbortsLast z.0.description c.args.l.0 c.args.side c.args.t.0
+    z.1.view c.take_sleeper-woken.new.seat.me.0) (λ i. (c.self.view_is i, c.pass.view_is i))
+    (call_aborts c.self.inside.board.shared.key c.pass.inside.seat.me c.hide.new.seat.me c.args.l.0 c.args.side
+    c.args.t.0 c.hide.ensures.told.1 c.chain_slot-at.result
     (c.chain_slot-at.ensures.place ∙ place_inside _ _ _ _ c.self.view_is c.pass.view_is c.args.l.0)
     c.pass.invariant.out c.take_sleeper-woken.new.seat.me c.take_sleeper-woken.result
     c.take_sleeper-woken.ensures.view c.take_sleeper-woken.ensures.out)
