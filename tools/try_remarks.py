@@ -2,8 +2,8 @@
 """Holds what `lockrun step` and `lockrun run`, in turn, say of refused takes and of stuck runs to the script and to the
 text that they print, on random scripts: that a line is the operation that is named, that an entry is that operation's,
 that a lock was held then, and that the orders lead from the wanted lock's class to that of the held one, each asked for
-before the refusal, as far as entries tell. And of faulty scripts, made of the examples by random changes, that something
-is said of each, in lines that are few and short. It needs Python 3.8 or later.
+before the refusal, as far as entries tell. And of faulty scripts, made of the examples by random changes, that
+something is said of each, in lines that are few and short. It needs Python 3.8 or later.
 
     tools/try_remarks.py PROGRAM COUNT [SEED]
 
