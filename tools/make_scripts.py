@@ -6,9 +6,9 @@ and no take is refused. With --any-order some takes are of any lock that the thr
 class: then takes are refused, and still no run gets stuck. With --shared some locks are reader-writer locks, and no run
 gets stuck either. With --waits some locks are sx locks, and threads sleep on condition variables and channels and wake
 each other: then runs get stuck, as they meet. With --small there are 2 or 3 threads with few operations, so that all
-orders can be gone through in which these may come (ends_of_run.py).
+orders can be gone through in which these may come (ends_of_run.py), with --middle 2 to 8 with 10 to 200.
 
-    make_scripts.py [--any-order] [--shared] [--waits] [--small] [--program PATH] N SEED DIR
+    make_scripts.py [--any-order] [--shared] [--waits] [--small] [--middle] [--program PATH] N SEED DIR
 
 writes DIR/0000.script and so on, the same for the same N and SEED. Each is read by scripts.py, and with --program by
 `PATH check` too, which must say the same counts. Status 1 where one isn't accepted.
@@ -228,7 +228,7 @@ def sort_of(draw, style, waits):
     return "rw" if style.shared and draw.random() < style.shared else "mutex"
 
 
-def make_script(seed, number, any_order=False, shared=False, waits=False, small=False):
+def make_script(seed, number, any_order=False, shared=False, waits=False, small=False, middle=False):
     draw = random.Random(f"{seed} {number}")
     threads = draw.choice((2, 2, 3, 4, 4, 6, 8, 12, 16, 24, 32))
     locks = draw.choice((1, 1, 2, 3, 4, 6, 8))
@@ -236,6 +236,8 @@ def make_script(seed, number, any_order=False, shared=False, waits=False, small=
     most = int(min(MOST_OPERATIONS / threads, 4 * 300 ** draw.random() if draw.random() < 0.97 else MOST_OPERATIONS))
     if small:
         threads, locks, most = draw.choice((2, 2, 3)), min(locks, 2), draw.randrange(6, 20)
+    elif middle:
+        threads, most = min(threads, 8), draw.randrange(20, 201)
     style = Style(draw, any_order, shared, waits)
     sorts = [sort_of(draw, style, waits) for _ in range(locks)]
     channels = [Channel(draw.choice(list(SLEEPS)), n, draw.randrange(locks))
@@ -300,6 +302,7 @@ def main():
     words.add_argument("--shared", action="store_true", help="some locks are reader-writer locks")
     words.add_argument("--waits", action="store_true", help="threads sleep and wake, and some locks are sx locks")
     words.add_argument("--small", action="store_true", help="there are 2 or 3 threads with few operations")
+    words.add_argument("--middle", action="store_true", help="there are 2 to 8 with 10 to 200 operations")
     words.add_argument("--program", help="a lockrun, whose check must accept each script")
     words.add_argument("count", type=int)
     words.add_argument("seed")
@@ -307,7 +310,8 @@ def main():
     given = words.parse_args()
     given.folder.mkdir(parents=True, exist_ok=True)
     for number in range(given.count):
-        source = make_script(given.seed, number, given.any_order, given.shared, given.waits, given.small)
+        source = make_script(given.seed, number, given.any_order, given.shared, given.waits, given.small,
+                             given.middle)
         file = given.folder / f"{number:04}.script"
         file.write_bytes(source)
         reason = judge(source, given.program, given.any_order)

@@ -20,6 +20,7 @@ CASES = {
     "producer": {("ok", ((0, 1, 7), (0, 2, 1))), ("stuck", ((0, 1, 7), (0, 2, 1)))},
     # each tells the other by a lock how far it is
     "handover": {("ok", ((0, 1, 7),))},
+    "handover_to_two": {("ok", ((0, 1, 7),))},
     # whoever asks second in the other order is refused, and the thread alone is
     "alone_in_both_orders": {("reversed", ())},
     "reversal": {("reversed", ())},

@@ -2,14 +2,14 @@
 """Refuses each allocation of a program in turn, alone and with all behind it, and each start of a thread, and judges
 what the program then answers. It needs Python 3.9 or later, the system's C compiler, and Linux with glibc.
 
-    tools/try_memory.py [--jobs N] [--most N] PROGRAM SCRIPT ..
+    tools/try_memory.py [--jobs N] [--first N] [--seconds N] [--command COMMAND] PROGRAM SCRIPT ..
 
-PROGRAM is a lockrun; each script is given to `check`, `step` and `run`. Where an allocation was refused, either the
-status is 4, no text is printed, and what standard error has is about memory; or text and status are those of a run to
-which nothing was refused, and standard error has no line that such a run's hasn't. Of `run`, whose texts differ,
-another text is held to the law of a history by check_history.py, and the status is that of its last word. A run that
-takes more than 60 seconds hangs. --most says how many allocations of a script and command are refused (all): where
-there are more, about so many are taken at even distances. For each script and command a line tells how many allocations
+PROGRAM is a lockrun; each script is given to `check`, `step` and `run`, or to one of these. Where an allocation was
+refused, either the status is 4, no text is printed, and what standard error has is about memory; or text and status are
+those of a run to which nothing was refused, and standard error has no line that such a run's hasn't. Of `run`, whose
+texts differ, another text is held to the law of a history by check_history.py, and the status is that of its last word.
+A run that takes more than --seconds (60) hangs. With --first each of the first N allocations of a script and command is
+refused, and of those behind them each tenth; else each. For each script and command a line tells how many allocations
 and threads are asked for, how often some were refused, and how many of these runs ended with status 4, how many with a
 text, and how many wrongly; each wrong one has a line of its own, and the status is 1 then.
 """
@@ -26,7 +26,6 @@ from check_history import check
 from texts import Refusal
 
 STATUSES = {b"ok": 0, b"stuck": 5, b"reversed": 6, b"toolong": 7}
-MOST_SECONDS = 60
 NO_MEMORY = 4
 
 
@@ -44,14 +43,14 @@ class Ended(NamedTuple):
     most_resident: int = 0
 
 
-def run(library, program, command, source, what="", first=1, last=0):
+def run(given, library, command, source, what="", first=1, last=0):
     """None where it hung."""
     told, tell = os.pipe()
     words = dict(os.environ, LD_PRELOAD=library, REFUSED=what, FIRST=str(first), LAST=str(last), TOLD=str(tell))
     with open(told, "rb") as told:
         try:
-            ended = subprocess.run([program, command], input=source, capture_output=True, env=words,
-                                   pass_fds=[tell], timeout=MOST_SECONDS)
+            ended = subprocess.run([given.program, command], input=source, capture_output=True, env=words,
+                                   pass_fds=[tell], timeout=given.seconds)
         except subprocess.TimeoutExpired:
             return None
         finally:
@@ -90,26 +89,25 @@ def wrong(source, command, plain, ended):
     return f"standard error has {min(more)!r}" if more else ""
 
 
-def tries(plain, most):
+def tries(plain, first):
     """What is refused in turn: what, from which on and up to which."""
-    step = 1 if most is None else max(1, plain.allocations // most)
-    each = list(range(1, plain.allocations + 1, step))
+    each = [n for n in range(1, plain.allocations + 1) if first is None or n <= first or n % 10 == 0]
     yield from (("allocation", n, n) for n in each)
     yield from (("allocation", n, 10**9) for n in each)
     yield from (("thread", n, n) for n in range(1, plain.threads + 1))
     yield from (("thread", n, 10**9) for n in range(1, plain.threads + 1))
 
 
-def try_script(library, program, path, command, jobs, most):
+def try_script(given, library, path, command):
     """Whether all answers are right."""
     source = path.read_bytes()
-    plain = run(library, program, command, source)
+    plain = run(given, library, command, source)
     if plain is None:
         print(f"{path.name} {command}: hung without a refusal")
         return False
-    todo = list(tries(plain, most))
-    with ThreadPoolExecutor(jobs) as pool:
-        answers = list(pool.map(lambda what: run(library, program, command, source, *what), todo))
+    todo = list(tries(plain, given.first))
+    with ThreadPoolExecutor(given.jobs) as pool:
+        answers = list(pool.map(lambda what: run(given, library, command, source, *what), todo))
     refused = [(what, ended) for what, ended in zip(todo, answers)
                if ended is None or ended.refused or ended.status < 0]
     faults = [(what, wrong(source, command, plain, ended)) for what, ended in refused]
@@ -126,19 +124,20 @@ def try_script(library, program, path, command, jobs, most):
 def main():
     words = argparse.ArgumentParser(description="Refuses each allocation in turn, and judges the answers.")
     words.add_argument("--jobs", type=int, default=2)
-    words.add_argument("--most", type=int)
-    words.add_argument("program")
+    words.add_argument("--first", type=int)
+    words.add_argument("--seconds", type=int, default=60)
+    words.add_argument("--command", action="append", choices=("check", "step", "run"))
+    words.add_argument("program", type=os.path.realpath)
     words.add_argument("script", nargs="+", type=Path)
     given = words.parse_args()
-    program = os.path.realpath(given.program)
-    if not os.access(program, os.X_OK):
+    if not os.access(given.program, os.X_OK):
         words.error(f"{given.program} is no program")
     with tempfile.TemporaryDirectory() as room:
         library = f"{room}/watch.so"
         compiler, watch = os.environ.get("CC", "cc"), Path(__file__).with_name("watch_memory.c")
         subprocess.run([compiler, "-O2", "-shared", "-fPIC", "-o", library, watch, "-ldl"], check=True)
-        right = [try_script(library, program, path, command, given.jobs, given.most)
-                 for path in given.script for command in ("check", "step", "run")]
+        right = [try_script(given, library, path, command)
+                 for path in given.script for command in given.command or ("check", "step", "run")]
     return 0 if all(right) else 1
 
 

@@ -4,6 +4,7 @@ pub mod Bits
 pub mod Woken
 pub mod HeldLocks
 pub mod LyingDown
-pub mod SleptThrough
 pub mod Back
 pub mod Waited
+pub mod Places
+pub mod WaitParts

@@ -1,3 +1,4 @@
 pub mod Wakes
 pub mod Waits
 pub mod Sleeping
+pub mod Parts

@@ -1,5 +1,4 @@
--- What a thread knows in the middle of a wait: when it lies down on a channel's queue, sleeps there, runs again, and
--- has its lock back.
+-- What a thread knows in the middle of a wait: when it lies down on a channel's queue, and when it has its lock back.
 use Rattle.std.specs.Prelude.{◌≡◌, ◌≢◌, ℕ, ◌<◌, ◌≤◌, true, false, List, [], ◌∷◌, length, Some, None}
 use Rattle.lock_model.specs.Config.{Config}
 use Rattle.lock_model.specs.History.{open_in, left_in}
@@ -9,7 +8,7 @@ use Rattle.lock_model.specs.Queues.{Cause, BySignal, ByAbort, chan_queue}
 use Rattle.lock_model.specs.declared.event.Event.TheVariants.{Sleeps}
 use Rattle.lock_model.specs.declared.numbers.ChanNo.{ChanNo}
 use Rattle.lock_state.specs.State.{HeldLock, SleepHalted, gained_order}
-use Rattle.lock_state.specs.Steps.{Stamps, Resumes}
+use Rattle.lock_state.specs.Steps.{Stamps}
 use Rattle.lock_state.specs.Steps.LockWords.{is_taking_back}
 use Rattle.floor_table.specs.Descriptions.{config_in}
 use Rattle.floor_table.specs.Shares.{Doing, is_among}
@@ -18,11 +17,9 @@ use Rattle.floor_table.specs.Views.{Knowledge, Runs, StandsOn, seeing}
 use Rattle.floor_table.specs.declared.description.Description.{Description}
 use Rattle.lock_floor.specs.Passes.{IsAtRest, MakesEntry}
 use Rattle.lock_floor.specs.Relocks.{IsUnburdened}
-use Rattle.lock_floor.specs.Resumes.{resumed}
 use Rattle.lock_floor.specs.Sleeps.{HasSleeperOut}
 use Rattle.lock_floor.specs.Views.{entry_by, stamped}
-use Rattle.halting.specs.Halts.{CountsItselfOut, HasHalted}
-use Rattle.cond_vars.specs.Waits.{lock_of, lies_there, lies_down, ended_by}
+use Rattle.cond_vars.specs.Waits.{lock_of, lies_there, ended_by}
 
 -- 1. It lies down
 
@@ -61,37 +58,7 @@ pub record LiesThere (floor : Description) (d : ChanNo) (old new : Knowledge) : 
   pub view : new ≡ seeing new.seen (asleep (config_in floor) old ticket d)
   pub entry : MakesEntry floor (Sleeps d) old.share.held old new
 
--- and so where it took both out before
-pub record LiesDown (floor : Description) (d : ChanNo) (old new : Knowledge) : Type 0 where
-  pub own : ℕ
-  pub ticket : ℕ
-  pub steps : MakesEach floor (lies_down floor old.thread d own) old new
-  pub view : new ≡ seeing new.seen (asleep (config_in floor) old ticket d)
-  pub entry : MakesEntry floor (Sleeps d) old.share.held old new
-
--- 2. It sleeps
-
--- The thread stands on the channel's queue and has released the lock of its wait: it has nothing else to do and is in
--- no round, and its newest entry is that of the sleep
-pub record HasLeftLock (floor : Description) (d : ChanNo) (v : Knowledge) : Type 0 where
-  pub stands : v.pose ≡ StandsOn (chan_queue d.0)
-  pub unburdened : IsUnburdened v
-  pub no_round : v.share.doing.round ≡ None
-  pub unheld : hold_in v.share.held (lock_of floor d.0) ≡ NotHeld
-  pub slept : is_taking_back v.share.log ≡ true
-
--- It counted itself out, and halted others where that left nobody awake; and once it was woken by that cause, it ran
--- again
-pub record SleepsThrough (floor : Description) (d : ChanNo) (cause : Cause) (old new : Knowledge) :
-    Type 0 where
-  pub parked : Knowledge
-  pub counts : CountsItselfOut floor old parked
-  pub halted : HasHalted floor old parked
-  pub resumes : Makes floor (Resumes old.thread (chan_queue d.0) cause ∷ []) parked new
-  pub view : new ≡ seeing new.seen
-      (resumed (config_in floor) parked (chan_queue d.0) cause)
-
--- 3. It has its lock back
+-- 2. It has its lock back
 
 -- The thread holds the lock of its wait again, in the mode in which it slept with it: that is to be noted, and by which
 -- cause its sleep ended. But for that it is at rest

@@ -9,18 +9,21 @@
 //!
 //! - `waking`: how sleepers are taken off and woken, part by part, and no part waits; and `signals`: the calls that do
 //!   it at once.
-//! - `waits`: the calls that wait, and `sleeping`: their parts.
+//! - `parts`: how a thread waits, part by part, and no part waits, with `sleeping`; and `waits`: the calls that do it
+//!   at once.
 //!
 //! A thread that waits counts itself out before it sleeps, and halts others where that left nobody awake (`halting`).
 //!
 //! Each call needs a pass at rest and leaves it at rest, and tells which atomic steps it made. No call takes memory.
 #![tactic(auto)]
 
+mod parts;
 mod signals;
 mod sleeping;
 mod waits;
 mod waking;
 
+pub use parts::{WaitAt, WaitNext, go_on_waiting};
 pub use signals::{cv_broadcast, cv_signal, wakeup, wakeup_one};
 pub use waits::{cv_wait, msleep};
 pub use waking::{WakeNext, begin_wakeup, go_on_waking};

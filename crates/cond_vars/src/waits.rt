@@ -7,7 +7,9 @@ ghost use Rattle.lock_floor.specs.Passes.{IsReady};
 ghost use Rattle.lock_model.specs.Queues.{BySignal, ByAbort};
 ghost use Rattle.cond_vars.specs.Waits.{MayWait, Waits, lock_of};
 
-use crate::sleeping::{fall_asleep, last_held, mode_of, note_end, sleep_through};
+use crate::parts::{WaitAt, WaitNext, go_on_waiting};
+use crate::sleeping::{last_held, mode_of};
+use crossbeam_utils::Backoff;
 use lock_floor::{Floor, Pass, Relock};
 use lock_model::{ChanNo, Halted};
 use std::sync::Wait;
@@ -37,12 +39,40 @@ pub fn cv_wait<K: Relock, R: Wait>(
 {
     let l = last_held(floor, pass, c);
     let mode = mode_of(floor, pass, c, l);
-    fall_asleep(floor, rt, pass, c);
-    how.release(floor, rt, pass, l);
-    let aborted = sleep_through(floor, rt, pass, c);
-    how.retake(floor, rt, pass, l, mode);
-    note_end(floor, pass, c, aborted);
-    if aborted { Err(Halted) } else { Ok(()) }
+    let backoff = Backoff::new();
+    let mut at = WaitAt::ComesTo;
+    for _ in rt.forever() {
+        match go_on_waiting(floor, pass, c, at) {
+            WaitNext::Done => return Ok(()),
+            WaitNext::Halted => return Err(Halted),
+            WaitNext::Again(to) => {
+                // where another thread has what it needs, it spins for a while, and then lets the system run that one
+                if to == at {
+                    backoff.snooze();
+                } else {
+                    backoff.reset();
+                }
+                at = to;
+            }
+            WaitNext::Sleep => {
+                floor.sleep(rt, pass);
+                at = WaitAt::Sleeps;
+            }
+            WaitNext::Wake(t, to) => {
+                floor.unpark(t);
+                at = to;
+            }
+            WaitNext::Release => {
+                how.release(floor, rt, pass, l);
+                at = WaitAt::Parks;
+            }
+            WaitNext::TakeBack(aborted) => {
+                how.retake(floor, rt, pass, l, mode);
+                at = WaitAt::Notes(aborted);
+            }
+        }
+    }
+    unreachable!()
 }
 
 /// Sleeps on a channel, with the lock that belongs to it. It goes as `cv_wait`. FreeBSD's msleep takes a mutex, and has

@@ -4,6 +4,8 @@ ghost use Rattle.std.specs.Prelude.{◌≡◌, ℕ, ◌<◌, [], length, slice_g
 ghost use Rattle.lock_model.specs.Operations.{IsProper};
 ghost use Rattle.lock_model.specs.Plans.{operations_of};
 ghost use Rattle.floor_table.specs.Descriptions.{IsFor};
+ghost use Rattle.floor_table.specs.Views.{Knowledge};
+ghost use Rattle.halting.specs.Ends.{EndsItself};
 ghost use Rattle.lock_floor.specs.Passes.{IsReady, IsFinished, first_pass};
 ghost use Rattle.floor_run.specs.Progress.{IsBefore, IsCut};
 ghost use Rattle.floor_run.specs.Workers.{IsWhole};
@@ -33,6 +35,7 @@ pub fn work<R: Wait, G: Gate>(rt: &R, floor: &Floor, pass: &mut Pass, plan: &Pla
     ensures unheld { pass.new.view.share.held ≡ [] }
     ensures whole { IsWhole plan.now floor.now.description pass.new.view.thread
         pass.new.view.share.log }
+    ensures ends { (before : Knowledge) × EndsItself floor.now.description before pass.new.view }
 {
     operate_all(rt, floor, pass, plan, gate);
     halting::end_thread(floor, rt, pass);

@@ -133,7 +133,7 @@ made floor steps b behind v w h role may own views r =
         sound = sound_kept floor h.state steps may h.sound;
         represents = r;
         seen = subst (λ vs. AreSeen vs (past_with h.past steps)) (sym views)
-            (seen_stepped b.views v.thread v w h.past steps h.there low own.seen own.makers h.seen);
+            (seen_stepped b.views v.thread v w h.past steps h.there low own.seen own.role own.makers h.seen);
       },
       record {
         role = role;
@@ -255,11 +255,15 @@ module _ (floor : Description) (steps : List Step) (b : Board) (v w : Knowledge)
   -- how many threads are awake,
   pub awake_made : (x : ℕ) → words_in n ≡ record (words_in s) { awake = x } → SameRest s n → w.spare ≡ v.spare
       → w.out ≡ v.out
-      → FloorHolds floor (stepped b (spot awake_line) x (suc v.thread) cs w keeps) × Makes floor steps v w
-  awake_made x columns =
+      → FloorHolds floor (stepped b (spot awake_line) x (suc v.thread) cs w keeps)
+      × (m : Makes floor steps v w) × (m.state ≡ h.state)
+  unfolding count_made made
+  awake_made x columns rest spares out =
       let z = h.represents.sizes in
-      count_made awake_line x (record (words_in s) { awake = x }) (omega arith) refl
-      (awake_written floor z.sized b.words (words_in s) h.represents.words x (omega (arith, z.words))) columns
+      let done = count_made awake_line x (record (words_in s) { awake = x }) (omega arith) refl
+      (awake_written floor z.sized b.words (words_in s) h.represents.words x (omega (arith, z.words))) columns rest
+      spares out in
+      (done.0, done.1, refl)
 
   -- how many have ended,
   pub ended_made : (x : ℕ) → words_in n ≡ record (words_in s) { ended = x } → SameRest s n → w.spare ≡ v.spare

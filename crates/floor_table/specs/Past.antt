@@ -1,5 +1,5 @@
 -- The steps that the threads of a floor have made, the newest first, and how far back a seat has seen them.
-use Rattle.std.specs.Prelude.{◌≡◌, ◌≢◌, ℕ, ◌≤◌, List, [], ◌∷◌, ◌++◌}
+use Rattle.std.specs.Prelude.{◌≡◌, ◌≢◌, ℕ, ◌<◌, ◌≤◌, List, [], ◌∷◌, ◌++◌}
 use Rattle.std.specs.List.{All}
 use Rattle.lock_state.specs.State.{State, start_state}
 use Rattle.lock_state.specs.Steps.{Step, after, FitsFloor, KeepsToOrder, KeepsCount, maker}
@@ -43,9 +43,13 @@ pub record IsSeenBy (t : ℕ) (seen past : List Step) : Type 0 where
   pub is : past ≡ later ++ seen
   pub of_others : AreOfOthers t later
 
--- What seats have seen is of the one list of all steps. A thread whose pass isn't made yet has made none.
+-- What seats have seen is of the one list of all steps: a thread's seat has seen all up to that thread's last one, and
+-- the keeper's all up to the last one of each thread whose pass it took in. A thread whose pass isn't made yet has made
+-- none.
 pub record AreSeen (views : List Knowledge) (past : List Step) : Type 0 where
   pub keeper : IsSeen (keeper_in views).seen past
   pub thread : (t : ℕ) → (thread_in views t).role ≡ OfThread
       → IsSeenBy t (thread_in views t).seen past
+  pub taken_in : (t : ℕ) → t < (keeper_in views).made → (thread_in views t).role ≢ OfThread
+      → IsSeenBy t (keeper_in views).seen past
   pub unmade : (t : ℕ) → (keeper_in views).made ≤ t → AreOfOthers t past

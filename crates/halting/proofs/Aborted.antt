@@ -30,7 +30,7 @@ use Rattle.floor_table.proofs.Known.{fits_made}
 use Rattle.lock_floor.specs.declared.halting.FirstSleeper.{FirstSleeper}
 use Rattle.lock_floor.specs.declared.queues.HaltAt.TheVariants as at
 use Rattle.lock_floor.specs.Aborts.{AbortsSleeper, IsHaltingOthers, MayAbortSleeper}
-use Rattle.lock_floor.specs.Halting.{AbortsLast, MayAbortLast, NobodySleeps}
+use Rattle.lock_floor.specs.Halting.{AbortsLast, MayAbortLast, NobodySleeps, SleepsFirst}
 use Rattle.lock_floor.specs.Sleeps.{HasSleepersOut}
 use Rattle.lock_floor.specs.Queues.{queue_at}
 use Rattle.lock_floor.specs.Views.{gave}
@@ -39,7 +39,7 @@ use Rattle.lock_floor.proofs.FirstAsleep.{first_last, first_sleeps}
 use Rattle.lock_floor.proofs.MayAbort.{may_abort_sleeper}
 use Rattle.lock_floor.proofs.MayHalt.{halt_seen, may_abort_last}
 use Rattle.lock_floor.proofs.OpenStep.{marked_low}
-use Rattle.halting.specs.Halts.{FindsFirst, HaltsOn, HasQueueOut, HasTakenOff, IsAside, IsHalter, Kept, TakesOff, aborts, kept_of}
+use Rattle.halting.specs.Halts.{FindsFirst, HaltsOn, HasQueueOut, HasTakenOff, IsAside, IsFirstOf, IsHalter, Kept, TakesOff, aborts, kept_of}
 use Rattle.halting.proofs.Coming.{goes_on, may_go_on}
 use Rattle.halting.proofs.Finding.{off_the_way}
 
@@ -179,7 +179,8 @@ itself_on Aborting e = absurd cc
 itself_on SelfAborted e = refl
 
 module _ (floor : Description) (over : ℕ) (itself : Bool) (v new : Knowledge) (h : IsHalter floor itself v)
-    (has : HasQueueOut floor over v) (u : ℕ) (off : TakesOff floor has.queue u v new) where
+    (has : HasQueueOut floor over v) (u : ℕ) (first : IsFirstOf floor has.queue u v)
+    (off : TakesOff floor has.queue u v new) where
   abbrev taken : HasTakenOff floor has.queue new
   taken = (taken_off floor has.queue off.side u v new off.step).0
 
@@ -209,7 +210,9 @@ module _ (floor : Description) (over : ℕ) (itself : Bool) (v new : Knowledge) 
       ),
     );
     kept = off.kept;
-    leg = aborts over itself has.queue off.side taken.mark has.there taken.marked
+    leg = aborts over itself has.queue off.side taken.mark has.there
+        (subst (λ n. IsFirstOf floor has.queue n v) (sym (taken_off floor has.queue off.side u v new off.step).1) first)
+        taken.marked
         (subst (λ n. Makes floor (Aborts v.thread has.queue off.side n ∷ []) v new)
         (sym (taken_off floor has.queue off.side u v new off.step).1) off.step);
   }
@@ -241,10 +244,25 @@ module _ (floor : Description) (over : ℕ) (itself : Bool) (v : Knowledge) (h :
       (GivesItem z.0.thread (its_chain floor z.1) ∷ [])) (λ i. (sym same i, its_queue i))
       (may_go_on floor over itself v h has unmarked)
 
-  pub told_aborts : (u : ℕ) (new : Knowledge) → TakesOff floor q u w new
+  its_out : v.out ≡ (chain_place floor q, SleepQueues has.chain) ∷ rest v.out
+  its_out = has.out ∙ (λ i. (chain_place floor (its_queue i), SleepQueues has.chain) ∷ rest (sym has.out i))
+
+  pub told_aborts : (x : FirstSleeper) → ((chain : List (QueueName × SleepQueue))
+      → v.out ≡ (chain_place floor q, SleepQueues chain) ∷ rest v.out → SleepsFirst q x chain)
+      → (new : Knowledge) → TakesOff floor q x.thread.0 w new
       → HaltsOn floor (at.Aborts over itself) (at.Wakes over itself) v new
-  told_aborts u new off = aborts_one floor over itself v new h has u
-      (subst (λ (z : Knowledge × QueueName). TakesOff floor z.1 u z.0 new) (λ i. (same i, sym its_queue i)) off)
+  told_aborts x first new off = aborts_one floor over itself v new h has x.thread.0 (
+    x,
+    record {
+      sleeps = has.sleeps;
+      chain = has.chain;
+      out = has.out;
+      first = subst (λ r. SleepsFirst r x has.chain) (sym its_queue) (first has.chain its_out);
+    },
+    refl,
+  )
+      (subst (λ (z : Knowledge × QueueName). TakesOff floor z.1 x.thread.0 z.0 new)
+      (λ i. (same i, sym its_queue i)) off)
 
   pub told_gives : ((chain : List (QueueName × SleepQueue))
       → v.out ≡ (chain_place floor q, SleepQueues chain) ∷ rest v.out → NobodySleeps q chain)
@@ -252,10 +270,8 @@ module _ (floor : Description) (over : ℕ) (itself : Bool) (v : Knowledge) (h :
       → Makes floor (GivesItem w.thread (its_chain floor q) ∷ []) w new
       → HaltsOn floor (at.Aborts over itself) (at.Comes (over + 1) itself) v new
   told_gives nobody new view step =
-      let out : v.out ≡ (chain_place floor q, SleepQueues has.chain) ∷ rest v.out =
-      has.out ∙ (λ i. (chain_place floor (its_queue i), SleepQueues has.chain) ∷ rest (sym has.out i)) in
       goes_on floor over itself v h has unmarked
-      (subst (λ r. NobodySleeps r has.chain) (sym its_queue) (nobody has.chain out)) new
+      (subst (λ r. NobodySleeps r has.chain) (sym its_queue) (nobody has.chain its_out)) new
       (view ∙ (λ i. seeing new.seen (gave (same i) (its_chain floor (sym its_queue i)))))
       (subst (λ (z : Knowledge × QueueName). Makes floor (GivesItem z.0.thread (its_chain floor z.1) ∷ []) z.0 new)
       (λ i. (same i, sym its_queue i)) step)

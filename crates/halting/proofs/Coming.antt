@@ -1,10 +1,10 @@
 -- A halting goes over the queues: it takes the chain of a sleep queue, and gives it back, and counts itself out again
 -- behind the last one.
-use Rattle.std.proofs.Common.{◌≡◌, ◌≢◌, ℕ, ◌+◌, Bool, true, false, cond, Option, Some, None, List, [], ◌∷◌, refl, sym, ap, ◌∙◌, subst, inl, inr}
+use Rattle.std.proofs.Common.{◌≡◌, ◌≢◌, ℕ, ◌+◌, ◌<◌, Bool, true, false, cond, Option, Some, None, List, [], ◌∷◌, length, refl, sym, ap, ◌∙◌, subst, inl, inr}
 use Rattle.std.proofs.lemmas.Bool.{ne_eqb}
 use Rattle.atomic_table.specs.Table.{rest}
 use Rattle.lock_model.specs.Config.{Config}
-use Rattle.lock_model.specs.Queues.{is_turnstile_queue}
+use Rattle.lock_model.specs.Queues.{Mark, is_turnstile_queue}
 use Rattle.lock_model.specs.declared.plan.QueueName.{QueueName}
 use Rattle.lock_model.specs.declared.plan.QueueName.TheVariants.{Lock, Chan}
 use Rattle.lock_state.specs.State.{Round, Asleep, Last, SelfAborted, is_parked}
@@ -19,6 +19,7 @@ use Rattle.floor_table.specs.declared.description.Description.{Description}
 use Rattle.floor_table.specs.declared.slot.Slot.{Slot}
 use Rattle.floor_table.specs.declared.slot.Slot.TheVariants.{Record, Cell, Turnstiles, SleepQueues, Graph}
 use Rattle.lock_floor.specs.declared.counts.Count.TheVariants.{Out}
+use Rattle.lock_floor.specs.declared.queues.HaltAt.{HaltAt}
 use Rattle.lock_floor.specs.declared.queues.HaltAt.TheVariants as at
 use Rattle.lock_floor.specs.Counts.{counted}
 use Rattle.lock_floor.specs.Halting.{NobodySleeps}
@@ -28,13 +29,42 @@ use Rattle.lock_floor.specs.Queues.{queue_at}
 use Rattle.lock_floor.specs.Views.{gave, took}
 use Rattle.lock_floor.specs.Waits.{its_chain, chain_place}
 use Rattle.lock_floor.proofs.AbortStep.{sleep_chain_of}
+use Rattle.lock_floor.proofs.Marked.{head_or}
 use Rattle.lock_floor.proofs.MayHalt.{StandsOrEnded, halt_seen, may_count_out_again, may_give_sleepers, may_take_sleepers}
 use Rattle.lock_floor.proofs.MayWake.{HasLeft, halting_unparked}
 use Rattle.lock_floor.specs.Aborts.{HasSeenHalt}
-use Rattle.halting.specs.Halts.{EndsHalting, HaltEnd, HaltLeg, HaltsOn, HasLetGo, HasQueueOut, IsAside, IsHalter, IsOut, Kept, aborted_itself, finds_out, gives_chain, is_last, kept_of, others_awake, passes, takes_chain}
+use Rattle.halting.specs.Halts.{EndsHalting, HaltEnd, HaltLeg, HaltsOn, HasLetGo, HasQueueOut, IsAside, IsAt, IsHalter, IsOut, Kept, WakesNoOther, WakesOther, aborted_itself, all_ended, finds_out, gives_chain, is_last, kept_of, others_awake, passes, takes_chain}
 use Rattle.halting.proofs.Finding.{off_the_way}
 
 -- 1. What stays
+
+-- who had nobody to wake woke no other
+pub wakes_nobody : (v new : Knowledge) → v.share.doing.marked ≡ [] → WakesNoOther v new
+wakes_nobody v new none t w = let z : w.mark ∷ [] ≡ [] = sym w.marked ∙ none in cc
+
+-- nor does who is done with a halting
+pub ends_waking_nobody : (floor : Description) (there : HaltAt) (v new : Knowledge) → IsAt floor there v
+    → HaltEnd floor there v new → WakesNoOther v new
+ends_waking_nobody floor at.Finds v new h end = wakes_nobody v new h.unmarked
+ends_waking_nobody floor (at.Comes over itself) v new h end = wakes_nobody v new h.2
+ends_waking_nobody floor (at.Aborts over itself) v new h end = wakes_nobody v new h.2
+ends_waking_nobody floor (at.Wakes over itself) v new h end = absurd (none_here (at.Wakes over itself) refl end)
+  where
+    none_here : (a : HaltAt) → a ≡ at.Wakes over itself → HaltEnd floor a v new → ⊥
+    none_here a e (all_ended finds view) = let z : at.Finds ≡ at.Wakes over itself = e in cc
+    none_here a e (aborted_itself k none view) = let z : at.Comes k true ≡ at.Wakes over itself = e in cc
+    none_here a e (others_awake k none step asleep) = let z : at.Comes k false ≡ at.Wakes over itself = e in cc
+
+-- and whom it wakes is a thread of the floor
+pub wakes_of_floor : (floor : Description) (there : HaltAt) (v new : Knowledge) (t : ℕ) → IsAt floor there v
+    → WakesOther t v new → t < length floor.threads
+wakes_of_floor floor at.Finds v new t h w = let z : w.mark ∷ [] ≡ [] = sym w.marked ∙ h.unmarked in cc
+wakes_of_floor floor (at.Comes over itself) v new t h w = let z : w.mark ∷ [] ≡ [] = sym w.marked ∙ h.2 in cc
+wakes_of_floor floor (at.Aborts over itself) v new t h w = let z : w.mark ∷ [] ≡ [] = sym w.marked ∙ h.2 in cc
+wakes_of_floor floor (at.Wakes over itself) v new t h w =
+    subst (λ u. u < length floor.threads) w.thread
+    (subst (λ (k : Mark). k.thread < length floor.threads) (ap (head_or w.mark) (sym h.1.1.marked ∙ w.marked))
+    h.1.1.of_floor)
 
 -- a chain of a sleep queue is one of sleep queues
 sleepers_taken : (floor : Description) (q : QueueName) (j : ℕ) (old new : Knowledge)

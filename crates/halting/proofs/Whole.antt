@@ -23,7 +23,7 @@ use Rattle.lock_floor.specs.Marks.{wakes}
 use Rattle.lock_floor.specs.Queues.{queue_at}
 use Rattle.lock_floor.specs.Waits.{its_chain}
 use Rattle.lock_floor.proofs.Marked.{head_or}
-use Rattle.halting.specs.Halts.{AbortsEach, Awaits, EndsHalting, HaltEnd, HaltLeg, HaltsOn, HaltsOthers, HasHalted, IsAt, IsLast, Kept, Sweeps, kept_of, wakes_itself}
+use Rattle.halting.specs.Halts.{AbortsEach, Awaits, EndsHalting, HaltEnd, HaltLeg, HaltsOn, HaltsOthers, HasHalted, IsAt, IsFirstOf, IsLast, Kept, Sweeps, kept_of, wakes_itself}
 use Rattle.halting.specs.Halts as whole
 
 -- 1. What is left, to that thread
@@ -129,9 +129,10 @@ module _ (floor : Description) (t : ℕ) (v w new : Knowledge) (its : v.thread �
       }
 
   abort_back : (over : ℕ) (itself : Bool) (q : QueueName) (side : Side) (m : Mark) → queue_at floor over ≡ Some q
-      → w.share.doing.marked ≡ m ∷ [] → Makes floor (Aborts v.thread q side m.thread ∷ []) v w
-      → RestWakes floor t over itself w new → RestAborts floor t over itself v new
-  abort_back over itself q side m is marked takes rest = elim rest.goes [
+      → IsFirstOf floor q m.thread v → w.share.doing.marked ≡ m ∷ []
+      → Makes floor (Aborts v.thread q side m.thread ∷ []) v w → RestWakes floor t over itself w new
+      → RestAborts floor t over itself v new
+  abort_back over itself q side m is first marked takes rest = elim rest.goes [
     | inl other ↦
         let r = other.2 in
         record {
@@ -139,7 +140,8 @@ module _ (floor : Description) (t : ℕ) (v w new : Knowledge) (its : v.thread �
           there = r.there;
           own = r.own;
           left = r.left;
-          each = whole.one_more r.own side rest.mark (its_step r.queue r.there) (λ e. other.0 (e ∙ its))
+          each = whole.one_more r.own side rest.mark (its_first r.queue r.there)
+              (its_step r.queue r.there) (λ e. other.0 (e ∙ its))
               (subst (λ u. MakesEach floor (wakes u rest.mark []) w rest.next) (sym its) other.1) r.each;
           home = r.home;
           gives = r.gives;
@@ -152,7 +154,8 @@ module _ (floor : Description) (t : ℕ) (v w new : Knowledge) (its : v.thread �
           there = r.there;
           own = true;
           left = r.left;
-          each = whole.itself_too r.own side rest.mark (its_step r.queue r.there) (own.0 ∙ sym its)
+          each = whole.itself_too r.own side rest.mark (its_first r.queue r.there)
+              (its_step r.queue r.there) (own.0 ∙ sym its)
               (subst (λ u. MakesEach floor (wakes_itself u rest.mark) w rest.next) (sym its) own.1) r.each;
           home = r.home;
           gives = r.gives;
@@ -160,6 +163,10 @@ module _ (floor : Description) (t : ℕ) (v w new : Knowledge) (its : v.thread �
         }
   ]
     where
+      its_first : (r : QueueName) → queue_at floor over ≡ Some r → IsFirstOf floor r rest.mark.thread v
+      its_first r there = subst (λ (z : QueueName × Mark). IsFirstOf floor z.0 z.1.thread v)
+          (λ i. (one_queue floor over q r is there i, one_mark w m rest.mark marked rest.marked i)) first
+
       -- of that queue it took off the one that is woken
       its_step : (r : QueueName) → queue_at floor over ≡ Some r
           → Makes floor (Aborts v.thread r side rest.mark.thread ∷ []) v w
@@ -229,8 +236,8 @@ module _ (floor : Description) (t : ℕ) (v w new : Knowledge) (its : v.thread �
   }
   back there to (whole.takes_chain over itself q is sleeps takes) rest =
       chain_back over itself q is sleeps takes rest
-  back there to (whole.aborts over itself q side m is marked takes) rest =
-      abort_back over itself q side m is marked takes rest
+  back there to (whole.aborts over itself q side m is first marked takes) rest =
+      abort_back over itself q side m is first marked takes rest
   back there to (whole.wakes_other over itself m marked other steps) rest = record {
     mark = m;
     marked = marked;

@@ -30,7 +30,7 @@ use Rattle.lock_floor.proofs.MarkedRecords.{lacks}
 use Rattle.lock_floor.proofs.MayHalt.{halt_seen, may_give_sleeper, may_take_sleeper}
 use Rattle.lock_floor.proofs.MayWake.{may_count_in, may_mark}
 use Rattle.lock_floor.proofs.Waking.{box_is, first_out, first_then}
-use Rattle.halting.specs.Halts.{HaltsOn, HasQueueOut, HasTakenOff, IsAside, IsAt, IsHalter, Kept, WakesOn, finds_out, kept_of, wakes_other, wakes_own}
+use Rattle.halting.specs.Halts.{HaltsOn, HasQueueOut, HasTakenOff, IsAside, IsAt, IsHalter, Kept, WakesNoOther, WakesOther, finds_out, kept_of, wakes_other, wakes_own}
 use Rattle.halting.proofs.Coming.{halter_waits}
 use Rattle.halting.proofs.Finding.{off_the_way}
 
@@ -387,9 +387,11 @@ module _ (floor : Description) (over : ℕ) (itself : Bool) (v : Knowledge) (h :
   its = is_the_one floor over itself v h has off t some
 
   pub told_stays : (new : Knowledge) → new ≡ seeing new.seen v → FindsOut floor (RecordOf t) v new
-      → HaltsOn floor (at.Wakes over itself) (at.Wakes over itself) v new
-  told_stays new view finds = stays_waking floor over itself v h has off new view
-      (subst (λ n. FindsOut floor (RecordOf n) v new) its finds)
+      → HaltsOn floor (at.Wakes over itself) (at.Wakes over itself) v new × WakesNoOther v new
+  told_stays new view finds =
+      let on = stays_waking floor over itself v h has off new view
+      (subst (λ n. FindsOut floor (RecordOf n) v new) its finds) in
+      (on, λ u w. let z : on.at.1.1.mark ∷ [] ≡ [] = sym on.at.1.1.marked ∙ w.woken in cc)
 
   module _ (a : Knowledge) (taken : Takes floor (RecordOf t) t v a) where
     abbrev its_taken : Takes floor (RecordOf off.mark.thread) off.mark.thread v a
@@ -432,15 +434,14 @@ module _ (floor : Description) (over : ℕ) (itself : Bool) (v : Knowledge) (h :
 
           pub told_wakes : (e : Knowledge) → e ≡ seeing e.seen (gave b (RecordOf t))
               → Makes floor (GivesItem b.thread (RecordOf t) ∷ []) b e
-              → WakesOn floor (at.Wakes over itself) (at.Aborts over itself) t v e
-          told_wakes e view gives = record {
-            on = wakes_it floor over itself v h has off another a its_taken d its_counts its_step b its_marks e
-                (subst (λ k. e ≡ seeing e.seen (gave b (RecordOf k))) its view)
-                (subst (λ k. Makes floor (GivesItem b.thread (RecordOf k) ∷ []) b e) its gives);
-            mark = off.mark;
-            marked = off.marked;
-            thread = sym its;
-          }
+              → HaltsOn floor (at.Wakes over itself) (at.Aborts over itself) v e × WakesOther t v e
+          told_wakes e view gives =
+              let on = wakes_it floor over itself v h has off another a its_taken d its_counts its_step b its_marks e
+              (subst (λ k. e ≡ seeing e.seen (gave b (RecordOf k))) its view)
+              (subst (λ k. Makes floor (GivesItem b.thread (RecordOf k) ∷ []) b e) its gives) in (
+                on,
+                record { mark = off.mark; marked = off.marked; thread = sym its; other = other; woken = on.at.2 },
+              )
 
     -- itself
 
@@ -466,8 +467,11 @@ module _ (floor : Description) (over : ℕ) (itself : Bool) (v : Knowledge) (h :
 
         pub told_wakes_own : (e : Knowledge) → e ≡ seeing e.seen (gave b (RecordOf t))
             → Makes floor (GivesItem b.thread (RecordOf t) ∷ []) b e
-            → HaltsOn floor (at.Wakes over itself) (at.Aborts over true) v e
-        told_wakes_own e view gives =
-            wakes_self floor over itself v h has off its_own_thread a its_taken b own_marks e
-            (subst (λ k. e ≡ seeing e.seen (gave b (RecordOf k))) its view)
-            (subst (λ k. Makes floor (GivesItem b.thread (RecordOf k) ∷ []) b e) its gives)
+            → HaltsOn floor (at.Wakes over itself) (at.Aborts over true) v e × WakesNoOther v e
+        told_wakes_own e view gives = (
+          wakes_self floor over itself v h has off its_own_thread a its_taken b own_marks e
+              (subst (λ k. e ≡ seeing e.seen (gave b (RecordOf k))) its view)
+              (subst (λ k. Makes floor (GivesItem b.thread (RecordOf k) ∷ []) b e) its gives),
+          λ u w. w.other (is_the_one floor over itself v h has off u (w.mark, [], w.marked, w.thread)
+              ∙ its_own_thread),
+        )

@@ -14,7 +14,7 @@ use Rattle.halting.specs.declared.ending.EndAt.{EndAt}
 use Rattle.halting.specs.declared.ending.EndAt.TheVariants.{Takes, Halts}
 use Rattle.halting.specs.declared.ending.EndNext.{EndNext}
 use Rattle.halting.specs.declared.ending.EndNext.TheVariants.{Done, Again, Wake}
-use Rattle.halting.specs.Halts.{CountsItselfOut, HaltEnd, HaltLeg, IsAside, IsAt, Kept, kept_of}
+use Rattle.halting.specs.Halts.{CountsItselfOut, HaltEnd, HaltLeg, IsAside, IsAt, Kept, WakesNoOther, WakesOther, kept_of}
 
 -- its own record is taken, it counts itself among those that have ended, and the record is given back
 abbrev pub ends_by : ℕ → List (List Step)
@@ -84,6 +84,7 @@ pub record EndsThread (floor : Description) (there : EndAt) (old new : Knowledge
 
 abbrev pub GoesOnEnding : Description → EndAt → EndNext → Knowledge → Knowledge → Type 0
 GoesOnEnding floor there Done old new = EndsThread floor there old new
-GoesOnEnding floor there (Again to) old new = EndsOn floor there to old new
+GoesOnEnding floor there (Again to) old new = EndsOn floor there to old new × WakesNoOther old new
 GoesOnEnding floor Takes (Wake t to) old new = ⊥
-GoesOnEnding floor (Halts there) (Wake t to) old new = EndsOn floor (Halts there) to old new
+GoesOnEnding floor (Halts there) (Wake t to) old new =
+    EndsOn floor (Halts there) to old new × WakesOther t.0 old new

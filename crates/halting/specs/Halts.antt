@@ -172,6 +172,18 @@ pub record IsEmptied (floor : Description) (q : QueueName) (v : Knowledge) : Typ
   pub out : v.out ≡ (chain_place floor q, SleepQueues chain) ∷ []
   pub nobody : NobodySleeps q chain
 
+-- the first sleeper of a queue was found in the chain, which is out
+pub record FindsFirst (floor : Description) (q : QueueName) (x : FirstSleeper) (v : Knowledge)
+    : Type 0 where
+  pub sleeps : is_turnstile_queue (config_in floor) q ≡ false
+  pub chain : List (QueueName × SleepQueue)
+  pub out : v.out ≡ (chain_place floor q, SleepQueues chain) ∷ []
+  pub first : SleepsFirst q x chain
+
+-- that thread is this sleeper: the first on the exclusive side, or where nobody sleeps there, on the shared one
+abbrev pub IsFirstOf : Description → QueueName → ℕ → Knowledge → Type 0
+IsFirstOf floor q u v = (x : FirstSleeper) × FindsFirst floor q x v × (x.thread.0 ≡ u)
+
 -- what it needs to go on from there: another thread may have it out
 abbrev pub Awaits : Description → HaltAt → Knowledge → Item → Type 0
 Awaits floor at.Finds v i = ⊥
@@ -183,9 +195,9 @@ Awaits floor (at.Wakes over itself) v i =
     (m : Mark) × (v.share.doing.marked ≡ m ∷ []) × (i ≡ RecordOf m.thread)
 
 -- A thread is left that hasn't ended: it counts itself in and sets the halt word. It takes the chain of a sleep queue,
--- takes one sleeper off after the other, each by one abort, and wakes it; once nobody sleeps there it gives the chain
--- back and goes to the next queue. Behind the last one it counts itself out again, where it didn't abort itself: it
--- may be the last once more. Or it found out what it needs
+-- takes one sleeper off after the other, each time the first, by one abort, and wakes it; once nobody sleeps there it
+-- gives the chain back and goes to the next queue. Behind the last one it counts itself out again, where it didn't
+-- abort itself: it may be the last once more. Or it found out what it needs
 pub data HaltLeg (floor : Description) : HaltAt → HaltAt → Knowledge → Knowledge → Type 0 where
   halts : {old mid new : Knowledge} → FindsWhetherLeft floor true old mid
       → MakesEach floor ((CountsSelfIn old.thread ∷ []) ∷ (Halts old.thread ∷ []) ∷ []) mid new
@@ -198,7 +210,8 @@ pub data HaltLeg (floor : Description) : HaltAt → HaltAt → Knowledge → Kno
       → Makes floor (TakesItem old.thread (its_chain floor q) ∷ []) old new
       → HaltLeg floor (at.Comes over itself) (at.Aborts over itself) old new
   aborts : {old new : Knowledge} (over : ℕ) (itself : Bool) (q : QueueName) (side : Side) (m : Mark)
-      → queue_at floor over ≡ Some q → new.share.doing.marked ≡ m ∷ []
+      → queue_at floor over ≡ Some q → IsFirstOf floor q m.thread old
+      → new.share.doing.marked ≡ m ∷ []
       → Makes floor (Aborts old.thread q side m.thread ∷ []) old new
       → HaltLeg floor (at.Aborts over itself) (at.Wakes over itself) old new
   wakes_other : {old new : Knowledge} (over : ℕ) (itself : Bool) (m : Mark)
@@ -218,14 +231,6 @@ pub data HaltLeg (floor : Description) : HaltAt → HaltAt → Knowledge → Kno
       → HaltLeg floor (at.Comes over false) at.Finds old new
   finds_out : {old new : Knowledge} (there : HaltAt) (i : Item) → Awaits floor there old i
       → new ≡ seeing new.seen old → FindsOut floor i old new → HaltLeg floor there there old new
-
--- the first sleeper of a queue was found in the chain, which is out
-pub record FindsFirst (floor : Description) (q : QueueName) (x : FirstSleeper) (v : Knowledge)
-    : Type 0 where
-  pub sleeps : is_turnstile_queue (config_in floor) q ≡ false
-  pub chain : List (QueueName × SleepQueue)
-  pub out : v.out ≡ (chain_place floor q, SleepQueues chain) ∷ []
-  pub first : SleepsFirst q x chain
 
 -- it took that sleeper off the queue by an abort: in one step it is alone in its marked list, and nothing else is new
 -- but the chain and where it is with its counting
@@ -273,31 +278,39 @@ pub record EndsHalting (floor : Description) (there : HaltAt) (old new : Knowled
   pub halted : HasHalted floor old new
   pub end : HaltEnd floor there old new
 
--- it went on, and woke that thread
-pub record WakesOn (floor : Description) (there to : HaltAt) (t : ℕ) (old new : Knowledge) : Type 0
-  where
-    pub on : HaltsOn floor there to old new
-    pub mark : Mark
-    pub marked : old.share.doing.marked ≡ mark ∷ []
-    pub thread : mark.thread ≡ t
+-- it woke that thread, another than itself, which it had taken off a queue
+pub record WakesOther (t : ℕ) (old new : Knowledge) : Type 0 where
+  pub mark : Mark
+  pub marked : old.share.doing.marked ≡ mark ∷ []
+  pub thread : mark.thread ≡ t
+  pub other : t ≢ old.thread
+  pub woken : new.share.doing.marked ≡ []
+
+-- or no other
+abbrev pub WakesNoOther : Knowledge → Knowledge → Type 0
+WakesNoOther old new = (t : ℕ) → WakesOther t old new → ⊥
 
 abbrev pub GoesOnHalting : Description → HaltAt → Next → Knowledge → Knowledge → Type 0
 GoesOnHalting floor there next.Done old new = EndsHalting floor there old new
-GoesOnHalting floor there (next.Again to) old new = HaltsOn floor there to old new
-GoesOnHalting floor there (next.Wake t to) old new = WakesOn floor there to t.0 old new
+GoesOnHalting floor there (next.Again to) old new =
+    HaltsOn floor there to old new × WakesNoOther old new
+GoesOnHalting floor there (next.Wake t to) old new =
+    HaltsOn floor there to old new × WakesOther t.0 old new
 
 -- 6. The whole
 
--- it took sleepers off a queue, one after the other until nobody slept there any more, and woke each; whether it
+-- it took sleepers off a queue, each time the first until nobody slept there any more, and woke each; whether it
 -- aborted itself is told
 pub data AbortsEach (floor : Description) (q : QueueName) : Bool → Knowledge → Knowledge → Type 0
   where
     nobody_else : {v : Knowledge} → IsEmptied floor q v → AbortsEach floor q false v v
     one_more : {old mid next new : Knowledge} (itself : Bool) (side : Side) (m : Mark)
+        → IsFirstOf floor q m.thread old
         → Makes floor (Aborts old.thread q side m.thread ∷ []) old mid → m.thread ≢ old.thread
         → MakesEach floor (wakes old.thread m []) mid next
         → AbortsEach floor q itself next new → AbortsEach floor q itself old new
     itself_too : {old mid next new : Knowledge} (itself : Bool) (side : Side) (m : Mark)
+        → IsFirstOf floor q m.thread old
         → Makes floor (Aborts old.thread q side m.thread ∷ []) old mid → m.thread ≡ old.thread
         → MakesEach floor (wakes_itself old.thread m) mid next
         → AbortsEach floor q itself next new → AbortsEach floor q true old new

@@ -1,11 +1,12 @@
 //! The parts of a halting, and a loop over them that waits.
 ghost use Rattle.std.specs.Prelude.{◌≡◌, None};
+ghost use Rattle.halting.specs.declared.halting.Next.TheVariants.{Again};
 ghost use Rattle.lock_floor.specs.declared.queues.HaltAt.TheVariants.{Finds, Comes, Aborts, Wakes};
 ghost use Rattle.lock_floor.specs.Passes.{IsOf};
 ghost use Rattle.lock_floor.specs.Queues.{queue_at};
 ghost use Rattle.lock_floor.specs.Aborts.{IsHaltingOthers};
 ghost use Rattle.lock_floor.specs.Waits.{IsQueueOf};
-ghost use Rattle.halting.specs.Halts.{CountsItselfOut, FindsFirst, TakesOff, GoesOnHalting, HaltsOn, HaltsOthers, HasHalted, IsAt, IsLast, MayCountOut};
+ghost use Rattle.halting.specs.Halts.{CountsItselfOut, FindsFirst, TakesOff, GoesOnHalting, HaltsOthers, HasHalted, IsAt, IsLast, MayCountOut};
 
 use crossbeam_utils::Backoff;
 use lock_floor::{Count, FirstSleeper, Floor, HaltAt, Pass};
@@ -154,7 +155,7 @@ fn abort_next(floor: &Floor, pass: &mut Pass, over: u32, itself: bool) -> HaltAt
     requires own { IsOf floor.now pass.old }
     requires there { IsAt floor.now.description (Aborts over itself) pass.old.view }
     ensures own { IsOf floor.now pass.new }
-    ensures on { HaltsOn floor.now.description (Aborts over itself) result
+    ensures went { GoesOnHalting floor.now.description (Aborts over itself) (Again result)
         pass.old.view pass.new.view }
 {
     let Some(q) = floor.queue_at(over) else {

@@ -1,5 +1,5 @@
 -- The call that a pass is in the middle of: which one it is, and that it is noted in the pass where it stands.
-use Rattle.std.proofs.Common.{◌≡◌, Option, Some, None, IfSome, IfNone, sym, ap, ◌∙◌, subst, ◌⊎◌, inl, inr, refl}
+use Rattle.std.proofs.Common.{◌≡◌, [], Option, Some, None, IfSome, IfNone, sym, ap, ◌∙◌, subst, ◌⊎◌, inl, inr, refl}
 use Rattle.lock_model.specs.declared.numbers.LockNo.{LockNo}
 use Rattle.lock_model.specs.declared.plan.Mode.{Mode}
 use Rattle.floor_table.specs.declared.description.Description.{Description}
@@ -11,10 +11,11 @@ use Rattle.lock_floor.specs.declared.calls.TakeAt.{TakeAt}
 use Rattle.lock_floor.specs.declared.calls.TakeAt.TheVariants.{Checks, Spins, ComesIn, Contends, Walks, Hops, Halts, Sleeps}
 use Rattle.lock_floor.specs.Floors.{Floor, Pass}
 use Rattle.lock_floor.specs.Passes.{IsOf}
+use Rattle.halting.specs.Halts.{WakesNoOther}
 use Rattle.lock_calls.specs.declared.answers.Next.{Next}
 use Rattle.lock_calls.specs.declared.answers.Next.TheVariants.{Done, Again, Sleep, Wake, Reversed, Halted}
 use Rattle.lock_calls.specs.Releases.{IsInRelease, IsUnderRelease, GoesOnReleasing}
-use Rattle.lock_calls.specs.Takes.{IsInTake, IsUnderTake, TakeEnd, TakesOn, TakesPart, GoesOnTaking, next_at, stands_at}
+use Rattle.lock_calls.specs.Takes.{IsInTake, IsUnderTake, TakeEnd, TakesOn, TakesPart, GoesOnTaking, marked_at, next_at, stands_at}
 use Rattle.lock_calls.specs.Waiting.{HasGained}
 
 -- 1. Where the pass notes it
@@ -69,12 +70,19 @@ module _ (floor : Description) (p : Pass Knowledge) (l : LockNo) (mode : Mode) (
       subst (λ (z : LockNo × Mode × TakeAt). GoesOnTaking floor z.0 z.1 z.2 next p q)
       (λ i. (same.0 i, same.1 i, same.2 i)) went
 
+-- who has nobody to wake has nobody where it stands
+pub unmarked_there : (v : Knowledge) {at there : TakeAt} → at ≡ there → marked_at at v.share.doing.marked ≡ []
+    → marked_at there v.share.doing.marked ≡ []
+unmarked_there v is none = subst (λ a. marked_at a v.share.doing.marked ≡ []) is none
+
 -- a part that wakes nobody
-pub takes_part : (floor : Description) (l : LockNo) (mode : Mode) (at : TakeAt) (to : Option TakeAt) (old new : Knowledge)
+pub takes_part : (floor : Description) (l : LockNo) (mode : Mode) (at : TakeAt) (to : Option TakeAt)
+    (old new : Knowledge)
     → IfNone to (HasGained l mode old new) → IfNone to (TakeEnd floor l mode at old new)
-    → IfSome to (λ a. TakesOn floor l mode at a old new) → TakesPart floor l mode at (stands_at to) old new
-takes_part floor l mode at None old new gained end on = (gained, end)
-takes_part floor l mode at (Some to) old new gained end on = on
+    → IfSome to (λ a. TakesOn floor l mode at a old new) → WakesNoOther old new
+    → TakesPart floor l mode at (stands_at to) old new
+takes_part floor l mode at None old new gained end on nobody = (gained, end)
+takes_part floor l mode at (Some to) old new gained end on nobody = (on, nobody)
 
 -- what is to be done next, where a take stands somewhere, is to go on or to sleep
 stands_next : (to : TakeAt) → (next_at to ≡ Again) ⊎ (next_at to ≡ Sleep)
@@ -92,18 +100,20 @@ no_other_next to next is again sleep = elim (stands_next to) [ inl e ↦ again (
 
 pub take_stands : (floor : Description) (l : LockNo) (mode : Mode) (at to : TakeAt) (p q : Pass Knowledge) (next : Next)
     → next ≡ next_at to → q.call ≡ calls.Take l mode to → TakesOn floor l mode at to p.view q.view
-    → GoesOnTaking floor l mode at next p q
-take_stands floor l mode at to p q Done is call on =
+    → WakesNoOther p.view q.view → GoesOnTaking floor l mode at next p q
+take_stands floor l mode at to p q Done is call on nobody =
     absurd (no_other_next to Done is (λ e. let z : Done ≡ Again = e in cc) (λ e. let z : Done ≡ Sleep = e in cc))
-take_stands floor l mode at to p q Again is call on = record { to = to; call = call; next_is = sym is; on = on }
-take_stands floor l mode at to p q Sleep is call on = record { to = to; call = call; next_is = sym is; on = on }
-take_stands floor l mode at to p q (Wake t) is call on =
+take_stands floor l mode at to p q Again is call on nobody =
+    record { to = to; call = call; next_is = sym is; on = on; wakes_no_other = nobody }
+take_stands floor l mode at to p q Sleep is call on nobody =
+    record { to = to; call = call; next_is = sym is; on = on; wakes_no_other = nobody }
+take_stands floor l mode at to p q (Wake t) is call on nobody =
     absurd (no_other_next to (Wake t) is (λ e. let z : Wake t ≡ Again = e in cc)
     (λ e. let z : Wake t ≡ Sleep = e in cc))
-take_stands floor l mode at to p q (Reversed r) is call on =
+take_stands floor l mode at to p q (Reversed r) is call on nobody =
     absurd (no_other_next to (Reversed r) is (λ e. let z : Reversed r ≡ Again = e in cc)
     (λ e. let z : Reversed r ≡ Sleep = e in cc))
-take_stands floor l mode at to p q Halted is call on =
+take_stands floor l mode at to p q Halted is call on nobody =
     absurd (no_other_next to Halted is (λ e. let z : Halted ≡ Again = e in cc)
     (λ e. let z : Halted ≡ Sleep = e in cc))
 

@@ -3,7 +3,7 @@
 use Rattle.std.proofs.Common.{◌≡◌, ◌≢◌, ℕ, ◌<◌, ◌≤◌, Bool, true, false, Option, Some, None, [], ◌∷◌, length, refl, sym, ap, ◌∙◌, subst, inl, arith}
 use Rattle.lock_model.specs.Limits.{most_held}
 use Rattle.lock_model.specs.Operations.{hold_in}
-use Rattle.lock_model.specs.Queues.{Cause, BySignal, ByAbort, Mark, lock_queue}
+use Rattle.lock_model.specs.Queues.{Cause, BySignal, ByAbort, lock_queue}
 use Rattle.lock_model.specs.Words.{is_turnstile}
 use Rattle.lock_model.specs.declared.numbers.LockNo.{LockNo}
 use Rattle.lock_model.specs.declared.plan.Mode.{Mode}
@@ -30,10 +30,10 @@ use Rattle.lock_floor.specs.Counts.{counted}
 use Rattle.lock_floor.specs.Latches.{FindsOut, Takes}
 use Rattle.lock_floor.specs.Resumes.{cause_of, resumed, FindsQueued, MayRunAgain, RunsAgain}
 use Rattle.lock_floor.specs.Walks.{CanWalk, HasTurnstilesOut, HopsOn, NeedsRecord, turnstiles, turnstiles_place}
-use Rattle.lock_floor.proofs.Marked.{head_or}
 use Rattle.lock_floor.proofs.MayWake.{may_run_again}
 use Rattle.halting.specs.Halts as halting
-use Rattle.halting.specs.Halts.{EndsHalting, HaltsOn, IsAt, MayCountOut, WakesOn}
+use Rattle.halting.specs.Halts.{EndsHalting, HaltsOn, IsAt, MayCountOut, WakesOther}
+use Rattle.halting.proofs.Coming.{wakes_of_floor}
 use Rattle.halting.proofs.Counted.{is_counted_out, is_last_of, may_count}
 use Rattle.lock_calls.specs.Takes.{IsStanding, IsHaltingThere, IsParked, TakesOn, WakesInTake, kept_at, takes_turnstiles, hops, counts_out, is_last, halts_on, has_halted, resumes, finds_out, is_queued}
 use Rattle.lock_calls.specs.Waiting.{Kept, kept_of, CanAcquire}
@@ -222,15 +222,6 @@ uncounted_at floor (halts.Comes over itself) v h = h.0.uncounted
 uncounted_at floor (halts.Aborts over itself) v h = h.0.uncounted
 uncounted_at floor (halts.Wakes over itself) v h = h.0.uncounted
 
--- and whom it has to wake is a thread of the floor
-wakes_of_floor : (floor : Description) (at : HaltAt) (v : Knowledge) (m : Mark) → IsAt floor at v
-    → v.share.doing.marked ≡ m ∷ [] → m.thread < length floor.threads
-wakes_of_floor floor halts.Finds v m h is = let z : [] ≡ m ∷ [] = sym h.unmarked ∙ is in cc
-wakes_of_floor floor (halts.Comes over itself) v m h is = let z : [] ≡ m ∷ [] = sym h.2 ∙ is in cc
-wakes_of_floor floor (halts.Aborts over itself) v m h is = let z : [] ≡ m ∷ [] = sym h.2 ∙ is in cc
-wakes_of_floor floor (halts.Wakes over itself) v m h is =
-    subst (λ (k : Mark). k.thread < length floor.threads) (ap (head_or m) (sym h.1.1.marked ∙ is)) h.1.1.of_floor
-
 -- what a take keeps of what a halting keeps
 abbrev as_taking : halting.Kept → Option ℕ → Kept
 as_taking k counting = record {
@@ -275,14 +266,12 @@ module _ (floor : Description) (l : LockNo) (mode : Mode) (at : HaltAt) (z new :
         leg = halts_on at to on;
       }
 
-  pub wakes_another : (to : HaltAt) (t : ℕ) → WakesOn floor at to t z new
+  pub wakes_another : (to : HaltAt) (t : ℕ) → HaltsOn floor at to z new → WakesOther t z new
       → WakesInTake floor l mode (Halts at) (Halts to) t z new
-  wakes_another to t w = record {
-    on = halts_further to w.on;
-    mark = w.mark;
-    marked = w.marked;
-    thread = w.thread;
-    of_floor = subst (λ u. u < length floor.threads) w.thread (wakes_of_floor floor at z w.mark h.halts w.marked);
+  wakes_another to t on w = record {
+    on = halts_further to on;
+    wakes = w;
+    of_floor = wakes_of_floor floor at z new t h.halts w;
   }
 
   pub is_done_halting : EndsHalting floor at z new → TakesOn floor l mode (Halts at) Sleeps z new
@@ -359,7 +348,8 @@ module _ (floor : Description) (l : LockNo) (mode : Mode) (z : Knowledge) (p : I
     no_looks = ap (λ (k : Knowledge). k.share.doing.looks) is
 
     runs_on : (left : ℕ) (cause : Cause) → left ≤ 48 → (cause ≡ ByAbort → is_taking_back z.share.log ≡ true)
-        → Makes floor (Resumes z.thread (lock_queue l.0) cause ∷ []) z new → TakesOn floor l mode Sleeps (Spins left) z new
+        → Makes floor (Resumes z.thread (lock_queue l.0) cause ∷ []) z new
+        → TakesOn floor l mode Sleeps (Spins left) z new
     runs_on left cause few again step = record {
       there = (
         record {

@@ -38,7 +38,7 @@ use Rattle.lock_floor.specs.Waits.{its_chain, chain_place}
 use Rattle.lock_floor.specs.Walks.{CanWalk, NeedsRecord, HasTurnstilesOut, HopsOn, turnstiles, turnstiles_place}
 use Rattle.lock_floor.specs.declared.queues.HaltAt.{HaltAt}
 use Rattle.lock_floor.specs.declared.queues.HaltAt.TheVariants as halts
-use Rattle.halting.specs.Halts.{EndsHalting, HaltsOn, IsAt, IsLast}
+use Rattle.halting.specs.Halts.{EndsHalting, HaltsOn, IsAt, IsLast, WakesNoOther, WakesOther}
 use Rattle.lock_calls.specs.declared.answers.Next.{Next}
 use Rattle.lock_calls.specs.declared.answers.Next.TheVariants.{Done, Again, Sleep, Wake, Reversed, Halted}
 use Rattle.lock_calls.specs.declared.answers.TakeNext.{TakeNext}
@@ -195,7 +195,8 @@ pub data LeavesLooks (floor : Description) (kind : Kind) (mode : Mode) (word : W
   of_shared : {v : Knowledge} → kind ≢ Mtx → course kind word mode ≢ ByClaim
       → LeavesLooks floor kind mode word left (left - 1) v v
 
--- the item that a take needs to go on from there: another thread may have it out
+-- the item that a take needs to go on from there: another thread may have it out. What a halting needs, its own leg
+-- tells
 abbrev pub AwaitsInTake : Description → Knowledge → ℕ → TakeAt → Item → Type 0
 AwaitsInTake floor v l Checks i = i ≡ ClassGraph
 AwaitsInTake floor v l (Spins left) i = (left ≡ 0) × (i ≡ its_chain floor (lock_queue l))
@@ -285,13 +286,11 @@ pub record TakesOn (floor : Description) (l : LockNo) (mode : Mode) (at to : Tak
   pub kept : kept_at to new ≡ kept_at at old
   pub leg : TakeLeg floor l mode at to old new
 
--- it went on so, and woke that thread, which it had taken off a queue
+-- it went on so, and woke that thread of the floor
 pub record WakesInTake (floor : Description) (l : LockNo) (mode : Mode) (at to : TakeAt) (t : ℕ)
     (old new : Knowledge) : Type 0 where
   pub on : TakesOn floor l mode at to old new
-  pub mark : Mark
-  pub marked : old.share.doing.marked ≡ mark ∷ []
-  pub thread : mark.thread ≡ t
+  pub wakes : WakesOther t old new
   pub of_floor : t < length floor.threads
 
 -- 3. How it ends
@@ -360,12 +359,13 @@ abbrev pub GainsByPart : Description → LockNo → Mode → TakeAt → Knowledg
 GainsByPart floor l mode at old new =
     HasGained l mode old new × TakeEnd floor l mode at old new
 
--- a part of a take from there: the lock is gained, which is still to be noted; or it stands somewhere, and may have
--- woken that thread
+-- a part of a take from there: the lock is gained, which is still to be noted; or it stands somewhere, and woke no
+-- other thread, or that one
 abbrev pub TakesPart : Description → LockNo → Mode → TakeAt → TakeNext → Knowledge → Knowledge
     → Type 0
 TakesPart floor l mode at next.Gained old new = GainsByPart floor l mode at old new
-TakesPart floor l mode at (next.At to) old new = TakesOn floor l mode at to old new
+TakesPart floor l mode at (next.At to) old new =
+    TakesOn floor l mode at to old new × WakesNoOther old new
 TakesPart floor l mode at (next.Wake t to) old new = WakesInTake floor l mode at to t.0 old new
 
 -- 4. What the calls promise
@@ -428,13 +428,14 @@ HasBegunTake floor l mode (Wake t) p q = ⊥
 HasBegunTake floor l mode (Reversed r) p q = ⊥
 HasBegunTake floor l mode Halted p q = ⊥
 
--- the take went on from there, and stands somewhere
+-- the take went on from there, and stands somewhere; it woke no other thread
 pub record StandsInTake (floor : Description) (l : LockNo) (mode : Mode) (at : TakeAt)
     (next : Next) (p q : Pass Knowledge) : Type 0 where
   pub to : TakeAt
   pub call : q.call ≡ calls.Take l mode to
   pub next_is : next_at to ≡ next
   pub on : TakesOn floor l mode at to p.view q.view
+  pub wakes_no_other : WakesNoOther p.view q.view
 
 -- or stands somewhere and woke that thread, whose sleep is to be ended
 pub record StandsAndWakes (floor : Description) (l : LockNo) (mode : Mode) (at : TakeAt) (t : ℕ)

@@ -1,38 +1,39 @@
--- What the call that takes a sleeper off a queue by an abort leaves of the pass, and tells of it.
+-- What a call that takes a sleeper off a queue by an abort leaves of the pass, and tells of it.
 use Rattle.std.proofs.Common.{◌≡◌, ℕ, Bool, true, false, Some, IsSomeAnd, List, [], ◌∷◌, map, refl, sym, ap, ◌∙◌, subst}
 use Rattle.std.specs.Global.{Vec}
 use Rattle.atomic_table.specs.Table.{Me, rest}
 use Rattle.chain_table.specs.Chains.{head_of}
 use Rattle.lock_history.specs.Books.{Book}
-use Rattle.lock_model.specs.Queues.{ByAbort}
+use Rattle.lock_model.specs.Queues.{ByAbort, without}
 use Rattle.lock_model.specs.declared.event.Held.{Held}
 use Rattle.lock_model.specs.declared.plan.QueueName.{QueueName}
+use Rattle.lock_model.specs.declared.plan.Side.{Side}
 use Rattle.lock_objects.specs.Aborts.{aborted_from, chain_aborted}
 use Rattle.lock_objects.specs.Represents.{mark_by}
 use Rattle.lock_objects.specs.declared.marked.Marked.{Marked}
 use Rattle.lock_objects.specs.declared.marked.Marked.TheVariants.{AbortedSleepers}
 use Rattle.lock_state.specs.Steps.{Aborts}
-use Rattle.sleep_queues.specs.Changes.{waits}
+use Rattle.sleep_queues.specs.Changes.{waiters, waits}
 use Rattle.sleep_queues.specs.Seen.{SleepQueue, Place}
 use Rattle.floor_table.specs.Steps.{Makes}
 use Rattle.floor_table.specs.Views.{Knowledge, seeing}
 use Rattle.floor_table.specs.declared.description.Description.{Description}
 use Rattle.floor_table.specs.declared.slot.Slot.{Slot}
 use Rattle.floor_table.specs.declared.slot.Slot.TheVariants.{SleepQueues}
-use Rattle.lock_floor.specs.Aborts.{AbortsSleeper, aborted_off, out_aborted}
+use Rattle.lock_floor.specs.Aborts.{AbortsSleeper, KeepsWord, aborted_off, out_aborted}
 use Rattle.lock_floor.specs.Marks.{AreMarked}
 use Rattle.lock_floor.specs.Ties.{IsTied}
 use Rattle.lock_floor.specs.Waits.{chain_place}
-use Rattle.lock_floor.proofs.AbortStep.{AbortedOff}
+use Rattle.lock_floor.proofs.AbortStep.{TakenOff}
 use Rattle.lock_floor.proofs.Tied.{tied_then}
 
-module _ (floor : Description) (me behind : Me Slot Knowledge) (q : QueueName) (u : ℕ)
-    (told : AbortedOff floor q u me behind) (at : ℕ) (at_is : at ≡ chain_place floor q) (out : me.1 ≡ me.0.out) where
+module _ (floor : Description) (me behind : Me Slot Knowledge) (q : QueueName) (side : Side) (u : ℕ)
+    (told : TakenOff floor q side u me behind) (at : ℕ) (at_is : at ≡ chain_place floor q) (out : me.1 ≡ me.0.out) where
   abbrev chain : List (QueueName × SleepQueue)
   chain = told.sleepers.chain
 
   abbrev head : SleepQueue
-  head = told.sleeps.head
+  head = told.head
 
   abbrev ps : List Place
   ps = aborted_from u head.contents
@@ -48,7 +49,7 @@ module _ (floor : Description) (me behind : Me Slot Knowledge) (q : QueueName) (
   before = (
     chain,
     last,
-    subst (λ o. IsSomeAnd o (λ h. waits u h.contents ≡ true)) (sym told.sleeps.there) told.can,
+    subst (λ o. IsSomeAnd o (λ h. waits u h.contents ≡ true)) (sym told.there) told.can,
   )
 
   -- behind it
@@ -58,7 +59,7 @@ module _ (floor : Description) (me behind : Me Slot Knowledge) (q : QueueName) (
       → (new.1 ≡ (at, SleepQueues (chain_aborted q u h c)) ∷ rest behind.1)
       × (woken ≡ aborted_from u h.contents)) where
     woken_are : woken ≡ ps
-    woken_are = (outs chain head told.sleeps.there last).1
+    woken_are = (outs chain head told.there last).1
 
     abbrev then : Knowledge
     then = aborted_off me.0 q ps (out_aborted floor q u head chain me.0.out)
@@ -70,7 +71,7 @@ module _ (floor : Description) (me behind : Me Slot Knowledge) (q : QueueName) (
     new_out : new.1 ≡ new.0.out
     new_out =
         let same : behind.1 ≡ me.0.out = ap (λ (m : Me Slot Knowledge). m.1) told.is ∙ out in
-        (outs chain head told.sleeps.there last).0
+        (outs chain head told.there last).0
         ∙ (λ i. (at_is i, SleepQueues (chain_aborted q u head chain)) ∷ rest (same i))
         ∙ sym (ap (λ (k : Knowledge). k.out) call_view)
 
@@ -86,15 +87,19 @@ module _ (floor : Description) (me behind : Me Slot Knowledge) (q : QueueName) (
           of_floor = told.of_floor;
         } in
         subst (λ (xs : List Place). IsTied who locks (AbortedSleepers xs) book fin new) (sym woken_are)
-        (tied_then who locks locks marked (AbortedSleepers ps) book fin me new then going h call_view new_out refl h.held
-        h.room (subst (λ (k : Description). AreMarked k (AbortedSleepers ps) (map (mark_by ByAbort q) ps)) (sym mine)
-        are))
+        (tied_then who locks locks marked (AbortedSleepers ps) book fin me new then going h call_view new_out refl
+        h.held h.room (subst (λ (k : Description). AreMarked k (AbortedSleepers ps) (map (mark_by ByAbort q) ps))
+        (sym mine) are))
 
-    pub call_aborts : AbortsSleeper floor q u me.0 new.0
-    call_aborts = record {
+    pub call_step : Makes floor (Aborts me.0.thread q side u ∷ []) me.0 new.0
+    call_step = subst (λ (k : Knowledge). Makes floor (Aborts me.0.thread q side u ∷ []) me.0 k) (sym view) told.step
+
+    -- where another stays on the side, if that is an sx lock's
+    pub call_aborts : KeepsWord q (without u (waiters side head.contents)) → AbortsSleeper floor q u me.0 new.0
+    call_aborts stays = record {
       sleepers = told.sleepers;
-      side = told.side;
-      sleeps = told.sleeps;
+      side = side;
+      sleeps = record { head = head; there = told.there; stands = told.stands; keeps_word = stays };
       view = call_view;
-      step = subst (λ (k : Knowledge). Makes floor (Aborts me.0.thread q told.side u ∷ []) me.0 k) (sym view) told.step;
+      step = call_step;
     }

@@ -1,10 +1,10 @@
 -- An abort: a load of the latch of a queue's chain, by which one sleeper is taken off the queue. The chain, which the
--- thread has out, is then what the work on it will make of it. The word of an sx lock stays, since another sleeper stays
--- on that side.
+-- thread has out, is then what the work on it will make of it. The word of an sx lock stays, since another sleeper
+-- stays on that side.
 use Rattle.std.proofs.Common.{◌≡◌, ◌≢◌, ℕ, ◌<◌, ◌%◌, Bool, true, false, not, cond, lt-ltb, Some, IsSome, List, [], ◌∷◌, map, length, refl, sym, ap, ◌∙◌, subst, arith}
 use Rattle.std.specs.List.{All}
 use Rattle.atomic_table.specs.Table.{Me, keeps, rest, Allows}
-use Rattle.chain_table.specs.Chains.{without}
+use Rattle.chain_table.specs.Chains.{head_of, without}
 use Rattle.chain_table.proofs.Lookups.{head_of-without_itself}
 use Rattle.lock_laws.proofs.Derived.{once}
 use Rattle.lock_laws.proofs.Kit.{put_same, put_other, put_back}
@@ -154,26 +154,142 @@ pub waits_there : (side : Side) (u : ℕ) (h : SleepQueue) → 0 < times_waiting
 waits_there X u h here = lt-ltb 0 _ (omega (arith, here))
 waits_there S u h here = lt-ltb 0 _ (omega (arith, here))
 
--- 4. The step
+-- 4. What an abort makes of all but the words, and tells
+
+-- the chain without the sleeper, and what the thread knows then
+abbrev pub chain_off : QueueName → ℕ → SleepQueue → List (QueueName × SleepQueue) → Slot
+chain_off q u head chain = SleepQueues (chain_aborted q u head chain)
+
+abbrev pub view_off : Description → Knowledge → QueueName → ℕ → SleepQueue → List (QueueName × SleepQueue) → Knowledge
+view_off floor v q u head chain =
+    aborted_off v q (aborted_from u head.contents) (out_aborted floor q u head chain v.out)
 
 -- what it tells: the thread made it, the chain is such that the work on it can be done, and whom it took has its sleep
 -- queue with it
-pub record AbortedOff (floor : Description) (q : QueueName) (u : ℕ) (me behind : Me Slot Knowledge) : Type 0 where
+pub record TakenOff (floor : Description) (q : QueueName) (side : Side) (u : ℕ) (me behind : Me Slot Knowledge)
+    : Type 0 where
   pub sleepers : HasSleepersOut floor q me.0
-  pub side : Side
-  pub sleeps : IsSleeping q side u sleepers.chain
-  pub can : waits u sleeps.head.contents ≡ true
-  pub is : behind ≡ (
-    seeing behind.0.seen
-        (aborted_off me.0 q (aborted_from u sleeps.head.contents)
-        (out_aborted floor q u sleeps.head sleepers.chain me.0.out)),
-    me.1,
-  )
+  pub head : SleepQueue
+  pub there : head_of q sleepers.chain ≡ Some head
+  pub stands : 0 < times_waiting u (waiters side head.contents)
+  pub can : waits u head.contents ≡ true
+  pub is : behind ≡ (seeing behind.0.seen (view_off floor me.0 q u head sleepers.chain), me.1)
   pub step : Makes floor (Aborts me.0.thread q side u ∷ []) me.0 behind.0
   pub sleeps_there : is_turnstile_queue (config_in floor) q ≡ false
-  pub held : All (λ p. IsSome p.object) (aborted_from u sleeps.head.contents)
-  pub of_floor : All (λ m. m.thread < length floor.threads)
-      (map (mark_by ByAbort q) (aborted_from u sleeps.head.contents))
+  pub held : All (λ p. IsSome p.object) (aborted_from u head.contents)
+  pub of_floor : All (λ m. m.thread < length floor.threads) (map (mark_by ByAbort q) (aborted_from u head.contents))
+
+module _ (floor : Description) (me : Me Slot Knowledge) (q : QueueName) (side : Side) (u : ℕ)
+    (sleepers : HasSleepersOut floor q me.0) (head : SleepQueue) (b : Board) (f : Finds floor me.0 b) where
+  abbrev step : Step
+  step = Aborts me.0.thread q side u
+
+  abbrev j : ℕ
+  j = chain_place floor q
+
+  abbrev chain : List (QueueName × SleepQueue)
+  chain = sleepers.chain
+
+  abbrev ps : List Place
+  ps = aborted_from u head.contents
+
+  -- the state, what the thread knows and the values behind it
+  abbrev n : State
+  n = after_abort f.state me.0.thread q side u
+
+  abbrev w : Knowledge
+  w = seeing (step ∷ f.past) (view_off floor me.0 q u head chain)
+
+  abbrev content : ℕ → Slot
+  content = put f.represents.content j (chain_off q u head chain)
+
+  pub record LosesSleeper : Type 0 where
+    pub own : OwnSteps me.0 w f.past (step ∷ []) f.state n
+    pub low : j < slots_for floor
+    pub list : list_of side (f.state.lists q) ≡ waiters side head.contents
+    pub shelves : Shelves (slots_for floor) (latch_word b.words) (home_at b.homes)
+        (put (λ x. (thread_in b.views x).out) me.0.thread w.out) content
+    pub objects : RepresentsObjects floor content (objects_in n)
+    pub told : Makes floor (step ∷ []) me.0 w → (off : TakenOff floor q side u me (w, me.1)) × (off.head ≡ head)
+
+  pub loses_sleeper : me.0.role ≡ OfThread → head_of q chain ≡ Some head
+      → 0 < times_waiting u (waiters side head.contents) → FitAll floor f.state (step ∷ []) → LosesSleeper
+  unfolding after_abort
+  loses_sleeper was there stands allowed =
+      let c : Config = config_in floor in
+      let s : State = f.state in
+      let t : ℕ = me.0.thread in
+      let g = allowed.0.fits.may in
+      let lawful : Lawful c s = f.sound.facts.lawful in
+      let which = sleep_chain_of floor q g.sleeps in
+      let k : ℕ = which.0 in
+      let in_chain : StandsIn floor (SleepChain k) q = which.1 in
+      let at : slot_of floor (SleepChain k) ≡ Some j =
+      subst (λ i. slot_of floor i ≡ Some j) in_chain (chain_at floor f.represents.sizes.sized.some_chains q) in
+      let shows : RepresentsSleepChain floor k chain (objects_in s) =
+      (f.fits.out.each (SleepChain k) j (SleepQueues chain) at
+      (ap (found j) sleepers.last ∙ found_first j (SleepQueues chain) (rest me.0.out))).1 in
+      let old : sleepers_in s q ≡ sleepers_of head.contents =
+      subst (λ o. RepresentsSleepQueue o (sleepers_in s q)) there (shows.queue q in_chain) in
+      let is : IsSleeper c s q side (sleeper s u) = record {
+        sleeps = g.sleeps;
+        balanced = balanced c s q lawful;
+        there = g.stands;
+        once = once c s u q lawful;
+      } in
+      let marks = marks_aborted (StandsIn floor (SleepChain k)) c s q side (sleeper s u) is in_chain chain shows.queue
+      head there refl in
+      let marked : map (mark_by ByAbort q) ps ≡ n.marked t = marks.0 ∙ sym (put_same s.marked t _) in
+      let own : OwnSteps me.0 w f.past (step ∷ []) s n = record {
+        role = was;
+        seen = refl;
+        makers = one_own t step refl;
+        seat = record { thread = refl; share = abort_own s me.0 f.fits.share q side u ps w.out marked };
+        others = λ x ne. abort_others s t x ne q side u;
+        pose = f.fits.pose;
+        other_poses = λ x ne p z. z;
+      } in
+      let r = f.represents in
+      let chain_then : RepresentsSleepChain floor k (chain_aborted q u head chain) (objects_in n) =
+      sleep_chain_shown floor k n (chain_aborted q u head chain)
+      (names_aborted floor k q in_chain chain shows.names u head)
+      (shows_aborted (StandsIn floor (SleepChain k)) c s q side (sleeper s u) is in_chain chain shows.queue head there n
+      (abort_changes s t q side u) (head_of-without_itself q chain shows.names.distinct) refl) in
+      let behind : IsSound floor (step ∷ f.past) n = sound_kept floor s (step ∷ []) allowed f.sound in
+      record {
+        own = own;
+        low = place_low floor (SleepChain k) j at;
+        list = ap (λ (a : SleepColumns). list_of side a.lists) old;
+        shelves = shelf_changed (slots_for floor) (latch_word b.words) (home_at b.homes)
+            (λ x. (thread_in b.views x).out) r.content r.shelves j t (SleepQueues chain) (chain_off q u head chain)
+            (rest me.0.out)
+            (own_out floor (step ∷ []) b me.0 w f was allowed own me.1 ∙ sleepers.last);
+        objects = object_changed floor r.content (objects_in s) (objects_in n) (SleepChain k) j
+            (chain_off q u head chain) at (abort_changes_only floor s t q side u k in_chain) chain_then r.objects;
+        told = λ made. (
+          record {
+            sleepers = sleepers;
+            head = head;
+            there = there;
+            stands = stands;
+            can = waits_there side u head stands;
+            is = refl {a = (w, me.1)};
+            step = made;
+            sleeps_there = g.sleeps;
+            held = marks.1;
+            of_floor = marked_low floor n t behind.facts.lawful f.fits.thread (map (mark_by ByAbort q) ps) marked;
+          },
+          refl,
+        );
+      }
+
+-- 5. The step
+
+-- the thread took one off a side on which another stays, where that is an sx lock's
+pub record AbortedOff (floor : Description) (q : QueueName) (u : ℕ) (me behind : Me Slot Knowledge) : Type 0 where
+  pub side : Side
+  pub off : TakenOff floor q side u me behind
+  pub keeps_word : KeepsWord q (without_waiter u (waiters side off.head.contents))
 
 abbrev pub ToldAborted : Description → QueueName → ℕ → Me Slot Knowledge → ℕ → Me Slot Knowledge → Type 0
 ToldAborted floor q u me found behind = AbortedOff floor q u me behind
@@ -183,96 +299,38 @@ module _ (floor : Description) (me : Me Slot Knowledge) (was : me.0.role ≡ OfT
   abbrev v : Knowledge
   v = me.0
 
-  abbrev j : ℕ
-  j = chain_place floor q
-
-  abbrev chain : List (QueueName × SleepQueue)
-  chain = sleepers.chain
-
-  abbrev head : SleepQueue
-  head = sleeps.head
-
-  abbrev ps : List Place
-  ps = aborted_from u head.contents
+  abbrev place : ℕ
+  place = chain_place floor q
 
   aborts : (b : Board) (f : Finds floor v b) → FitAll floor f.state (Aborts v.thread q side u ∷ [])
-      → Steps floor me (spot (latch_line j)) (latch_word b.words j) (latch_word b.words j)
+      → Steps floor me (spot (latch_line place)) (latch_word b.words place) (latch_word b.words place)
       (ToldAborted floor q u me) b
   unfolding after_abort
   aborts b f allowed =
-      let c : Config = config_in floor in
       let s : State = f.state in
-      let t : ℕ = v.thread in
-      let n : State = after_abort s t q side u in
-      let step : Step = Aborts t q side u in
-      let g = allowed.0.fits.may in
-      let lawful : Lawful c s = f.sound.facts.lawful in
-      let sized = f.represents.sizes.sized in
-      let which = sleep_chain_of floor q g.sleeps in
-      let k : ℕ = which.0 in
-      let in_chain : StandsIn floor (SleepChain k) q = which.1 in
-      let at : slot_of floor (SleepChain k) ≡ Some j =
-      subst (λ i. slot_of floor i ≡ Some j) in_chain (chain_at floor sized.some_chains q) in
-      let shows : RepresentsSleepChain floor k chain (objects_in s) =
-      (f.fits.out.each (SleepChain k) j (SleepQueues chain) at
-      (ap (found j) sleepers.last ∙ found_first j (SleepQueues chain) (rest v.out))).1 in
-      let old : sleepers_in s q ≡ sleepers_of head.contents =
-      subst (λ o. RepresentsSleepQueue o (sleepers_in s q)) sleeps.there (shows.queue q in_chain) in
-      let its_list = ap (λ (a : SleepColumns). list_of side a.lists) old in
-      let is : IsSleeper c s q side (sleeper s u) = record {
-        sleeps = g.sleeps;
-        balanced = balanced c s q lawful;
-        there = g.stands;
-        once = once c s u q lawful;
-      } in
-      let marks = marks_aborted (StandsIn floor (SleepChain k)) c s q side (sleeper s u) is in_chain chain shows.queue head sleeps.there refl in
-      let marked : map (mark_by ByAbort q) ps ≡ n.marked t = marks.0 ∙ sym (put_same s.marked t _) in
-      let out : List (ℕ × Slot) = out_aborted floor q u head chain v.out in
-      let new : Slot = SleepQueues (chain_aborted q u head chain) in
-      let w : Knowledge = seeing (step ∷ f.past) (aborted_off v q ps out) in
-      let own : OwnSteps v w f.past (step ∷ []) s n = record {
-        role = was;
-        seen = refl;
-        makers = one_own t step refl;
-        seat = record { thread = refl; share = abort_own s v f.fits.share q side u ps out marked };
-        others = λ x ne. abort_others s t x ne q side u;
-        pose = f.fits.pose;
-        other_poses = λ x ne p z. z;
-      } in
-      let r = f.represents in
-      let outs : ℕ → List (ℕ × Slot) = λ x. (thread_in b.views x).out in
-      let shelves : Shelves (slots_for floor) (latch_word b.words) (home_at b.homes) (put outs t out)
-      (put r.content j new) =
-      shelf_changed (slots_for floor) (latch_word b.words) (home_at b.homes) outs r.content r.shelves j t
-      (SleepQueues chain) new (rest v.out) (own_out floor (step ∷ []) b v w f was allowed own me.1 ∙ sleepers.last) in
-      let chain_then : RepresentsSleepChain floor k (chain_aborted q u head chain) (objects_in n) =
-      sleep_chain_shown floor k n (chain_aborted q u head chain)
-      (names_aborted floor k q in_chain chain shows.names u head)
-      (shows_aborted (StandsIn floor (SleepChain k)) c s q side (sleeper s u) is in_chain chain shows.queue head sleeps.there n
-      (abort_changes s t q side u) (head_of-without_itself q chain shows.names.distinct) refl) in
-      let objects : RepresentsObjects floor (put r.content j new) (objects_in n) =
-      object_changed floor r.content (objects_in s) (objects_in n) (SleepChain k) j new at
-      (abort_changes_only floor s t q side u k in_chain) chain_then r.objects in
-      let words = words_stay s q side u lawful.queues.bits_show_waiters g.stands
-      (subst (λ ws. KeepsWord q (without_waiter u ws)) (sym its_list) sleeps.keeps_word) in
-      let made = latch_seen_with floor (step ∷ []) b v w f was allowed own me.1 j (put r.content j new)
-      (place_low floor (SleepChain k) j at) (λ i. record (words_in s) { word = words i }) refl refl shelves objects in
-      let behind : IsSound floor (step ∷ f.past) n = sound_kept floor s (step ∷ []) allowed f.sound in
-      let told : AbortedOff floor q u me (w, me.1) = record {
-        sleepers = sleepers;
-        side = side;
-        sleeps = sleeps;
-        can = waits_there side u head sleeps.stands;
-        is = refl {a = (w, me.1)};
-        step = made.1;
-        sleeps_there = g.sleeps;
-        held = marks.1;
-        of_floor = marked_low floor n t behind.facts.lawful f.fits.thread (map (mark_by ByAbort q) ps) marked;
-      } in
-      (w, keeps, tt, made.0, told)
+      let head : SleepQueue = sleeps.head in
+      let lost = loses_sleeper floor me q side u sleepers head b f was sleeps.there sleeps.stands allowed in
+      let behind : Knowledge = seeing (Aborts v.thread q side u ∷ f.past) (view_off floor v q u head sleepers.chain) in
+      let words = words_stay s q side u f.sound.facts.lawful.queues.bits_show_waiters allowed.0.fits.may.stands
+      (subst (λ ws. KeepsWord q (without_waiter u ws)) (sym lost.list) sleeps.keeps_word) in
+      let made = latch_seen_with floor (Aborts v.thread q side u ∷ []) b v behind f was allowed lost.own me.1 place
+      (put f.represents.content place (chain_off q u head sleepers.chain)) lost.low
+      (λ i. record (words_in s) { word = words i }) refl refl lost.shelves lost.objects in
+      let told = lost.told made.1 in (
+        behind,
+        keeps,
+        tt,
+        made.0,
+        record {
+          side = side;
+          off = told.0;
+          keeps_word = subst (λ (h : SleepQueue). KeepsWord q (without_waiter u (waiters side h.contents))) (sym told.1)
+              sleeps.keeps_word;
+        },
+      )
 
   pub abort_allowed : (slots id : ℕ) → MayMake floor v (λ s. Unit {0}) (Aborts v.thread q side u ∷ [])
-      → Allows (FloorHolds floor) slots id me (spot (latch_line j)) (λ n. n) (ToldAborted floor q u me)
+      → Allows (FloorHolds floor) slots id me (spot (latch_line place)) (λ n. n) (ToldAborted floor q u me)
   abort_allowed slots id may =
-      allows floor slots id me (spot (latch_line j)) (λ n. n) (ToldAborted floor q u me) was
+      allows floor slots id me (spot (latch_line place)) (λ n. n) (ToldAborted floor q u me) was
       (λ b f small. aborts b f (may f.state f.fits tt))

@@ -81,7 +81,8 @@ module _ (floor : Description) (v : Knowledge) (calm : IsAtRest floor v) (l : Lo
     pub cell_out : (x : Option ℕ) × (a.out ≡ (j, Cell x) ∷ rest a.out)
     cell_out = go taken.value taken.kind (taken_out floor v a cell j taken)
       where
-        go : (y : Slot) → IsOfKind cell y → a.out ≡ (j, y) ∷ rest a.out → (x : Option ℕ) × (a.out ≡ (j, Cell x) ∷ rest a.out)
+        go : (y : Slot) → IsOfKind cell y → a.out ≡ (j, y) ∷ rest a.out → (x : Option ℕ)
+            × (a.out ≡ (j, Cell x) ∷ rest a.out)
         go (Cell x) its last = (x, last)
         go (Record b) its last = absurd its
         go (Turnstiles chain) its last = absurd its
@@ -92,4 +93,5 @@ module _ (floor : Description) (v : Knowledge) (calm : IsAtRest floor v) (l : Lo
         → MayMake floor a (λ s. Unit {0}) (Stamps a.thread (Got l key found) ∷ [])
     may_tell found last held =
         may_note floor a calm_with (Got l key found)
-        (λ s f. let its = has_cell s f (Cell found) last in ((λ unheld. held (sym (section s f) ∙ unheld), its.1), its.0))
+        (λ s f. let its = has_cell s f (Cell found) last in
+        ((λ unheld. held (sym (section s f) ∙ unheld), its.1), its.0))

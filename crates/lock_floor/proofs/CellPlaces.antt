@@ -49,11 +49,14 @@ cell_at floor sized i d low =
         (keys_differ floor.keys sized.rising k i d up low
         (its_cell (get_or floor.keys i d).0 (get_or floor.keys i d).1 (get_or floor.keys k d) e))
 
-none_passes : {X : Type 0} (p : X → Bool) (xs : List X) (k : ℕ) (d : X) → list_any p xs ≡ false → k < length xs → p (get_or xs k d) ≡ false
+none_passes : {X : Type 0} (p : X → Bool) (xs : List X) (k : ℕ) (d : X) → list_any p xs ≡ false → k < length xs
+    → p (get_or xs k d) ≡ false
 none_passes p [] k d h low = absurd (omega arith)
 none_passes p (x ∷ xs) k d h low = go (p x) refl k low (λ j e l. none_passes p xs j d e l)
   where
-    go : (b : Bool) → p x ≡ b → (k : ℕ) → k < length (x ∷ xs) → ((j : ℕ) → list_any p xs ≡ false → j < length xs → p (get_or xs j d) ≡ false) → p (get_or (x ∷ xs) k d) ≡ false
+    go : (b : Bool) → p x ≡ b → (k : ℕ) → k < length (x ∷ xs)
+        → ((j : ℕ) → list_any p xs ≡ false → j < length xs → p (get_or xs j d) ≡ false)
+        → p (get_or (x ∷ xs) k d) ≡ false
     go true e k low rest = absurd (let z : true ≡ false = ap (λ b. b || list_any p xs) (sym e) ∙ h in cc)
     go false e zero low rest = e
     go false e (suc k) low rest = rest k (ap (λ b. b || list_any p xs) (sym e) ∙ h) (omega arith)

@@ -70,7 +70,8 @@ module _ (floor : Description) (x : Objects) (a b : ℕ) (v : Option ℕ) where
   beside : (l key : ℕ) → CellOf l key ≢ CellOf a b → put_at x.table a b v l key ≡ x.table l key
   beside l key ne =
       elim (cases_eq a l) [
-        | inl p ↦ elim (cases_eq b key) [ inl q ↦ absurd (ne (λ i. CellOf (sym p i) (sym q i))) | inr q ↦ put_at_beside x.table a b v l key q ]
+        | inl p ↦ elim (cases_eq b key)
+            [ inl q ↦ absurd (ne (λ i. CellOf (sym p i) (sym q i))) | inr q ↦ put_at_beside x.table a b v l key q ]
         | inr p ↦ put_at_other x.table a b v l key p
       ]
 
@@ -121,7 +122,11 @@ module _ (floor : Description) (s : State) (t : ℕ) (lawful : Lawful (config_in
       → IsOf floor (objects_in (after_stamp c s t (Base p))) (RecordOf t) (changed (Base p) x)
   unfolding after_stamp
   base_is p (Record b) h =
-      subst (RepresentsRecord _) (sym (λ i. record (record_in s t) { base = put_same s.base t p.0 i; effective = put_same s.effective t (effective_of c (s.loan t) p.0) i }))
+      subst (RepresentsRecord _)
+      (sym (λ i. record (record_in s t) {
+        base = put_same s.base t p.0 i;
+        effective = put_same s.effective t (effective_of c (s.loan t) p.0) i;
+      }))
       (with_other_base c p.0 (none_beyond c s t lawful) h)
   base_is p (Cell v) h = absurd h
   base_is p (Turnstiles chain) h = absurd h
@@ -177,7 +182,8 @@ change_allowed floor me event slots id i j x was room about place last changes m
         let r = h.represents in
         let t : ℕ = me.0.thread in
         let outs : ℕ → List (ℕ × Slot) = λ u. (thread_in b.views u).out in
-        let mine : outs t ≡ (j, x) ∷ rest me.0.out = ap (λ (k : Knowledge). k.out) (at_or b.views (suc t) me.0 nothing h.there) ∙ last in
+        let mine : outs t ≡ (j, x) ∷ rest me.0.out =
+        ap (λ (k : Knowledge). k.out) (at_or b.views (suc t) me.0 nothing h.there) ∙ last in
         let y : Slot = changed event x in
         let now : me.1 ≡ (j, y) ∷ rest me.0.out = changes ∙ ap (last_changed event) last in
         let is_its = (h.fits.out.each i j x place (ap (found j) last ∙ found_first j x (rest me.0.out))).1 in

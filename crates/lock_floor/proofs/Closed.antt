@@ -1,9 +1,10 @@
 -- A floor whose passes were all taken in: nobody has anything out, so that all values are in their places.
-use Rattle.std.proofs.Common.{◌≡◌, ◌≢◌, ℕ, zero, suc, ◌+◌, ◌<◌, ◌≤◌, Bool, true, false, cond, List, [], ◌∷◌, length, map, reverse, get_or, Option, Some, None, refl, sym, ap, ◌∙◌, subst, inl, inr, arith, eq-eqb}
+use Rattle.std.proofs.Common.{◌≡◌, ◌≢◌, ℕ, zero, suc, ◌+◌, ◌<◌, ◌≤◌, Bool, true, false, cond, List, [], ◌∷◌, ◌++◌, length, map, reverse, get_or, Option, Some, None, refl, sym, ap, ◌∙◌, subst, inl, inr, arith, eq-eqb}
 use Rattle.std.proofs.lemmas.Bool.{cases_eq, cases_lt, ne_eqb}
 use Rattle.std.specs.Prelude.{◌==◌, nat_lt, option_map}
 use Rattle.std.specs.Option.{IsSome}
 use Rattle.std.specs.List.{All, list_any}
+use Rattle.std.proofs.lemmas.List.{append_cancel_right}
 use Rattle.std.proofs.lemmas.List.Elements.{All-head, All-tail}
 use mathlib.Core.Option.{some, none, some-ne-none}
 use lib.ListN.{get_elem?}
@@ -18,7 +19,7 @@ use Rattle.lock_objects.specs.Represents.{RecordColumns, RepresentsRecord, recor
 use Rattle.lock_state.specs.Facts.{OneTurnstileEach, OneSleepQueueEach, HeadsFitWaiters, LoansAreOnHeads, BasesReplay, LogsAreParts}
 use Rattle.lock_state.specs.Facts.Queues.{turnstile_places, sleep_queue_places}
 use Rattle.lock_state.specs.State.{State, Loan, Running, gained_order}
-use Rattle.lock_state.specs.Steps.{Step}
+use Rattle.lock_state.specs.Steps.{Step, maker}
 use Rattle.lock_state.specs.Steps.Items.{RecordOf, CellOf}
 use Rattle.lock_laws.proofs.Kit.{sum_below-two, one_same}
 use Rattle.lock_laws.proofs.Standing.{standing_named}
@@ -30,6 +31,7 @@ use Rattle.floor_table.specs.Descriptions.{config_in}
 use Rattle.floor_table.specs.declared.description.Description.{Description}
 use Rattle.floor_table.specs.declared.slot.Slot.{Slot}
 use Rattle.floor_table.specs.declared.slot.Slot.TheVariants.{Record as Recorded, Cell, Turnstiles, SleepQueues, Graph}
+use Rattle.floor_table.specs.Past.{AreOfOthers}
 use Rattle.floor_table.specs.Places.{slots_for, latch_word, word_at, halt_line}
 use Rattle.floor_table.specs.Shares.{Share, ShareColumns, start_share, share_in, columns_of}
 use Rattle.floor_table.specs.Views.{OfThread, Runs, Knowledge, nothing}
@@ -50,7 +52,8 @@ use Rattle.lock_floor.proofs.Counting.{stands_once, stands_there}
 no_loans : (ts : List Terms) → ((l : ℕ) → option_map loan_of (loan_for l ts) ≡ None) → ts ≡ []
 no_loans [] h = refl
 no_loans (t ∷ ts) h =
-    let first : loan_for t.lock (t ∷ ts) ≡ Some t = ap (λ b. cond b (Some t) (loan_for t.lock ts)) (eq-eqb t.lock t.lock refl) in
+    let first : loan_for t.lock (t ∷ ts) ≡ Some t =
+    ap (λ b. cond b (Some t) (loan_for t.lock ts)) (eq-eqb t.lock t.lock refl) in
     absurd (let z : Some (loan_of t) ≡ None = sym (ap (option_map loan_of) first) ∙ h t.lock in cc)
 
 -- a list in which nobody waits is empty
@@ -197,25 +200,47 @@ module _ (floor : Description) (v : Knowledge) (ws : List ℕ) (xs : List Slot)
   gathered = ap (λ (k : Knowledge). k.gathered) keeper
 
   all_made : ((keeper_in b.views).made ≡ length floor.threads) × (total live b.views ≡ 0)
-  all_made = let n = ap length gathered in let seats = represents.seats in (omega (arith, n, all, seats.counted, seats.few), omega (arith, n, all, seats.counted, seats.few))
+  all_made = let n = ap length gathered in let seats = represents.seats in
+      (omega (arith, n, all, seats.counted, seats.few), omega (arith, n, all, seats.counted, seats.few))
 
   nobody : (t : ℕ) → (thread_in b.views t).role ≢ OfThread
-  nobody t e = let p = live_at b.views (suc t) in let q : live (thread_in b.views t) ≡ 1 = ap one_thread e in omega (arith, p, q, all_made.1)
+  nobody t e = let p = live_at b.views (suc t) in let q : live (thread_in b.views t) ≡ 1 = ap one_thread e in
+      omega (arith, p, q, all_made.1)
 
   -- so all threads run
   pub running : (t : ℕ) → left.wait t ≡ Running
   running t = subst (λ p. IsPosed p (left.wait t) (left.blocked_on t)) (represents.seats.runs t (nobody t))
       (represents.seats.poses t)
 
+  -- and the keeper has seen all steps
+  pub all_seen : steps ≡ v.seen
+  all_seen = go final.1.0.seen.keeper.later final.1.0.seen.keeper.is
+    where
+      go : (later : List Step) → steps ≡ later ++ (keeper_in b.views).seen → steps ≡ v.seen
+      go [] e = e ∙ ap (λ (k : Knowledge). k.seen) keeper
+      go (step ∷ later) e = absurd (elim (cases_lt (maker step) (keeper_in b.views).made) [
+        | inl low ↦
+            let its = final.1.0.seen.taken_in (maker step) low (nobody (maker step)) in
+            let same : its.later ≡ step ∷ later =
+            append_cancel_right its.later (step ∷ later) (keeper_in b.views).seen (sym its.is ∙ e) in
+            subst (AreOfOthers (maker step)) same its.of_others 0 step (omega arith) refl
+        | inr past ↦
+            subst (AreOfOthers (maker step)) e (final.1.0.seen.unmade (maker step) past) 0 step (omega arith) refl
+      ])
+
   free : (j : ℕ) → j < slots_for floor → latch_word b.words j ≡ 0
   free j low = go (latch_word b.words j) refl
     where
       go : (n : ℕ) → latch_word b.words j ≡ n → n ≡ 0
       go zero e = refl
-      go (suc t) e = absurd (some-ne-none (represents.content j) (sym (represents.shelves.away j t low e) ∙ ap (found j) (represents.seats.none_out t (nobody t))))
+      go (suc t) e = absurd
+          (some-ne-none (represents.content j)
+          (sym (represents.shelves.away j t low e) ∙ ap (found j) (represents.seats.none_out t (nobody t))))
 
   in_place : (j : ℕ) → j < slots_for floor → get_elem? xs j ≡ some (represents.content j)
-  in_place j low = final.4 j (represents.content j) (or_at b.homes j none (omega (arith, low, represents.sizes.slots)) ∙ ap some (represents.shelves.at_home j low (free j low)))
+  in_place j low = final.4 j (represents.content j)
+      (or_at b.homes j none (omega (arith, low, represents.sizes.slots))
+      ∙ ap some (represents.shelves.at_home j low (free j low)))
 
   pub record_home : (t : ℕ) → t < length floor.threads → (b : Box ThreadRec Global)
       × (get_elem? xs t ≡ some (Recorded b)) × RepresentsRecord b.value (record_in left t)
@@ -247,7 +272,8 @@ module _ (floor : Description) (v : Knowledge) (ws : List ℕ) (xs : List Slot)
   below i d low = let h = taken_in i d low in subst (λ n. (get_or v.gathered i d).0 < n) all_made.0 h.made
 
   named : (t : ℕ) → t < length floor.threads → list_any (λ (g : ℕ × Share). g.0 == t) v.gathered ≡ true
-  named t low = subst (λ gs. list_any (λ (g : ℕ × Share). g.0 == t) gs ≡ true) gathered (represents.seats.each t (subst (λ n. t < n) (sym all_made.0) low) (nobody t))
+  named t low = subst (λ gs. list_any (λ (g : ℕ × Share). g.0 == t) gs ≡ true) gathered
+      (represents.seats.each t (subst (λ n. t < n) (sym all_made.0) low) (nobody t))
 
   -- what the share of each pass says, and that of a thread at its begin, is so of each thread
   of_each : (P : ShareColumns → Type 0) → P (columns_of start_share)
@@ -295,9 +321,12 @@ module _ (floor : Description) (v : Knowledge) (ws : List ℕ) (xs : List Slot)
         ∙ ap (λ (y : ShareColumns). y.log) (represents.seats.unmade t (subst (λ n. n ≤ t) (sym all_made.0) past))))
   ]
 
-  pub parts : map (λ g. reverse g.1.log) v.gathered ≡ map (λ t. reverse (entries_of left.history t)) (map (λ g. g.0) v.gathered)
+  pub parts : map (λ g. reverse g.1.log) v.gathered ≡ map (λ t. reverse (entries_of left.history t))
+      (map (λ g. g.0) v.gathered)
   parts = go v.gathered taken_in
     where
-      go : (gs : List (ℕ × Share)) → All (λ g. IsTakenIn b.views left g.0 g.1) gs → map (λ g. reverse g.1.log) gs ≡ map (λ t. reverse (entries_of left.history t)) (map (λ g. g.0) gs)
+      go : (gs : List (ℕ × Share)) → All (λ g. IsTakenIn b.views left g.0 g.1) gs
+          → map (λ g. reverse g.1.log) gs ≡ map (λ t. reverse (entries_of left.history t)) (map (λ g. g.0) gs)
       go [] h = refl
-      go (g ∷ gs) h = λ i. reverse (its_log g.0 g.1 (All-head (λ k. IsTakenIn b.views left k.0 k.1) g gs h) i) ∷ go gs (All-tail (λ k. IsTakenIn b.views left k.0 k.1) g gs h) i
+      go (g ∷ gs) h = λ i. reverse (its_log g.0 g.1 (All-head (λ k. IsTakenIn b.views left k.0 k.1) g gs h) i) ∷ go gs
+          (All-tail (λ k. IsTakenIn b.views left k.0 k.1) g gs h) i

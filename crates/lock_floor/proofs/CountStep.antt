@@ -1,5 +1,6 @@
--- A thread counts itself out, another in, or itself in where its counting out left nobody awake: the awake word goes down
--- or up by one. How many are awake is more than none where a thread counts itself out, and at most two for each thread.
+-- A thread counts itself out, another in, or itself in where its counting out left nobody awake: the awake word goes
+-- down or up by one. How many are awake is more than none where a thread counts itself out, and at most two for each
+-- thread.
 use Rattle.std.proofs.Common.{◌≡◌, ◌≢◌, ℕ, suc, ◌+◌, ◌-◌, ◌%◌, ◌≤◌, Some, List, [], ◌∷◌, refl, sym, ap, ◌∙◌, subst, inl, inr, arith, eq-eqb}
 use Rattle.std.proofs.lemmas.Bool.{cases_eq, ne_eqb}
 use Rattle.std.specs.Prelude.{slice_index}
@@ -62,7 +63,8 @@ module _ (s : State) (v : Knowledge) (fit : RepresentsShare v.share s v.thread) 
   out_own = record {
     columns = λ i. record (e i) {
       doing = record (e i).doing {
-        counted_out = (ap (λ (x : ShareColumns). suc x.doing.counted_out) e ∙ sym (put_same s.counted_out t (suc (s.counted_out t)))) i;
+        counted_out = (ap (λ (x : ShareColumns). suc x.doing.counted_out) e
+            ∙ sym (put_same s.counted_out t (suc (s.counted_out t)))) i;
         phase = sym (put_same s.phase t (phase_out s.awake)) i;
       };
     };
@@ -122,7 +124,7 @@ module _ (s : State) (t w : ℕ) (other : w ≢ t) where
 abbrev pub CountedBy : Description → Count → Me Slot Knowledge → ℕ → Me Slot Knowledge → Type 0
 CountedBy floor how me found behind =
     (behind ≡ (seeing behind.0.seen (counted how found me.0), me.1))
-    × Makes floor (counts_by how me.0.thread ∷ []) me.0 behind.0
+    × (m : Makes floor (counts_by how me.0.thread ∷ []) me.0 behind.0) × (m.state.awake ≡ found)
 
 module _ (floor : Description) (me : Me Slot Knowledge) (was : me.0.role ≡ OfThread) where
   abbrev v : Knowledge
@@ -169,7 +171,7 @@ module _ (floor : Description) (me : Me Slot Knowledge) (was : me.0.role ≡ OfT
       let made = awake_made floor (step ∷ []) b v w h was allowed own me.1
       ((found + 18446744073709551615) % 18446744073709551616)
       (λ i. record (words_in s) { awake = sym less i }) (record { items = refl; objects = refl }) refl refl in
-      (w, keeps, tt, made.0, (refl, made.1))
+      (w, keeps, tt, made.0, (refl, made.1, ap (λ (x : State). x.awake) made.2 ∙ sym (its_awake b h)))
   counts (In u) b h allowed =
       let s : State = h.state in
       let t : ℕ = v.thread in
@@ -188,7 +190,7 @@ module _ (floor : Description) (me : Me Slot Knowledge) (was : me.0.role ≡ OfT
       } in
       let made = awake_made floor (step ∷ []) b v w h was allowed own me.1 ((found + 1) % 18446744073709551616)
       (λ i. record (words_in s) { awake = sym more i }) (record { items = refl; objects = refl }) refl refl in
-      (w, keeps, tt, made.0, (refl, made.1))
+      (w, keeps, tt, made.0, (refl, made.1, ap (λ (x : State). x.awake) made.2 ∙ sym (its_awake b h)))
   counts SelfIn b h allowed =
       let s : State = h.state in
       let t : ℕ = v.thread in
@@ -207,7 +209,7 @@ module _ (floor : Description) (me : Me Slot Knowledge) (was : me.0.role ≡ OfT
       } in
       let made = awake_made floor (step ∷ []) b v w h was allowed own me.1 ((found + 1) % 18446744073709551616)
       (λ i. record (words_in s) { awake = sym more i }) (record { items = refl; objects = refl }) refl refl in
-      (w, keeps, tt, made.0, (refl, made.1))
+      (w, keeps, tt, made.0, (refl, made.1, ap (λ (x : State). x.awake) made.2 ∙ sym (its_awake b h)))
 
   pub count_allowed : (how : Count) (n : ℕ) → n ≡ added_by how → (slots id : ℕ)
       → MayMake floor v (λ s. Unit {0}) (counts_by how v.thread ∷ [])

@@ -27,8 +27,10 @@ module _ {X : Type 0} (f : X → ℕ) where
   stands t [] e = absurd cc
   stands t (x ∷ xs) e = go (f x == t) refl (λ q. stands t xs q)
     where
-      go : (b : Bool) → (f x == t) ≡ b → (list_any (λ y. f y == t) xs ≡ true → 1 ≤ times t (map f xs)) → 1 ≤ times t (map f (x ∷ xs))
-      go true q rest = let same : one (eqb t (f x)) ≡ 1 = ap (λ n. one (eqb t n)) (eqb-true (f x) t q) ∙ one_same t in omega (arith, same)
+      go : (b : Bool) → (f x == t) ≡ b → (list_any (λ y. f y == t) xs ≡ true → 1 ≤ times t (map f xs))
+          → 1 ≤ times t (map f (x ∷ xs))
+      go true q rest = let same : one (eqb t (f x)) ≡ 1 = ap (λ n. one (eqb t n)) (eqb-true (f x) t q)
+          ∙ one_same t in omega (arith, same)
       go false q rest = let p = rest (ap (λ b. b || list_any (λ y. f y == t) xs) (sym q) ∙ e) in omega (arith, p)
 
   is_below : (n t : ℕ) (xs : List X) → All (λ x. f x < n) xs → 1 ≤ times t (map f xs) → t < n
@@ -39,13 +41,17 @@ module _ {X : Type 0} (f : X → ℕ) where
       go true q rest = subst (λ m. m < n) (sym (eqb-true t (f x) q)) (All-head (λ y. f y < n) x xs low)
       go false q rest = rest (let z : one (eqb t (f x)) ≡ 0 = ap one q in omega (arith, z, h))
 
-  module _ (n : ℕ) (xs : List X) (long : length xs ≡ n) (low : All (λ x. f x < n) xs) (each : (t : ℕ) → t < n → list_any (λ x. f x == t) xs ≡ true) where
+  module _ (n : ℕ) (xs : List X) (long : length xs ≡ n) (low : All (λ x. f x < n) xs)
+      (each : (t : ℕ) → t < n → list_any (λ x. f x == t) xs ≡ true) where
     pub stands_once : (t : ℕ) → times t (map f xs) ≤ 1
     stands_once t =
         let sum = times-sum n (map f xs) in
         elim (cases_lt t n) [
-          | inl l ↦ at_most_one n (λ j. times j (map f xs)) (λ j k. stands j xs (each j k)) (omega (arith, sum, long, length-map xs f)) t l
-          | inr past ↦ let none = zero_unless (times t (map f xs)) (λ h. let l = is_below n t xs low h in omega (arith, l, past)) in omega (arith, none)
+          | inl l ↦ at_most_one n (λ j. times j (map f xs)) (λ j k. stands j xs (each j k))
+              (omega (arith, sum, long, length-map xs f)) t l
+          | inr past ↦ let none =
+              zero_unless (times t (map f xs)) (λ h. let l = is_below n t xs low h in omega (arith, l, past)) in
+              omega (arith, none)
         ]
 
     pub stands_there : (t : ℕ) → t < n → times t (map f xs) ≡ 1

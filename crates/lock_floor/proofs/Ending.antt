@@ -66,9 +66,11 @@ module _ (floor : Description) (v : Knowledge) (ws : List ℕ) (xs : List Slot)
   -- the cells are in their places, however these are written
   pub cells_out : (threads : ℕ) (keys : List (ℕ × ℕ)) (ys : List Slot) → threads ≡ length floor.threads
       → keys ≡ floor.keys → ys ≡ xs
-      → (i : ℕ) (d : ℕ × ℕ) → i < length keys → get_elem? ys (threads + i) ≡ some (Cell (s.table (get_or keys i d).0 (get_or keys i d).1))
+      → (i : ℕ) (d : ℕ × ℕ) → i < length keys
+      → get_elem? ys (threads + i) ≡ some (Cell (s.table (get_or keys i d).0 (get_or keys i d).1))
   cells_out threads keys ys same_threads same_keys same_items =
-      subst (λ (z : ℕ × List (ℕ × ℕ) × List Slot). (i : ℕ) (d : ℕ × ℕ) → i < length z.1 → get_elem? z.2 (z.0 + i) ≡ some (Cell (s.table (get_or z.1 i d).0 (get_or z.1 i d).1)))
+      subst (λ (z : ℕ × List (ℕ × ℕ) × List Slot). (i : ℕ) (d : ℕ × ℕ) → i < length z.1
+      → get_elem? z.2 (z.0 + i) ≡ some (Cell (s.table (get_or z.1 i d).0 (get_or z.1 i d).1)))
       (λ j. (sym same_threads j, sym same_keys j, sym same_items j)) (closed.cell_home floor v ws xs final all)
 
   -- what the records, the locks' tables and the logs have then
@@ -88,7 +90,8 @@ module _ (floor : Description) (v : Knowledge) (ws : List ℕ) (xs : List Slot)
         → RepresentsRecord (get_or x.recs.items t d).value (record_in s t)
     its_record t d low =
         let p = closed.record_home floor v ws xs final all t low in
-        let same : p.0 ≡ get_or x.recs.items t d = same_record p.0 (get_or x.recs.items t d) (sym p.1 ∙ h.records t d low) in
+        let same : p.0 ≡ get_or x.recs.items t d =
+        same_record p.0 (get_or x.recs.items t d) (sym p.1 ∙ h.records t d low) in
         subst (λ (b : Box ThreadRec Global). RepresentsRecord b.value (record_in s t)) same p.2
 
     value : (l key : ℕ) (b : Bool) → list_any (is_cell l key) floor.keys ≡ b
@@ -113,7 +116,9 @@ module _ (floor : Description) (v : Knowledge) (ws : List ℕ) (xs : List Slot)
     part_differs : {A : Type 0} (part : RecordColumns → A)
         → ((t u : ℕ) → t < length floor.threads → u < length floor.threads → part (record_in s t) ≡ part (record_in s u)
         → t ≡ u)
-        → (t u : ℕ) (d : Box ThreadRec Global) → t < length x.recs.items → u < length x.recs.items → part (columns_of (get_or x.recs.items t d).value) ≡ part (columns_of (get_or x.recs.items u d).value) → t ≡ u
+        → (t u : ℕ) (d : Box ThreadRec Global) → t < length x.recs.items → u < length x.recs.items
+        → part (columns_of (get_or x.recs.items t d).value) ≡ part (columns_of (get_or x.recs.items u d).value)
+        → t ≡ u
     part_differs part apart t u d i j e =
         let i' : t < length floor.threads = omega (arith, i, h.count) in
         let j' : u < length floor.threads = omega (arith, j, h.count) in
@@ -125,12 +130,12 @@ module _ (floor : Description) (v : Knowledge) (ws : List ℕ) (xs : List Slot)
         (λ e. one_is s.halted (sym (closed.halt_word floor v ws xs final all) ∙ h.halted.0 e))
         (λ e. h.halted.1 (closed.halt_word floor v ws xs final all ∙ ap one e))
 
-    pub is_closing : IsClosing floor (map (λ g. g.0) v.gathered) x
+    pub is_closing : (left : IsClosing floor (map (λ g. g.0) v.gathered) x) × (left.past ≡ v.seen)
     unfolding UnhaltedBefore
     is_closing =
         let sound = closed.sound floor v ws xs final all in
         let running = closed.running floor v ws xs final all in
-        record {
+        let left : IsClosing floor (map (λ g. g.0) v.gathered) x = record {
           history = s.history;
           logs = record {
             parts = h.logs ∙ closed.parts floor v ws xs final all;
@@ -153,8 +158,9 @@ module _ (floor : Description) (v : Knowledge) (ws : List ℕ) (xs : List Slot)
           tables = same_map place_total place_exact x.tables.present (tables_of s.history) replayed;
           past = closed.steps floor v ws xs final all;
           last = s;
-          reached = sound.reached;
+          sound = sound;
           left = refl;
           halted = its_halt;
           unhalted = λ e. sound.explained.unhalted_before (sym its_halt ∙ e);
-        }
+        } in
+        (left, closed.all_seen floor v ws xs final all)

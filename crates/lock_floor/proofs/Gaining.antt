@@ -82,7 +82,8 @@ module _ (floor : Description) (me : Me Slot Knowledge) (was : me.0.role ≡ OfT
         pose = h.fits.pose;
         other_poses = λ u ne p k. k;
       } in
-      let says_now : word_of new ≡ words.gained (h.state.word l) v.thread x.mode = says ∙ ap (λ y. words.gained y v.thread x.mode) (sym its_word) in
+      let says_now : word_of new ≡ words.gained (h.state.word l) v.thread x.mode = says
+      ∙ ap (λ y. words.gained y v.thread x.mode) (sym its_word) in
       let made = lock_made floor (gain_step x me) b v w h was allowed own me.1 l new
       (words.gained (h.state.word l) v.thread x.mode) low says_now refl (record { items = refl; objects = refl })
       refl refl in

@@ -1,6 +1,6 @@
 -- The rule when the keeper takes a pass in, and what it tells the keeper then.
 use Rattle.std.proofs.Common.{◌≡◌, ◌≢◌, ℕ, zero, suc, ◌<◌, ◌≤◌, Bool, true, false, List, [], ◌∷◌, ◌++◌, length, set, refl, sym, ap, ◌∙◌, subst, inl, inr, arith, length-set, length-append, get_or-set_same, get_or-set_other}
-use Rattle.std.proofs.lemmas.Bool.{cases_eq, eq-eqb}
+use Rattle.std.proofs.lemmas.Bool.{cases_eq, eq-eqb, ltb-true, ltb-false}
 use Rattle.std.proofs.lemmas.List.{set-get_or}
 use Rattle.std.proofs.lemmas.List.Elements.{All-push}
 use Rattle.std.proofs.lemmas.List.Folds.{list_any-append}
@@ -22,6 +22,7 @@ use Rattle.floor_table.specs.Represents.{Board, keeper_in, thread_in, spare, liv
 use Rattle.floor_table.specs.Rule.{FloorHolds}
 use Rattle.floor_table.proofs.Lists.{inside, at_or}
 use Rattle.floor_table.proofs.Seats.{total_set}
+use Rattle.floor_table.proofs.Seen.{seen_further}
 use Rattle.lock_floor.specs.Views.{longer, with_pass_taken}
 
 -- 1. A pass fewer
@@ -45,39 +46,46 @@ module _ (floor : Description) (b : Board) (s : State) (r : Represents floor b s
   old_keeper = at_or vs 0 v nothing at
 
   new_keeper : keeper_in new ≡ both
-  new_keeper = get_or-set_other between (suc t) 0 nothing nothing (λ e. omega (arith, e)) ∙ get_or-set_same vs 0 both nothing (inside vs 0 v at)
+  new_keeper = get_or-set_other between (suc t) 0 nothing nothing (λ e. omega (arith, e))
+      ∙ get_or-set_same vs 0 both nothing (inside vs 0 v at)
 
   old_thread : thread_in vs t ≡ w
-  old_thread = sym (get_or-set_other vs 0 (suc t) both nothing (λ e. omega (arith, e))) ∙ at_or between (suc t) w nothing there
+  old_thread = sym (get_or-set_other vs 0 (suc t) both nothing (λ e. omega (arith, e)))
+      ∙ at_or between (suc t) w nothing there
 
   new_thread : thread_in new t ≡ nothing
   new_thread = get_or-set_same between (suc t) nothing nothing (inside between (suc t) w there)
 
   others_stay : (u : ℕ) → u ≢ t → thread_in new u ≡ thread_in vs u
-  others_stay u ne = get_or-set_other between (suc t) (suc u) nothing nothing (λ e. ne (omega (arith, e))) ∙ get_or-set_other vs 0 (suc u) both nothing (λ e. omega (arith, e))
+  others_stay u ne = get_or-set_other between (suc t) (suc u) nothing nothing (λ e. ne (omega (arith, e)))
+      ∙ get_or-set_other vs 0 (suc u) both nothing (λ e. omega (arith, e))
 
   same_made : (keeper_in new).made ≡ (keeper_in vs).made
   same_made = ap (λ (k : Knowledge). k.made) new_keeper ∙ sym (ap (λ (k : Knowledge). k.made) old_keeper)
 
   more : (keeper_in new).gathered ≡ (keeper_in vs).gathered ++ (w.thread, w.share) ∷ []
-  more = ap (λ (k : Knowledge). k.gathered) new_keeper ∙ ap (λ (k : Knowledge). k.gathered ++ (w.thread, w.share) ∷ []) (sym old_keeper)
+  more = ap (λ (k : Knowledge). k.gathered) new_keeper
+      ∙ ap (λ (k : Knowledge). k.gathered ++ (w.thread, w.share) ∷ []) (sym old_keeper)
 
   -- what nobody's seat has too, the seat of the pass had
   field_stays : {B : Type 0} (f : Knowledge → B) → f nothing ≡ f w → (u : ℕ) → f (thread_in new u) ≡ f (thread_in vs u)
   field_stays f same u =
       elim (cases_eq u t) [
-        | inl e ↦ ap (λ j. f (thread_in new j)) e ∙ ap f new_thread ∙ same ∙ ap f (sym old_thread) ∙ ap (λ j. f (thread_in vs j)) (sym e)
+        | inl e ↦ ap (λ j. f (thread_in new j)) e ∙ ap f new_thread ∙ same ∙ ap f (sym old_thread)
+            ∙ ap (λ j. f (thread_in vs j)) (sym e)
         | inr ne ↦ ap f (others_stay u ne)
       ]
 
   its : IsSeatOf w s t
-  its = subst (λ (k : Knowledge). IsSeatOf k s t) old_thread (r.seats.thread t (ap (λ (k : Knowledge). k.role) old_thread ∙ was))
+  its = subst (λ (k : Knowledge). IsSeatOf k s t) old_thread
+      (r.seats.thread t (ap (λ (k : Knowledge). k.role) old_thread ∙ was))
 
   low : t < (keeper_in vs).made
   low = let p = inside between (suc t) w there in omega (arith, p, length-set vs 0 both, r.seats.made)
 
   gone : (u : ℕ) → u ≡ t → (thread_in new u).role ≢ OfThread
-  gone u q e = absurd (let z : OfNobody ≡ OfThread = sym (ap (λ j. (thread_in new j).role) q ∙ ap (λ (k : Knowledge). k.role) new_thread) ∙ e in cc)
+  gone u q e = absurd (let z : OfNobody ≡ OfThread = sym
+      (ap (λ j. (thread_in new j).role) q ∙ ap (λ (k : Knowledge). k.role) new_thread) ∙ e in cc)
 
   -- so a seat that is a thread's now was it before
   was_thread : (u : ℕ) → (thread_in new u).role ≡ OfThread → (u ≢ t) × ((thread_in vs u).role ≡ OfThread)
@@ -100,14 +108,20 @@ module _ (floor : Description) (b : Board) (s : State) (r : Represents floor b s
   }
 
   all_taken : All (λ g. IsTakenIn new s g.0 g.1) ((keeper_in vs).gathered ++ (w.thread, w.share) ∷ [])
-  all_taken = All-push (λ (g : ℕ × Share). IsTakenIn new s g.0 g.1) (keeper_in vs).gathered (w.thread, w.share) (λ i d h. taken_stays _ _ (r.seats.taken_in i d h)) taken_now
+  all_taken = All-push (λ (g : ℕ × Share). IsTakenIn new s g.0 g.1) (keeper_in vs).gathered (w.thread, w.share)
+      (λ i d h. taken_stays _ _ (r.seats.taken_in i d h)) taken_now
 
-  named : (u : ℕ) → u < (keeper_in new).made → (thread_in new u).role ≢ OfThread → list_any (λ g. g.0 == u) ((keeper_in vs).gathered ++ (w.thread, w.share) ∷ []) ≡ true
+  named : (u : ℕ) → u < (keeper_in new).made → (thread_in new u).role ≢ OfThread
+      → list_any (λ g. g.0 == u) ((keeper_in vs).gathered ++ (w.thread, w.share) ∷ []) ≡ true
   named u h none =
       let parts = list_any-append (λ (g : ℕ × Share). g.0 == u) (keeper_in vs).gathered ((w.thread, w.share) ∷ []) in
       elim (cases_eq u t) [
-        | inl e ↦ parts ∙ ap (λ x. list_any (λ (g : ℕ × Share). g.0 == u) (keeper_in vs).gathered || (x || false)) (eq-eqb w.thread u (its.thread ∙ sym e)) ∙ or_true (list_any (λ (g : ℕ × Share). g.0 == u) (keeper_in vs).gathered)
-        | inr ne ↦ parts ∙ ap (λ x. x || ((w.thread == u) || false)) (r.seats.each u (subst (λ n. u < n) same_made h) (λ e. none (ap (λ (k : Knowledge). k.role) (others_stay u ne) ∙ e)))
+        | inl e ↦ parts ∙ ap (λ x. list_any (λ (g : ℕ × Share). g.0 == u) (keeper_in vs).gathered || (x || false))
+            (eq-eqb w.thread u (its.thread ∙ sym e))
+            ∙ or_true (list_any (λ (g : ℕ × Share). g.0 == u) (keeper_in vs).gathered)
+        | inr ne ↦ parts ∙ ap (λ x. x || ((w.thread == u) || false))
+            (r.seats.each u (subst (λ n. u < n) same_made h)
+            (λ e. none (ap (λ (k : Knowledge). k.role) (others_stay u ne) ∙ e)))
       ]
     where
       or_true : (x : Bool) → (x || true) ≡ true
@@ -116,16 +130,19 @@ module _ (floor : Description) (b : Board) (s : State) (r : Represents floor b s
 
   seats_joined : RepresentsSeats floor new s
   seats_joined = record {
-    keeper = ap (λ (k : Knowledge). k.role) new_keeper ∙ sym (ap (λ (k : Knowledge). k.role) old_keeper) ∙ r.seats.keeper;
+    keeper = ap (λ (k : Knowledge). k.role) new_keeper ∙ sym (ap (λ (k : Knowledge). k.role) old_keeper)
+        ∙ r.seats.keeper;
     made = length-set between (suc t) nothing ∙ length-set vs 0 both ∙ r.seats.made ∙ ap suc (sym same_made);
     few = subst (λ n. n ≤ length floor.threads) (sym same_made) r.seats.few;
-    thread = λ u e. let p = was_thread u e in subst (λ (k : Knowledge). IsSeatOf k s u) (sym (others_stay u p.0)) (r.seats.thread u p.1);
+    thread = λ u e. let p = was_thread u e in
+        subst (λ (k : Knowledge). IsSeatOf k s u) (sym (others_stay u p.0)) (r.seats.thread u p.1);
     unmade = λ u past. r.seats.unmade u (subst (λ n. n ≤ u) same_made past);
     taken_in = subst (All (λ g. IsTakenIn new s g.0 g.1)) (sym more) all_taken;
     each = λ u h none. subst (λ gs. list_any (λ g. g.0 == u) gs ≡ true) (sym more) (named u h none);
     none_out = λ u none. elim (cases_eq u t) [
       | inl e ↦ ap (λ j. (thread_in new j).out) e ∙ ap (λ (k : Knowledge). k.out) new_thread
-      | inr ne ↦ ap (λ (k : Knowledge). k.out) (others_stay u ne) ∙ r.seats.none_out u (λ e. none (ap (λ (k : Knowledge). k.role) (others_stay u ne) ∙ e))
+      | inr ne ↦ ap (λ (k : Knowledge). k.out) (others_stay u ne)
+          ∙ r.seats.none_out u (λ e. none (ap (λ (k : Knowledge). k.role) (others_stay u ne) ∙ e))
     ];
     counted =
         let first = total_set live vs 0 v both at in
@@ -166,13 +183,37 @@ module _ (floor : Description) (b : Board) (s : State) (r : Represents floor b s
       go true = k
       go false = h
 
+  no_longer : (xs ys : List Step) → (length xs ≤ length (longer xs ys)) × (length ys ≤ length (longer xs ys))
+  no_longer xs ys = go (nat_lt (length xs) (length ys)) refl
+    where
+      go : (b : Bool) → nat_lt (length xs) (length ys) ≡ b
+          → (length xs ≤ length (if b then ys else xs)) × (length ys ≤ length (if b then ys else xs))
+      go true e = let less = ltb-true (length xs) (length ys) e in (omega (arith, less), omega (arith, less))
+      go false e = let more = ltb-false (length xs) (length ys) e in (omega (arith, more), omega (arith, more))
+
   seen_joined : (past : List Step) → AreSeen vs past → AreSeen new past
   seen_joined past h =
-      let its_seen : IsSeenBy t w.seen past = subst (λ (k : Knowledge). IsSeenBy t k.seen past) old_thread (h.thread t (ap (λ (k : Knowledge). k.role) old_thread ∙ was)) in
+      let its_seen : IsSeenBy t w.seen past =
+      subst (λ (k : Knowledge). IsSeenBy t k.seen past) old_thread
+      (h.thread t (ap (λ (k : Knowledge). k.role) old_thread ∙ was)) in
       let first : IsSeen v.seen past = subst (λ (k : Knowledge). IsSeen k.seen past) old_keeper h.keeper in
+      let all : IsSeen (longer v.seen w.seen) past =
+      the_longer v.seen w.seen past first record { later = its_seen.later; is = its_seen.is } in
+      let most = no_longer v.seen w.seen in
+      let its_all : IsSeenBy t (longer v.seen w.seen) past =
+      seen_further t w.seen (longer v.seen w.seen) past most.1 its_seen all in
       record {
-        keeper = subst (λ (k : Knowledge). IsSeen k.seen past) (sym new_keeper) (the_longer v.seen w.seen past first record { later = its_seen.later; is = its_seen.is });
-        thread = λ u e. let p = was_thread u e in subst (λ (k : Knowledge). IsSeenBy u k.seen past) (sym (others_stay u p.0)) (h.thread u p.1);
+        keeper = subst (λ (k : Knowledge). IsSeen k.seen past) (sym new_keeper) all;
+        taken_in = λ u made none. subst (λ (k : Knowledge). IsSeenBy u k.seen past) (sym new_keeper)
+            (elim (cases_eq u t) [
+              | inl e ↦ subst (λ j. IsSeenBy j (longer v.seen w.seen) past) (sym e) its_all
+              | inr ne ↦ seen_further u v.seen (longer v.seen w.seen) past most.0
+                  (subst (λ (k : Knowledge). IsSeenBy u k.seen past) old_keeper
+                  (h.taken_in u (subst (λ n. u < n) same_made made)
+                  (λ e. none (ap (λ (k : Knowledge). k.role) (others_stay u ne) ∙ e)))) all
+            ]);
+        thread = λ u e. let p = was_thread u e in
+            subst (λ (k : Knowledge). IsSeenBy u k.seen past) (sym (others_stay u p.0)) (h.thread u p.1);
         unmade = λ u after. h.unmade u (subst (λ n. n ≤ u) same_made after);
       }
 

@@ -69,7 +69,8 @@ module _ (floor : Description) (b : Board) (s : State) (r : Represents floor b s
   size = length-set vs 0 left ∙ r.seats.made ∙ ap (λ (k : Knowledge). suc k.made) old_keeper
 
   new_keeper : keeper_in new ≡ left
-  new_keeper = snoc_before (set vs 0 left) right nothing 0 (omega (arith, size)) ∙ get_or-set_same vs 0 left nothing (inside vs 0 v at)
+  new_keeper = snoc_before (set vs 0 left) right nothing 0 (omega (arith, size))
+      ∙ get_or-set_same vs 0 left nothing (inside vs 0 v at)
 
   new_thread : thread_in new v.made ≡ right
   new_thread = ap (seat new) (sym size) ∙ snoc_there (set vs 0 left) right nothing
@@ -81,29 +82,38 @@ module _ (floor : Description) (b : Board) (s : State) (r : Represents floor b s
   others_stay : (t : ℕ) → t ≢ v.made → thread_in new t ≡ thread_in vs t
   others_stay t ne =
       elim (cases_lt t v.made) [
-        | inl low ↦ snoc_before (set vs 0 left) right nothing (suc t) (omega (arith, size, low)) ∙ get_or-set_other vs 0 (suc t) left nothing (λ e. omega (arith, e))
-        | inr past ↦ or_past new (suc t) nothing (omega (arith, longer, past, ne)) ∙ sym (or_past vs (suc t) nothing (omega (arith, size, length-set vs 0 left, past)))
+        | inl low ↦ snoc_before (set vs 0 left) right nothing (suc t) (omega (arith, size, low))
+            ∙ get_or-set_other vs 0 (suc t) left nothing (λ e. omega (arith, e))
+        | inr past ↦ or_past new (suc t) nothing (omega (arith, longer, past, ne))
+            ∙ sym (or_past vs (suc t) nothing (omega (arith, size, length-set vs 0 left, past)))
       ]
 
   -- a field that a new pass has as nobody has it
-  field_stays : {B : Type 0} (f : Knowledge → B) → f right ≡ f nothing → (t : ℕ) → f (thread_in new t) ≡ f (thread_in vs t)
+  field_stays : {B : Type 0} (f : Knowledge → B) → f right ≡ f nothing → (t : ℕ)
+      → f (thread_in new t) ≡ f (thread_in vs t)
   field_stays f same t =
       elim (cases_eq t v.made) [
-        | inl e ↦ ap (λ u. f (thread_in new u)) e ∙ ap f new_thread ∙ same ∙ sym (ap f (or_past vs (suc t) nothing (omega (arith, size, length-set vs 0 left, e))))
+        | inl e ↦ ap (λ u. f (thread_in new u)) e ∙ ap f new_thread ∙ same
+            ∙ sym (ap f (or_past vs (suc t) nothing (omega (arith, size, length-set vs 0 left, e))))
         | inr ne ↦ ap f (others_stay t ne)
       ]
 
   its_share : IsSeatOf right s v.made
   its_share = record {
     thread = refl;
-    share = record { columns = sym (r.seats.unmade v.made (omega (arith, ap (λ (k : Knowledge). k.made) old_keeper))); held_once = λ l. omega arith };
+    share = record {
+      columns = sym (r.seats.unmade v.made (omega (arith, ap (λ (k : Knowledge). k.made) old_keeper)));
+      held_once = λ l. omega arith;
+    };
   }
 
   thread_stays : (t : ℕ) → (thread_in new t).role ≡ OfThread → IsSeatOf (thread_in new t) s t
   thread_stays t role =
       elim (cases_eq t v.made) [
-        | inl e ↦ subst (λ u. IsSeatOf (thread_in new u) s u) (sym e) (subst (λ (k : Knowledge). IsSeatOf k s v.made) (sym new_thread) its_share)
-        | inr ne ↦ subst (λ (k : Knowledge). IsSeatOf k s t) (sym (others_stay t ne)) (r.seats.thread t (ap (λ (k : Knowledge). k.role) (sym (others_stay t ne)) ∙ role))
+        | inl e ↦ subst (λ u. IsSeatOf (thread_in new u) s u) (sym e)
+            (subst (λ (k : Knowledge). IsSeatOf k s v.made) (sym new_thread) its_share)
+        | inr ne ↦ subst (λ (k : Knowledge). IsSeatOf k s t) (sym (others_stay t ne))
+            (r.seats.thread t (ap (λ (k : Knowledge). k.role) (sym (others_stay t ne)) ∙ role))
       ]
 
   old_made : (keeper_in vs).made ≡ v.made
@@ -126,20 +136,24 @@ module _ (floor : Description) (b : Board) (s : State) (r : Represents floor b s
 
   seats_with : RepresentsSeats floor new s
   seats_with = record {
-    keeper = ap (λ (k : Knowledge). k.role) new_keeper ∙ sym (ap (λ (k : Knowledge). k.role) old_keeper) ∙ r.seats.keeper;
+    keeper = ap (λ (k : Knowledge). k.role) new_keeper ∙ sym (ap (λ (k : Knowledge). k.role) old_keeper)
+        ∙ r.seats.keeper;
     made = longer ∙ ap suc (sym new_made);
     few = omega (arith, new_made, few);
     thread = thread_stays;
     unmade = λ t past. r.seats.unmade t (omega (arith, past, old_made, new_made));
-    taken_in = λ i d low. subst (λ gs. IsTakenIn new s (get_or gs i d).0 (get_or gs i d).1) (sym same_gathered) (taken_stays _ _ (r.seats.taken_in i d (subst (λ gs. i < length gs) same_gathered low)));
+    taken_in = λ i d low. subst (λ gs. IsTakenIn new s (get_or gs i d).0 (get_or gs i d).1) (sym same_gathered)
+        (taken_stays _ _ (r.seats.taken_in i d (subst (λ gs. i < length gs) same_gathered low)));
     each = λ t low gone. elim (cases_eq t v.made) [
       | inl e ↦ absurd (gone (ap (λ u. (thread_in new u).role) e ∙ ap (λ (k : Knowledge). k.role) new_thread))
       | inr ne ↦ subst (λ gs. list_any (λ g. g.0 == t) gs ≡ true) (sym same_gathered)
-          (r.seats.each t (omega (arith, low, new_made, old_made, ne)) (λ e. gone (ap (λ (k : Knowledge). k.role) (others_stay t ne) ∙ e)))
+          (r.seats.each t (omega (arith, low, new_made, old_made, ne))
+          (λ e. gone (ap (λ (k : Knowledge). k.role) (others_stay t ne) ∙ e)))
     ];
     none_out = λ t gone. elim (cases_eq t v.made) [
       | inl e ↦ absurd (gone (ap (λ u. (thread_in new u).role) e ∙ ap (λ (k : Knowledge). k.role) new_thread))
-      | inr ne ↦ ap (λ (k : Knowledge). k.out) (others_stay t ne) ∙ r.seats.none_out t (λ e. gone (ap (λ (k : Knowledge). k.role) (others_stay t ne) ∙ e))
+      | inr ne ↦ ap (λ (k : Knowledge). k.out) (others_stay t ne)
+          ∙ r.seats.none_out t (λ e. gone (ap (λ (k : Knowledge). k.role) (others_stay t ne) ∙ e))
     ];
     counted =
         let sums = total_set live vs 0 v left at in
@@ -174,15 +188,30 @@ module _ (floor : Description) (b : Board) (s : State) (r : Represents floor b s
 
   -- the new pass has seen none of the steps, of which its thread made none
   fresh : (past : List Step) → AreSeen vs past → IsSeenBy v.made [] past
-  fresh past h = record { later = past; is = sym (append-nil past); of_others = h.unmade v.made (omega (arith, old_made)) }
+  fresh past h = record {
+    later = past;
+    is = sym (append-nil past);
+    of_others = h.unmade v.made (omega (arith, old_made));
+  }
+
+  same_seen : (keeper_in vs).seen ≡ (keeper_in new).seen
+  same_seen = ap (λ (k : Knowledge). k.seen) old_keeper ∙ sym (ap (λ (k : Knowledge). k.seen) new_keeper)
 
   seen_with : (past : List Step) → AreSeen vs past → AreSeen new past
   seen_with past h = record {
-    keeper = subst (λ xs. IsSeen xs past) (ap (λ (k : Knowledge). k.seen) old_keeper ∙ sym (ap (λ (k : Knowledge). k.seen) new_keeper)) h.keeper;
+    keeper = subst (λ xs. IsSeen xs past) same_seen h.keeper;
     thread = λ t role. elim (cases_eq t v.made) [
-      | inl e ↦ subst (λ u. IsSeenBy u (thread_in new u).seen past) (sym e) (subst (λ (k : Knowledge). IsSeenBy v.made k.seen past) (sym new_thread) (fresh past h))
-      | inr ne ↦ subst (λ (k : Knowledge). IsSeenBy t k.seen past) (sym (others_stay t ne)) (h.thread t (ap (λ (k : Knowledge). k.role) (sym (others_stay t ne)) ∙ role))
+      | inl e ↦ subst (λ u. IsSeenBy u (thread_in new u).seen past) (sym e)
+          (subst (λ (k : Knowledge). IsSeenBy v.made k.seen past) (sym new_thread) (fresh past h))
+      | inr ne ↦ subst (λ (k : Knowledge). IsSeenBy t k.seen past) (sym (others_stay t ne))
+          (h.thread t (ap (λ (k : Knowledge). k.role) (sym (others_stay t ne)) ∙ role))
     ];
+    taken_in = λ t low gone.
+        let ne : t ≢ v.made = λ e.
+        gone (ap (λ u. (thread_in new u).role) e ∙ ap (λ (k : Knowledge). k.role) new_thread) in
+        subst (λ xs. IsSeenBy t xs past) same_seen
+        (h.taken_in t (omega (arith, low, ne, old_made, new_made))
+        (λ e. gone (ap (λ (k : Knowledge). k.role) (others_stay t ne) ∙ e)));
     unmade = λ t after. h.unmade t (omega (arith, after, old_made, new_made));
   }
 
@@ -239,7 +268,8 @@ module _ (floor : Description) where
   first_record : (t : ℕ) (r : Record) → r ≡ made t ((config_in floor).declared_base t)
       → RepresentsRecord r ((objects_in start).record_of t)
   unfolding start_state
-  first_record t r e = subst (λ r. RepresentsRecord r ((objects_in start).record_of t)) (sym e) record { columns = refl; one_loan_each = λ l. omega arith }
+  first_record t r e = subst (λ r. RepresentsRecord r ((objects_in start).record_of t)) (sym e)
+      record { columns = refl; one_loan_each = λ l. omega arith }
 
   -- a chain without a name
   no_names : (H : Type 0) (i : Item) → HasNames {H = H} floor i []
@@ -395,6 +425,7 @@ module _ (floor : Description) where
     none_seen = record {
       keeper = record { later = []; is = refl };
       thread = λ t role. absurd (let e : OfNobody ≡ OfThread = role in cc);
+      taken_in = λ t low gone. absurd (omega (arith, low));
       unmade = λ t after. All-nil (λ step. maker step ≢ t);
     }
 
@@ -496,7 +527,8 @@ no_rooms floor = ap room_in_all (drop_all floor.threads)
 
 -- 5. Passes, as they are handed out
 
-pub each_more : {A : Type 0} (xs : List A) (x : A) (t : ℕ) (f : ℕ → A) → length xs ≡ t → x ≡ f t → ((k : ℕ) (d : A) → k < t → get_or xs k d ≡ f k) → (k : ℕ) (d : A) → k < t + 1 → get_or (xs ++ x ∷ []) k d ≡ f k
+pub each_more : {A : Type 0} (xs : List A) (x : A) (t : ℕ) (f : ℕ → A) → length xs ≡ t → x ≡ f t
+    → ((k : ℕ) (d : A) → k < t → get_or xs k d ≡ f k) → (k : ℕ) (d : A) → k < t + 1 → get_or (xs ++ x ∷ []) k d ≡ f k
 each_more xs x t f long is each k d low =
     elim (cases_lt k t) [
       | inl before ↦ snoc_before xs x d k (omega (arith, long, before)) ∙ each k d before

@@ -81,7 +81,6 @@ pub mod SleepingThreads
 pub mod EndStep
 pub mod HaltStep
 pub mod LastStep
-pub mod LastCall
 pub mod MayHalt
 pub mod FirstAsleep
 pub mod FirstOn

@@ -32,7 +32,8 @@ Looked floor l me found behind =
 
 abbrev pub Sought : Description → ℕ → Bool → Me Slot Knowledge → ℕ → Me Slot Knowledge → Type 0
 Sought floor l by_try me found behind =
-    IsWellFormed (word_of found) × (behind ≡ (seeing behind.0.seen (looked (sought me.0 l by_try) l (word_of found)), me.1))
+    IsWellFormed (word_of found)
+    × (behind ≡ (seeing behind.0.seen (looked (sought me.0 l by_try) l (word_of found)), me.1))
     × Makes floor (Seeks me.0.thread l by_try ∷ Looks me.0.thread l true ∷ []) me.0 behind.0
 
 -- the word that is found says the lock's column, and is well formed
@@ -65,7 +66,11 @@ module _ (floor : Description) (me : Me Slot Knowledge) (l : ℕ) (was : me.0.ro
         role = was;
         seen = refl;
         makers = one_own v.thread step refl;
-        seat = record { thread = refl; share = subst (λ y. RepresentsShare (looked v l y).share (after_look h.state v.thread l (counts v l)) v.thread) (sym found.0) (look_own h.state v h.fits.share l) };
+        seat = record {
+          thread = refl;
+          share = subst (λ y. RepresentsShare (looked v l y).share (after_look h.state v.thread l (counts v l))
+              v.thread) (sym found.0) (look_own h.state v h.fits.share l);
+        };
         others = λ u ne. look_others h.state v.thread u ne l (counts v l);
         pose = h.fits.pose;
         other_poses = λ u ne p k. k;
@@ -112,12 +117,16 @@ module _ (floor : Description) (me : Me Slot Knowledge) (l : ℕ) (was : me.0.ro
         let away : has_item v chain ≡ false = no_chain b h may in
         let counted : counts x l ≡ true = (λ i. (eq-eqb l l refl i || false) && not (away i)) in
         let share : RepresentsShare (looked x l (s.word l)).share n v.thread =
-        subst (λ c. RepresentsShare (looked x l (s.word l)).share (after_look s v.thread l c) v.thread) counted (look_own s x (seek_own h.state v h.fits.share l by_try) l) in
+        subst (λ c. RepresentsShare (looked x l (s.word l)).share (after_look s v.thread l c) v.thread) counted
+        (look_own s x (seek_own h.state v h.fits.share l by_try) l) in
         let own : OwnSteps v w h.past both h.state n = record {
           role = was;
           seen = refl;
           makers = two_own v.thread (Seeks v.thread l by_try) (Looks v.thread l true) refl refl;
-          seat = record { thread = refl; share = subst (λ y. RepresentsShare (looked x l y).share n v.thread) (sym found.0) share };
+          seat = record {
+            thread = refl;
+            share = subst (λ y. RepresentsShare (looked x l y).share n v.thread) (sym found.0) share;
+          };
           others = λ u ne. look_others s v.thread u ne l true ∙ seek_others h.state v.thread u ne l by_try;
           pose = h.fits.pose;
           other_poses = λ u ne p k. k;

@@ -1,20 +1,23 @@
 -- What the seat of a thread at halting others knows allows its aborts.
-use Rattle.std.proofs.Common.{◌≡◌, ℕ, ◌<◌, true, false, Some, ◌∷◌, ◌++◌, append_assoc, refl, sym, ap, ◌∙◌, subst}
+use Rattle.std.proofs.Common.{◌≡◌, ℕ, ◌<◌, true, false, Some, [], ◌∷◌, ◌++◌, append_assoc, refl, sym, ap, ◌∙◌, subst}
 use Rattle.atomic_table.specs.Table.{rest}
+use Rattle.chain_table.specs.Chains.{head_of}
 use Rattle.lock_model.specs.Queues.{is_turnstile_queue, list_of, times_waiting}
 use Rattle.lock_model.specs.declared.plan.Side.{Side}
 use Rattle.lock_model.specs.declared.plan.QueueName.{QueueName}
 use Rattle.lock_model.specs.declared.plan.QueueName.TheVariants.{Lock, Chan}
 use Rattle.lock_objects.specs.Represents.{SleepColumns, RepresentsSleepQueue, sleepers_in, sleepers_of}
 use Rattle.lock_state.specs.State.{State, Phase, Awake, Asleep, Last, Halting, Aborting, SelfAborted, found_nobody_awake}
-use Rattle.lock_state.specs.Steps.{Halts, HasItem, is_halting}
+use Rattle.lock_state.specs.Steps.{Halts, Aborts, HasItem, is_halting}
 use Rattle.lock_state.specs.Steps.Items.{SleepChain}
 use Rattle.lock_state.specs.Steps.SleepQueues.{IsQueueOf}
+use Rattle.sleep_queues.specs.Changes.{waiters}
+use Rattle.sleep_queues.specs.Seen.{SleepQueue}
 use Rattle.floor_table.specs.Descriptions.{config_in}
 use Rattle.floor_table.specs.Represents.{RepresentsSleepChain, objects_in}
 use Rattle.floor_table.specs.Places.{slot_of}
 use Rattle.floor_table.specs.Shelves.{found}
-use Rattle.floor_table.specs.Steps.{Fits}
+use Rattle.floor_table.specs.Steps.{Fits, MayMake}
 use Rattle.floor_table.specs.Views.{Knowledge}
 use Rattle.floor_table.specs.declared.description.Description.{Description}
 use Rattle.floor_table.specs.declared.slot.Slot.TheVariants.{SleepQueues}
@@ -46,60 +49,69 @@ queue_of_plan : (floor : Description) (q : QueueName) → IsQueueOfFloor floor q
 queue_of_plan floor (Lock l) low = low
 queue_of_plan floor (Chan d) low = low
 
+-- it may take off who sleeps on a side of a queue, in a chain that it took last
 module _ (floor : Description) (v : Knowledge) (q : QueueName) (side : Side) (u : ℕ)
-    (sleepers : HasSleepersOut floor q v) (sleeps : IsSleeping q side u sleepers.chain)
+    (sleepers : HasSleepersOut floor q v) (head : SleepQueue) (there : head_of q sleepers.chain ≡ Some head)
+    (stands : 0 < times_waiting u (waiters side head.contents))
     (kind : is_turnstile_queue (config_in floor) q ≡ false) where
   module _ (s : State) (f : Fits floor v s) where
     chain_now : HasItem s v.thread (its_chain floor q) × (0 < times_waiting u (list_of side (s.lists q)))
     chain_now =
         let which = sleep_chain_of floor q kind in
         let j : ℕ = chain_place floor q in
-        let there = f.out.each (its_chain floor q) j (SleepQueues sleepers.chain)
+        let has = f.out.each (its_chain floor q) j (SleepQueues sleepers.chain)
         (chain_at floor f.sized.some_chains q)
         (ap (found j) sleepers.last ∙ found_first j (SleepQueues sleepers.chain) (rest v.out)) in
         let out = f.out.each (SleepChain which.0) j (SleepQueues sleepers.chain)
         (subst (λ i. slot_of floor i ≡ Some j) which.1 (chain_at floor f.sized.some_chains q))
         (ap (found j) sleepers.last ∙ found_first j (SleepQueues sleepers.chain) (rest v.out)) in
         let shows : RepresentsSleepChain floor which.0 sleepers.chain (objects_in s) = out.1 in
-        let old : sleepers_in s q ≡ sleepers_of sleeps.head.contents =
-        subst (λ o. RepresentsSleepQueue o (sleepers_in s q)) sleeps.there (shows.queue q which.1) in (
-          there.0,
-          subst (λ ws. 0 < times_waiting u ws) (sym (ap (λ (a : SleepColumns). list_of side a.lists) old)) sleeps.stands,
+        let old : sleepers_in s q ≡ sleepers_of head.contents =
+        subst (λ o. RepresentsSleepQueue o (sleepers_in s q)) there (shows.queue q which.1) in (
+          has.0,
+          subst (λ ws. 0 < times_waiting u ws) (sym (ap (λ (a : SleepColumns). list_of side a.lists) old)) stands,
         )
 
-  -- it may take off who sleeps in a chain that it took last
-  pub may_abort_sleeper : IsQueueOfFloor floor q → IsHaltingOthers v → MayAbortSleeper floor q u v
-  may_abort_sleeper low h = record {
-    sleepers = sleepers;
-    side = side;
-    sleeps = sleeps;
-    may = λ s f _.
-        let halting : is_halting (s.phase v.thread) ≡ true =
-        ap is_halting (doing_it floor v s f (λ d. d.phase)) ∙ h.phase in
-        let stamped = doing_it floor v s f (λ d. d.unstamped) ∙ h.stamped in (
-          record {
-            fits = record {
-              may = record {
-                thread = f.thread;
-                halted = halted_now floor v s f h.halted;
-                found = halting_found (s.phase v.thread) halting;
-                unparked = halting_unparked (s.phase v.thread) halting;
-                queue = queue_of_plan floor q low;
-                sleeps = kind;
-                unmarked = doing_it floor v s f (λ d. d.marked) ∙ h.unmarked;
-                stamped = stamped;
-                stands = (chain_now s f).1;
-              };
-              has_out = (chain_now s f).0;
-              has_seen = tt;
-              asks_of_thread = record {
-                halting = halting;
-                owes = record { added = not_away_settled floor v s f h.there; stamped = stamped };
-              };
+  pub may_abort : IsQueueOfFloor floor q → IsHaltingOthers v
+      → MayMake floor v (λ s. Unit {0}) (Aborts v.thread q side u ∷ [])
+  may_abort low h s f _ =
+      let halting : is_halting (s.phase v.thread) ≡ true =
+      ap is_halting (doing_it floor v s f (λ d. d.phase)) ∙ h.phase in
+      let stamped = doing_it floor v s f (λ d. d.unstamped) ∙ h.stamped in (
+        record {
+          fits = record {
+            may = record {
+              thread = f.thread;
+              halted = halted_now floor v s f h.halted;
+              found = halting_found (s.phase v.thread) halting;
+              unparked = halting_unparked (s.phase v.thread) halting;
+              queue = queue_of_plan floor q low;
+              sleeps = kind;
+              unmarked = doing_it floor v s f (λ d. d.marked) ∙ h.unmarked;
+              stamped = stamped;
+              stands = (chain_now s f).1;
             };
-            keeps_order = tt;
-            keeps_count = tt;
-          },
-          tt,
-        );
-  }
+            has_out = (chain_now s f).0;
+            has_seen = tt;
+            asks_of_thread = record {
+              halting = halting;
+              owes = record { added = not_away_settled floor v s f h.there; stamped = stamped };
+            };
+          };
+          keeps_order = tt;
+          keeps_count = tt;
+        },
+        tt,
+      )
+
+-- where another stays on the side, if that is an sx lock's
+pub may_abort_sleeper : (floor : Description) (v : Knowledge) (q : QueueName) (side : Side) (u : ℕ)
+    (sleepers : HasSleepersOut floor q v) → IsSleeping q side u sleepers.chain
+    → is_turnstile_queue (config_in floor) q ≡ false → IsQueueOfFloor floor q → IsHaltingOthers v
+    → MayAbortSleeper floor q u v
+may_abort_sleeper floor v q side u sleepers sleeps kind low h = record {
+  sleepers = sleepers;
+  side = side;
+  sleeps = sleeps;
+  may = may_abort floor v q side u sleepers sleeps.head sleeps.there sleeps.stands kind low h;
+}

@@ -8,24 +8,22 @@ use Rattle.thread_records.specs.declared.record.ThreadRec.{ThreadRec}
 use Rattle.atomic_table.specs.Table.{rest}
 use Rattle.lock_model.specs.Config.{Config}
 use Rattle.lock_model.specs.Operations.{hold_in}
-use Rattle.lock_model.specs.Queues.{is_turnstile_queue, lock_queue, list_of, times_waiting}
+use Rattle.lock_model.specs.Queues.{is_turnstile_queue, lock_queue}
 use Rattle.lock_model.specs.declared.plan.QueueName.{QueueName}
 use Rattle.lock_model.specs.declared.plan.Side.{Side}
-use Rattle.lock_objects.specs.Represents.{SleepColumns, RepresentsSleepQueue, sleepers_in, sleepers_of}
 use Rattle.lock_state.specs.State.{State, Round, Running, Queued, Woken, NoWalk, Last, Halting, SelfAborted, is_parked, is_finder}
 use Rattle.lock_state.specs.Steps.{Step, TakesItem, GivesItem, CountsOut, CountsSelfIn, CountsEnd, Halts, HasItem, IsItem, IsOfRound, IsHalting, OwesNoStep, is_halting}
 use Rattle.lock_state.specs.Steps.Items.{SleepChain, RecordOf, item_with, go_together, is_bound}
 use Rattle.lock_state.specs.Steps.Turnstiles.{HasReleased}
 use Rattle.floor_table.specs.Descriptions.{config_in}
 use Rattle.floor_table.specs.Past.{past_with}
-use Rattle.floor_table.specs.Places.{slot_of}
-use Rattle.floor_table.specs.Represents.{IsPosed, RepresentsSleepChain, objects_in}
+use Rattle.floor_table.specs.Represents.{IsPosed}
 use Rattle.floor_table.specs.Shelves.{found}
 use Rattle.floor_table.specs.Steps.{Fits, FitAll, MayMake, Makes}
 use Rattle.floor_table.specs.Views.{Pose, Runs, StandsOn, Knowledge}
 use Rattle.floor_table.specs.declared.description.Description.{Description}
 use Rattle.floor_table.specs.declared.slot.Slot.{Slot}
-use Rattle.floor_table.specs.declared.slot.Slot.TheVariants.{Record, SleepQueues}
+use Rattle.floor_table.specs.declared.slot.Slot.TheVariants.{Record}
 use Rattle.floor_table.proofs.Shelved.{found_first}
 use Rattle.finder_laws.specs.Left.{HasSeenLeft}
 use Rattle.finder_laws.proofs.AllSeen.{left_now}
@@ -35,9 +33,8 @@ use Rattle.lock_floor.specs.Passes.{IsGoing, IsOffTheWay}
 use Rattle.lock_floor.specs.Sleeps.{HasSleepersOut}
 use Rattle.lock_floor.specs.Waits.{its_chain, chain_place}
 use Rattle.lock_floor.proofs.AbortStep.{sleep_chain_of}
-use Rattle.lock_floor.proofs.ChainPlaces.{chain_at}
 use Rattle.lock_floor.proofs.May.{doing_it, holds_it, goes_on, is_acting, nothing_with, not_away_settled, settled_now, keeps_out, no_wanted_round}
-use Rattle.lock_floor.proofs.MayAbort.{halting_found, halted_now}
+use Rattle.lock_floor.proofs.MayAbort.{may_abort}
 use Rattle.lock_floor.proofs.MayWait.{each_chain, its_only, its_chain_out}
 use Rattle.lock_floor.proofs.MayWake.{HasLeft, halting_unparked, has_released, standing_queued}
 use Rattle.lock_floor.proofs.Taking.{record_at}
@@ -255,61 +252,16 @@ module _ (floor : Description) (v : Knowledge) (there : IsOffTheWay v.pose) (sta
 
 -- 4. An abort of the last of a side
 
-module _ (floor : Description) (v : Knowledge) (l : ℕ) (side : Side) (u : ℕ)
-    (sleepers : HasSleepersOut floor (lock_queue l) v) (sleeps : IsLastAsleep (lock_queue l) side u sleepers.chain)
-    (kind : is_turnstile_queue (config_in floor) (lock_queue l) ≡ false) where
-  last_now : (s : State) (f : Fits floor v s) → HasItem s v.thread (its_chain floor (lock_queue l))
-      × (0 < times_waiting u (list_of side (s.lists (lock_queue l))))
-  last_now s f =
-      let q : QueueName = lock_queue l in
-      let which = sleep_chain_of floor q kind in
-      let j : ℕ = chain_place floor q in
-      let there = f.out.each (its_chain floor q) j (SleepQueues sleepers.chain) (chain_at floor f.sized.some_chains q)
-      (ap (found j) sleepers.last ∙ found_first j (SleepQueues sleepers.chain) (rest v.out)) in
-      let out = f.out.each (SleepChain which.0) j (SleepQueues sleepers.chain)
-      (subst (λ i. slot_of floor i ≡ Some j) which.1 (chain_at floor f.sized.some_chains q))
-      (ap (found j) sleepers.last ∙ found_first j (SleepQueues sleepers.chain) (rest v.out)) in
-      let shows : RepresentsSleepChain floor which.0 sleepers.chain (objects_in s) = out.1 in
-      let old : sleepers_in s q ≡ sleepers_of sleeps.head.contents =
-      subst (λ o. RepresentsSleepQueue o (sleepers_in s q)) sleeps.there (shows.queue q which.1) in (
-        there.0,
-        subst (λ ws. 0 < times_waiting u ws) (sym (ap (λ (a : SleepColumns). list_of side a.lists) old)) sleeps.stands,
-      )
-
-  pub may_abort_last : l < length floor.locks → IsHaltingOthers v → MayAbortLast floor l side u v
-  may_abort_last low h = record {
-    sleepers = sleepers;
-    sleeps = sleeps;
-    may = λ s f _.
-        let halting : is_halting (s.phase v.thread) ≡ true =
-        ap is_halting (doing_it floor v s f (λ d. d.phase)) ∙ h.phase in
-        let stamped = doing_it floor v s f (λ d. d.unstamped) ∙ h.stamped in (
-          record {
-            fits = record {
-              may = record {
-                thread = f.thread;
-                halted = halted_now floor v s f h.halted;
-                found = halting_found (s.phase v.thread) halting;
-                unparked = halting_unparked (s.phase v.thread) halting;
-                queue = low;
-                sleeps = kind;
-                unmarked = doing_it floor v s f (λ d. d.marked) ∙ h.unmarked;
-                stamped = stamped;
-                stands = (last_now s f).1;
-              };
-              has_out = (last_now s f).0;
-              has_seen = tt;
-              asks_of_thread = record {
-                halting = halting;
-                owes = record { added = not_away_settled floor v s f h.there; stamped = stamped };
-              };
-            };
-            keeps_order = tt;
-            keeps_count = tt;
-          },
-          tt,
-        );
-  }
+-- a thread at halting others may take off the last of a side of an sx lock's queue, in a chain that it took last
+pub may_abort_last : (floor : Description) (v : Knowledge) (l : ℕ) (side : Side) (u : ℕ)
+    (sleepers : HasSleepersOut floor (lock_queue l) v) → IsLastAsleep (lock_queue l) side u sleepers.chain
+    → is_turnstile_queue (config_in floor) (lock_queue l) ≡ false → l < length floor.locks → IsHaltingOthers v
+    → MayAbortLast floor l side u v
+may_abort_last floor v l side u sleepers sleeps kind low h = record {
+  sleepers = sleepers;
+  sleeps = sleeps;
+  may = may_abort floor v (lock_queue l) side u sleepers sleeps.head sleeps.there sleeps.stands kind low h;
+}
 
 -- 5. What was seen
 

@@ -212,7 +212,8 @@ is_another floor v first s f elsewhere e =
     let named : s.blocked_on m.thread ≡ Some m.queue = marked_named c s t m ms lawful f.thread marked in
     let queued : s.wait m.thread ≡ Queued = standing_queued s c lawful m.thread m.queue named in
     let stands : v.pose ≡ StandsOn m.queue =
-    standing_pose m.queue v.pose (s.wait t) (s.blocked_on t) (ap s.wait e ∙ queued) (ap s.blocked_on e ∙ named) f.pose in
+    standing_pose m.queue v.pose (s.wait t) (s.blocked_on t) (ap s.wait e ∙ queued) (ap s.blocked_on e ∙ named) f.pose
+    in
     All-head (λ (k : Mark). k.queue ≢ m.queue) m ms
     (subst (All (λ (k : Mark). k.queue ≢ m.queue)) first.marked (elsewhere m.queue stands)) refl
 

@@ -51,8 +51,11 @@ a_record t (Graph b) its = absurd its
 pub record_out : (floor : Description) (t j : ℕ) (v a : Knowledge) → Takes floor (RecordOf t) j v a
     → (b : Box ThreadRec Global) × (a.out ≡ (j, Record b) ∷ rest a.out)
 record_out floor t j v a taken =
-    let its = a_record t taken.value taken.kind in
-    (its.0, subst (λ (w : Knowledge). w.out ≡ (j, Record its.0) ∷ rest w.out) (sym taken.view) (ap (λ x. (j, x) ∷ v.out) its.1))
+    let its = a_record t taken.value taken.kind in (
+      its.0,
+      subst (λ (w : Knowledge). w.out ≡ (j, Record its.0) ∷ rest w.out) (sym taken.view)
+          (ap (λ x. (j, x) ∷ v.out) its.1),
+    )
 
 -- a thread at rest may take it
 pub may_take_own : (floor : Description) (v : Knowledge) → IsAtRest floor v

@@ -43,13 +43,17 @@ module _ (floor : Description) (e : Event) (old new : Knowledge)
   next_entry = ap (λ k. entry_by old.thread k e ∷ s.history) ticket
 
   own_log : old.share.log ≡ s.log old.thread
-  own_log = ap (λ (k : Knowledge). k.share.log) (sym m.was) ∙ ap (λ (x : ShareColumns). x.log) (m.represents.seats.thread old.thread (ap (λ (k : Knowledge). k.role) m.was ∙ m.role)).share.columns
+  own_log = ap (λ (k : Knowledge). k.share.log) (sym m.was)
+      ∙ ap (λ (x : ShareColumns). x.log)
+      (m.represents.seats.thread old.thread (ap (λ (k : Knowledge). k.role) m.was ∙ m.role)).share.columns
 
   pub next_of_own : new.share.log ≡ entry_by old.thread (length s.history) e ∷ old.share.log
   unfolding after_stamp
   next_of_own =
       ap (λ (k : Knowledge). k.share.log) (sym m.is)
-      ∙ ap (λ (x : ShareColumns). x.log) (m.represents_behind.seats.thread old.thread (ap (λ (k : Knowledge). k.role) m.is ∙ m.role_behind)).share.columns
+      ∙ ap (λ (x : ShareColumns). x.log)
+      (m.represents_behind.seats.thread old.thread
+      (ap (λ (k : Knowledge). k.role) m.is ∙ m.role_behind)).share.columns
       ∙ put_same s.log old.thread (entry_of s old.thread e ∷ s.log old.thread)
       ∙ ap (λ k. entry_by old.thread k e ∷ s.log old.thread) ticket
       ∙ ap (λ es. entry_by old.thread (length s.history) e ∷ es) (sym own_log)
@@ -67,21 +71,25 @@ pub found_is : (floor : Description) (l : LockNo) (key : ℕ) (found : Option �
 found_is floor l key found old new m = m.may.0.fits.may.asks.1 ∙ replayed floor (Got l key found) old new m l.0 key
 
 -- a change of a key changes that key alone
-pub tables_changed : (c : Config) (s : State) (t : ℕ) (l : LockNo) (key : ℕ) (change : Change) → (after_stamp c s t (event_of l key change)).table ≡ table_after (event_of l key change) s.table
+pub tables_changed : (c : Config) (s : State) (t : ℕ) (l : LockNo) (key : ℕ) (change : Change)
+    → (after_stamp c s t (event_of l key change)).table ≡ table_after (event_of l key change) s.table
 unfolding after_stamp
 tables_changed c s t l key change = refl
 
-pub key_changed : (f : ℕ → ℕ → Option ℕ) (l : LockNo) (key : ℕ) (change : Change) → table_after (event_of l key change) f l.0 key ≡ cell_after (event_of l key change) (f l.0 key)
+pub key_changed : (f : ℕ → ℕ → Option ℕ) (l : LockNo) (key : ℕ) (change : Change)
+    → table_after (event_of l key change) f l.0 key ≡ cell_after (event_of l key change) (f l.0 key)
 key_changed f l key (Set value) = put_at_same f l.0 key (Some value)
 key_changed f l key (Add amount) = put_at_same f l.0 key (Some (added (f l.0 key) amount))
 
-beside : (f : ℕ → ℕ → Option ℕ) (l key : ℕ) (v : Option ℕ) (k other : ℕ) → (k ≡ l → other ≢ key) → put_at f l key v k other ≡ f k other
+beside : (f : ℕ → ℕ → Option ℕ) (l key : ℕ) (v : Option ℕ) (k other : ℕ) → (k ≡ l → other ≢ key)
+    → put_at f l key v k other ≡ f k other
 beside f l key v k other apart =
     elim (cases_eq l k) [
       | inl e ↦ put_at_beside f l key v k other (λ q. apart (sym e) (sym q))
       | inr ne ↦ put_at_other f l key v k other ne
     ]
 
-pub others_stay : (f : ℕ → ℕ → Option ℕ) (l : LockNo) (key : ℕ) (change : Change) (k other : ℕ) → (k ≡ l.0 → other ≢ key) → table_after (event_of l key change) f k other ≡ f k other
+pub others_stay : (f : ℕ → ℕ → Option ℕ) (l : LockNo) (key : ℕ) (change : Change) (k other : ℕ)
+    → (k ≡ l.0 → other ≢ key) → table_after (event_of l key change) f k other ≡ f k other
 others_stay f l key (Set value) k other apart = beside f l.0 key (Some value) k other apart
 others_stay f l key (Add amount) k other apart = beside f l.0 key (Some (added (f l.0 key) amount)) k other apart

@@ -152,9 +152,11 @@ begun_kept c other ks quiet = refl
 abbrev pub behind : Config → List Entry → ℕ → State
 behind c log ticket = record (start_state c) { history = log; next = ticket }
 
-same_section : (c : Config) (log : List Entry) (t ticket l : ℕ) (e : Event) → changes_sections e ≡ false → open_in c (entry_by t ticket e ∷ log) t l ≡ open_in c log t l
+same_section : (c : Config) (log : List Entry) (t ticket l : ℕ) (e : Event) → changes_sections e ≡ false
+    → open_in c (entry_by t ticket e ∷ log) t l ≡ open_in c log t l
 unfolding after_stamp
-same_section c log t ticket l e quiet = ap (λ (x : Sections). x.now) (sections_stay c (behind c log ticket) t e t l quiet)
+same_section c log t ticket l e quiet =
+    ap (λ (x : Sections). x.now) (sections_stay c (behind c log ticket) t e t l quiet)
 
 module _ (floor : Description) (v : Knowledge) where
   abbrev c : Config
@@ -410,7 +412,9 @@ module _ (floor : Description) (v : Knowledge) (h : Held) where
   unfolding after_stamp
   gain_section ticket k = own_section gc (behind gc v.share.log ticket) v.thread (gain_event h) k ∙ go h.by_try
     where
-      go : (b : Bool) → (sections_by gc (cond b (Tried h.l h.mode) (Locked h.l h.mode)) k (sections_in gc v.share.log v.thread k)).now ≡ cond (eqb h.l.0 k) (Holds h.mode) (open_in gc v.share.log v.thread k)
+      go : (b : Bool) → (sections_by gc (cond b (Tried h.l h.mode) (Locked h.l h.mode)) k
+          (sections_in gc v.share.log v.thread k)).now ≡ cond (eqb h.l.0 k) (Holds h.mode)
+          (open_in gc v.share.log v.thread k)
       go true = begins_or (eqb h.l.0 k) h.mode (open_in gc v.share.log v.thread k)
       go false = begins_or (eqb h.l.0 k) h.mode (open_in gc v.share.log v.thread k)
 
@@ -420,8 +424,11 @@ module _ (floor : Description) (v : Knowledge) (h : Held) where
       elim (cases_eq h.l.0 k) [
         | inl e ↦ ap (λ b. b || is_among k (others h.l.0 v.share.begun)) (eq-eqb h.l.0 k e)
         | inr ne ↦
-            let before : hold_in (v.share.held ++ h ∷ []) k ≡ hold_in v.share.held k = hold_in-push v.share.held h k unheld ∙ ap (λ b. cond b (Holds h.mode) (hold_in v.share.held k)) (ne_eqb h.l.0 k ne) in
-            ap (λ b. b || is_among k (others h.l.0 v.share.begun)) (ne_eqb h.l.0 k ne) ∙ among_stays h.l.0 k v.share.begun ne ∙ begun k (λ q. held (before ∙ q))
+            let before : hold_in (v.share.held ++ h ∷ []) k ≡ hold_in v.share.held k =
+            hold_in-push v.share.held h k unheld
+            ∙ ap (λ b. cond b (Holds h.mode) (hold_in v.share.held k)) (ne_eqb h.l.0 k ne) in
+            ap (λ b. b || is_among k (others h.l.0 v.share.begun)) (ne_eqb h.l.0 k ne)
+            ∙ among_stays h.l.0 k v.share.begun ne ∙ begun k (λ q. held (before ∙ q))
       ]
 
   pub begun_gained : (ks : List ℕ) → begun_by gc (gain_event h) ks ≡ h.l.0 ∷ ks
@@ -444,7 +451,8 @@ module _ (floor : Description) (v : Knowledge) (h : Held) where
       at_rest floor (stamped gc (gained v h) (entry_by v.thread ticket (gain_event h)))
       (idle_stamped floor (gained v h) ticket (gain_event h) no_sleep_gained (idle_gained v h (idle floor v r)))
       refl
-      (λ k. gain_section ticket k ∙ ap (cond (eqb h.l.0 k) (Holds h.mode)) (r.sections k) ∙ sym (hold_in-push v.share.held h k unheld))
+      (λ k. gain_section ticket k ∙ ap (cond (eqb h.l.0 k) (Holds h.mode)) (r.sections k)
+      ∙ sym (hold_in-push v.share.held h k unheld))
       (λ k held. ap (is_among k) (begun_gained (others h.l.0 v.share.begun)) ∙ gain_begun r.begun unheld k held)
 
 -- 7. Behind a release: its entry is made first, and then the lock is put down, maybe after looks
@@ -470,7 +478,9 @@ module _ (floor : Description) (v : Knowledge) (l : LockNo) (mode : Mode) where
   abbrev lc : Config
   lc = config_in floor
 
-  release_section : (ticket k : ℕ) → open_in lc (entry_by v.thread ticket (Unlocked l mode) ∷ v.share.log) v.thread k ≡ cond (eqb l.0 k) NotHeld (open_in lc v.share.log v.thread k)
+  release_section : (ticket k : ℕ)
+      → open_in lc (entry_by v.thread ticket (Unlocked l mode) ∷ v.share.log) v.thread k ≡ cond (eqb l.0 k) NotHeld
+      (open_in lc v.share.log v.thread k)
   unfolding after_stamp
   release_section ticket k = own_section lc (behind lc v.share.log ticket) v.thread (Unlocked l mode) k
 
@@ -479,8 +489,10 @@ module _ (floor : Description) (v : Knowledge) (l : LockNo) (mode : Mode) where
   leaves ticket r held = record {
     about = idle_stamped floor v ticket (Unlocked l mode) refl (idle floor v r);
     held = held;
-    closed = release_section ticket l.0 ∙ ap (λ b. cond b NotHeld (open_in lc v.share.log v.thread l.0)) (eq-eqb l.0 l.0 refl);
-    beside = λ k ne. release_section ticket k ∙ ap (λ b. cond b NotHeld (open_in lc v.share.log v.thread k)) (ne_eqb l.0 k ne) ∙ r.sections k;
+    closed = release_section ticket l.0
+        ∙ ap (λ b. cond b NotHeld (open_in lc v.share.log v.thread l.0)) (eq-eqb l.0 l.0 refl);
+    beside = λ k ne. release_section ticket k
+        ∙ ap (λ b. cond b NotHeld (open_in lc v.share.log v.thread k)) (ne_eqb l.0 k ne) ∙ r.sections k;
     begun = r.begun;
   }
 

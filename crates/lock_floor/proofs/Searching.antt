@@ -34,21 +34,27 @@ module _ (floor : Description) (sized : IsSized floor) (l key : ℕ) where
 
   -- a key that compares otherwise is another
   is_not : (x : ℕ × ℕ) (r : Ordering) → place_cmp x q ≡ r → is_eq (ordering_reverse r) ≡ false → is_cell l key x ≡ false
-  is_not x r e other = ap (λ f. f x) (cell_test l key) ∙ ap is_eq (place_total.antisymm q x ∙ ap ordering_reverse e) ∙ other
+  is_not x r e other = ap (λ f. f x) (cell_test l key) ∙ ap is_eq (place_total.antisymm q x ∙ ap ordering_reverse e)
+      ∙ other
 
-  at_place : (i : ℕ) → i < length ks → ((d : ℕ × ℕ) → place_cmp (get_or ks i d) q ≡ Equal) → position (is_cell l key) ks ≡ Some i
+  at_place : (i : ℕ) → i < length ks → ((d : ℕ × ℕ) → place_cmp (get_or ks i d) q ≡ Equal)
+      → position (is_cell l key) ks ≡ Some i
   at_place i low equal =
       let d : ℕ × ℕ = (0, 0) in
       let is : get_or ks i d ≡ q = place_exact (get_or ks i d) q (equal d) in
-      let hit : is_cell l key (get_or ks i d) ≡ true = ap (is_cell l key) is ∙ ap (λ f. f q) (cell_test l key) ∙ ap is_eq (tied_itself place_total q) in
+      let hit : is_cell l key (get_or ks i d) ≡ true = ap (is_cell l key) is ∙ ap (λ f. f q) (cell_test l key)
+      ∙ ap is_eq (tied_itself place_total q) in
       let before : (k : ℕ) → k < i → is_cell l key (get_or ks k d) ≡ false =
       λ k lt. is_not (get_or ks k d) Less
       (subst (λ x. place_cmp (get_or ks k d) x ≡ Less) is (Less-from_sorted place_cmp ks k i d sized.rising lt low))
       refl in
-      let first : position_or_len (is_cell l key) ks ≡ i = position_or_len_is (is_cell l key) ks i d (omega (arith, low)) before (λ _. hit) in
-      ap (λ n. cond (nat_lt n (length ks)) (Some n) None) first ∙ ap (λ b. cond b (Some i) None) (lt-ltb i (length ks) low)
+      let first : position_or_len (is_cell l key) ks ≡ i =
+      position_or_len_is (is_cell l key) ks i d (omega (arith, low)) before (λ _. hit) in
+      ap (λ n. cond (nat_lt n (length ks)) (Some n) None) first
+      ∙ ap (λ b. cond b (Some i) None) (lt-ltb i (length ks) low)
 
-  nowhere : (i : ℕ) → IsPartitionPoint (λ y. place_cmp y q ≡ Less) (λ y. place_cmp y q ≡ Greater) ks i → list_any (is_cell l key) ks ≡ false
+  nowhere : (i : ℕ) → IsPartitionPoint (λ y. place_cmp y q ≡ Less) (λ y. place_cmp y q ≡ Greater) ks i
+      → list_any (is_cell l key) ks ≡ false
   nowhere i parted =
       list_any_none (is_cell l key) ks (λ k d low.
       elim (cases_lt k i) [

@@ -33,8 +33,10 @@ among_gone l (x ∷ ks) =
 pub among_stays : (l k : ℕ) (ks : List ℕ) → l ≢ k → is_among k (others l ks) ≡ is_among k ks
 among_stays l k [] ne = refl
 among_stays l k (x ∷ ks) ne =
-    elim (x == l) as (λ b. (x == l) ≡ b → is_among k (cond (not b) (x ∷ others l ks) (others l ks)) ≡ ((x == k) || is_among k ks)) [
-      | true ↦ λ e. among_stays l k ks ne ∙ sym (ap (λ b. b || is_among k ks) (ne_eqb x k (λ q. ne (sym (eqb-true x l e) ∙ q))))
+    elim (x == l) as (λ b. (x == l) ≡ b
+    → is_among k (cond (not b) (x ∷ others l ks) (others l ks)) ≡ ((x == k) || is_among k ks)) [
+      | true ↦ λ e. among_stays l k ks ne
+          ∙ sym (ap (λ b. b || is_among k ks) (ne_eqb x k (λ q. ne (sym (eqb-true x l e) ∙ q))))
       | false ↦ λ e. ap (λ b. (x == k) || b) (among_stays l k ks ne)
     ] refl
 
@@ -43,14 +45,16 @@ module _ (f : ℕ → ℕ → Bool) (t : ℕ) (ks : List ℕ) (is : (k : ℕ) �
   begun_gained : (l k : ℕ) → is_among k (others l ks) ≡ put_at f t l false t k
   begun_gained l k =
       elim (cases_eq l k) [
-        | inl e ↦ subst (λ j. is_among j (others l ks) ≡ put_at f t l false t j) e (among_gone l ks ∙ sym (put_at_same f t l false))
+        | inl e ↦ subst (λ j. is_among j (others l ks) ≡ put_at f t l false t j) e
+            (among_gone l ks ∙ sym (put_at_same f t l false))
         | inr ne ↦ among_stays l k ks ne ∙ is k ∙ sym (put_at_beside f t l false t k ne)
       ]
 
   begun_more : (l k : ℕ) → is_among k (l ∷ ks) ≡ put_at f t l true t k
   begun_more l k =
       elim (cases_eq l k) [
-        | inl e ↦ subst (λ j. is_among j (l ∷ ks) ≡ put_at f t l true t j) e (ap (λ b. b || is_among l ks) (eq-eqb l l refl) ∙ sym (put_at_same f t l true))
+        | inl e ↦ subst (λ j. is_among j (l ∷ ks) ≡ put_at f t l true t j) e
+            (ap (λ b. b || is_among l ks) (eq-eqb l l refl) ∙ sym (put_at_same f t l true))
         | inr ne ↦ ap (λ b. b || is_among k ks) (ne_eqb l k ne) ∙ is k ∙ sym (put_at_beside f t l true t k ne)
       ]
 
@@ -86,8 +90,10 @@ module _ (s : State) (v : Knowledge) (fit : RepresentsShare v.share s v.thread) 
   look_own l = record {
     columns = λ i. record (e i) {
       doing = record (e i).doing {
-        looks = (ap (λ (x : ShareColumns). cond (counts v l) (suc x.doing.looks) x.doing.looks) e ∙ sym (put_same s.looks t (cond (counts v l) (suc (s.looks t)) (s.looks t)))) i;
-        looks_in_all = (ap (λ (x : ShareColumns). suc x.doing.looks_in_all) e ∙ sym (put_same s.looks_in_all t (suc (s.looks_in_all t)))) i;
+        looks = (ap (λ (x : ShareColumns). cond (counts v l) (suc x.doing.looks) x.doing.looks) e
+            ∙ sym (put_same s.looks t (cond (counts v l) (suc (s.looks t)) (s.looks t)))) i;
+        looks_in_all = (ap (λ (x : ShareColumns). suc x.doing.looks_in_all) e
+            ∙ sym (put_same s.looks_in_all t (suc (s.looks_in_all t)))) i;
         last_look = sym (put_same s.last_look t (Some (record { lock = l; word = s.word l }))) i;
         seen_in_section = sym (put_same s.seen_in_section t (Some (record { lock = l; word = s.word l }))) i;
       };
@@ -109,13 +115,18 @@ module _ (s : State) (v : Knowledge) (fit : RepresentsShare v.share s v.thread) 
     held_once = fit.held_once;
   }
 
-  pub gain_own : (h : Held) → s.held t h.l.0 ≡ NotHeld → RepresentsShare (gained v h).share (after_gain s t h.l.0 h.mode h.by_try) t
+  pub gain_own : (h : Held) → s.held t h.l.0 ≡ NotHeld
+      → RepresentsShare (gained v h).share (after_gain s t h.l.0 h.mode h.by_try) t
   unfolding after_gain
   gain_own h new =
       let held : (l : ℕ) → hold_in v.share.held l ≡ s.held t l = λ l. ap (λ (x : ShareColumns). x.held l) e in
-      let begun : (l : ℕ) → is_among l v.share.begun ≡ s.has_begun t l = λ l. ap (λ (x : ShareColumns). x.has_begun l) e in
-      let listed : gained_order (v.share.held ++ h ∷ []) ≡ put s.held_locks t (record { lock = h.l.0; by_try = h.by_try } ∷ s.held_locks t) t =
-      gained_order-push v.share.held h ∙ ap (λ (x : ShareColumns). record { lock = h.l.0; by_try = h.by_try } ∷ x.held_locks) e ∙ sym (put_same s.held_locks t _) in
+      let begun : (l : ℕ) → is_among l v.share.begun ≡ s.has_begun t l =
+      λ l. ap (λ (x : ShareColumns). x.has_begun l) e in
+      let listed : gained_order (v.share.held ++ h ∷ []) ≡ put s.held_locks t
+      (record { lock = h.l.0; by_try = h.by_try } ∷ s.held_locks t) t =
+      gained_order-push v.share.held h
+      ∙ ap (λ (x : ShareColumns). record { lock = h.l.0; by_try = h.by_try } ∷ x.held_locks) e
+      ∙ sym (put_same s.held_locks t _) in
       record {
         columns = λ i. record (e i) {
           held = λ l. column_push s.held t v.share.held h new held l i;
@@ -137,7 +148,8 @@ module _ (s : State) (v : Knowledge) (fit : RepresentsShare v.share s v.thread) 
   drop_own l =
       let held : (k : ℕ) → hold_in v.share.held k ≡ s.held t k = λ k. ap (λ (x : ShareColumns). x.held k) e in
       let listed : gained_order (without_lock l v.share.held) ≡ put s.held_locks t (without_held l (s.held_locks t)) t =
-      sym (gained_order-without l v.share.held (apart_once v.share.held fit.held_once)) ∙ ap (λ (x : ShareColumns). without_held l x.held_locks) e ∙ sym (put_same s.held_locks t _) in
+      sym (gained_order-without l v.share.held (apart_once v.share.held fit.held_once))
+      ∙ ap (λ (x : ShareColumns). without_held l x.held_locks) e ∙ sym (put_same s.held_locks t _) in
       record {
         columns = λ i. record (e i) {
           held = λ k. column_without s.held t l v.share.held fit.held_once held k i;
@@ -147,21 +159,28 @@ module _ (s : State) (v : Knowledge) (fit : RepresentsShare v.share s v.thread) 
         held_once = once_without l v.share.held fit.held_once;
       }
 
-  pub stamp_own : (c : Config) (event : Event) → RepresentsShare (stamped c v (entry_of s t event)).share (after_stamp c s t event) t
+  pub stamp_own : (c : Config) (event : Event)
+      → RepresentsShare (stamped c v (entry_of s t event)).share (after_stamp c s t event) t
   unfolding after_stamp
   stamp_own c event =
-      let begun : (l : ℕ) → is_among l v.share.begun ≡ s.has_begun t l = λ l. ap (λ (x : ShareColumns). x.has_begun l) e in
+      let begun : (l : ℕ) → is_among l v.share.begun ≡ s.has_begun t l =
+      λ l. ap (λ (x : ShareColumns). x.has_begun l) e in
       record {
         columns = λ i. record (e i) {
           has_begun = λ l. begun_stamped s.has_begun t v.share.begun begun c event l i;
-          log = (ap (λ (x : ShareColumns). entry_of s t event ∷ x.log) e ∙ sym (put_same s.log t (entry_of s t event ∷ s.log t))) i;
+          log = (ap (λ (x : ShareColumns). entry_of s t event ∷ x.log) e
+              ∙ sym (put_same s.log t (entry_of s t event ∷ s.log t))) i;
           doing = record (e i).doing {
-            looks = (ap (λ (x : ShareColumns). looks_after event x.doing.looks) e ∙ sym (put_same s.looks t (looks_after event (s.looks t)))) i;
+            looks = (ap (λ (x : ShareColumns). looks_after event x.doing.looks) e
+                ∙ sym (put_same s.looks t (looks_after event (s.looks t)))) i;
             last_look = sym (put_same s.last_look t None) i;
-            round = (ap (λ (x : ShareColumns). round_after event x.doing.round) e ∙ sym (put_same s.round t (round_after event (s.round t)))) i;
+            round = (ap (λ (x : ShareColumns). round_after event x.doing.round) e
+                ∙ sym (put_same s.round t (round_after event (s.round t)))) i;
             noted = sym (put_same s.noted t None) i;
-            taking = (ap (λ (x : ShareColumns). taking_after event x.doing.taking) e ∙ sym (put_same s.taking t (taking_after event (s.taking t)))) i;
-            unstamped = (ap (λ (x : ShareColumns). unstamped_after event x.doing.unstamped) e ∙ sym (put_same s.unstamped t (unstamped_after event (s.unstamped t)))) i;
+            taking = (ap (λ (x : ShareColumns). taking_after event x.doing.taking) e
+                ∙ sym (put_same s.taking t (taking_after event (s.taking t)))) i;
+            unstamped = (ap (λ (x : ShareColumns). unstamped_after event x.doing.unstamped) e
+                ∙ sym (put_same s.unstamped t (unstamped_after event (s.unstamped t)))) i;
             woken_from = sym (put_same s.woken_from t None) i;
           };
         };
@@ -174,8 +193,10 @@ module _ (s : State) (v : Knowledge) (fit : RepresentsShare v.share s v.thread) 
   take_own i j x = record {
     columns = λ k. record (e k) {
       doing = record (e k).doing {
-        seen_in_section = (ap (λ (x : ShareColumns). seen_after (is_chain i) x.doing.seen_in_section) e ∙ sym (put_same s.seen_in_section t (seen_after (is_chain i) (s.seen_in_section t)))) k;
-        round = (ap (λ (x : ShareColumns). cond (is_chain i) (in_its_chain x.doing.round) x.doing.round) e ∙ sym (put_same s.round t (cond (is_chain i) (in_its_chain (s.round t)) (s.round t)))) k;
+        seen_in_section = (ap (λ (x : ShareColumns). seen_after (is_chain i) x.doing.seen_in_section) e
+            ∙ sym (put_same s.seen_in_section t (seen_after (is_chain i) (s.seen_in_section t)))) k;
+        round = (ap (λ (x : ShareColumns). cond (is_chain i) (in_its_chain x.doing.round) x.doing.round) e
+            ∙ sym (put_same s.round t (cond (is_chain i) (in_its_chain (s.round t)) (s.round t)))) k;
       };
     };
     held_once = fit.held_once;
@@ -186,7 +207,8 @@ module _ (s : State) (v : Knowledge) (fit : RepresentsShare v.share s v.thread) 
   give_own i = record {
     columns = λ k. record (e k) {
       doing = record (e k).doing {
-        seen_in_section = (ap (λ (x : ShareColumns). seen_after (is_chain i) x.doing.seen_in_section) e ∙ sym (put_same s.seen_in_section t (seen_after (is_chain i) (s.seen_in_section t)))) k;
+        seen_in_section = (ap (λ (x : ShareColumns). seen_after (is_chain i) x.doing.seen_in_section) e
+            ∙ sym (put_same s.seen_in_section t (seen_after (is_chain i) (s.seen_in_section t)))) k;
       };
     };
     held_once = fit.held_once;
@@ -232,7 +254,8 @@ module _ (s : State) (t u : ℕ) (other : u ≢ t) where
   pub gain_others : (h : Held) → share_in (after_gain s t h.l.0 h.mode h.by_try) u ≡ share_in s u
   unfolding after_gain
   gain_others h =
-      let held_locks_is : (after_gain s t h.l.0 h.mode h.by_try).held_locks u ≡ s.held_locks u = put_other s.held_locks t _ u ne in
+      let held_locks_is : (after_gain s t h.l.0 h.mode h.by_try).held_locks u ≡ s.held_locks u =
+      put_other s.held_locks t _ u ne in
       λ i. record (share_in s u) {
         held = put_at_row s.held t h.l.0 (Holds h.mode) u ne i;
         held_locks = held_locks_is i;
@@ -283,7 +306,8 @@ module _ (s : State) (t u : ℕ) (other : u ≢ t) where
   take_others i =
       let seen_is : (after_take s t i).seen_in_section u ≡ s.seen_in_section u = put_other s.seen_in_section t _ u ne in
       let round_is : (after_take s t i).round u ≡ s.round u = put_other s.round t _ u ne in
-      λ k. record (share_in s u) { doing = record (share_in s u).doing { seen_in_section = seen_is k; round = round_is k } }
+      λ k. record (share_in s
+      u) { doing = record (share_in s u).doing { seen_in_section = seen_is k; round = round_is k } }
 
   pub give_others : (i : Item) → share_in (after_give s t i) u ≡ share_in s u
   unfolding after_give

@@ -61,9 +61,12 @@ module _ (floor : Description) (me : Me Slot Knowledge) (was : me.0.role ≡ OfT
       let n : State = after_stamp c s v.thread event in
       let ticket : ℕ = word_at b.words ticket_line in
       let is : ticket ≡ s.next = h.represents.words.ticket in
-      let w : Knowledge = seeing (past_with h.past step) (record (stamped c v (entry_by v.thread ticket event)) { out = out me }) in
+      let w : Knowledge = seeing (past_with h.past step)
+      (record (stamped c v (entry_by v.thread ticket event)) { out = out me }) in
       let small : ticket < 2 ^ 32 = omega (arith, is, h.represents.room) in
-      let share : RepresentsShare w.share n v.thread = subst (λ k. RepresentsShare (stamped c v (entry_by v.thread k event)).share n v.thread) (sym is) (stamp_own s v h.fits.share c event) in
+      let share : RepresentsShare w.share n v.thread =
+      subst (λ k. RepresentsShare (stamped c v (entry_by v.thread k event)).share n v.thread) (sym is)
+      (stamp_own s v h.fits.share c event) in
       let own : OwnSteps v w h.past step s n = record {
         role = was;
         seen = refl;
@@ -80,10 +83,14 @@ module _ (floor : Description) (me : Me Slot Knowledge) (was : me.0.role ≡ OfT
       (w, keeps, tt, made.0, (small, refl, made.1))
 
 -- an event that changes no priority and no lock's table leaves the objects
-quiet_objects : (c : Config) (s : State) (t : ℕ) (e : Event) → changes_base e ≡ false → changes_table e ≡ false → objects_in (after_stamp c s t e) ≡ objects_in s
+quiet_objects : (c : Config) (s : State) (t : ℕ) (e : Event) → changes_base e ≡ false → changes_table e ≡ false
+    → objects_in (after_stamp c s t e) ≡ objects_in s
 unfolding after_stamp
 quiet_objects c s t e base table = λ i. record (objects_in s) {
-  record_of = λ u. record (record_in s u) { base = bases_stay c s t e base i u; effective = effective_stays c s t e base i u };
+  record_of = λ u. record (record_in s u) {
+    base = bases_stay c s t e base i u;
+    effective = effective_stays c s t e base i u;
+  };
   table = tables_stay c s t e table i;
 }
 
@@ -103,7 +110,8 @@ stamp_allowed floor me event slots id was room base table may =
     step b h =
         let r = h.represents in
         let outs : ℕ → List (ℕ × Slot) = λ u. (thread_in b.views u).out in
-        let mine : outs me.0.thread ≡ me.0.out = ap (λ (k : Knowledge). k.out) (at_or b.views (suc me.0.thread) me.0 nothing h.there) in
+        let mine : outs me.0.thread ≡ me.0.out =
+        ap (λ (k : Knowledge). k.out) (at_or b.views (suc me.0.thread) me.0 nothing h.there) in
         stamps floor me was room event (λ me. me.0.out) b h r.content (may h.state h.fits tt)
         (subst (λ o. Shelves (slots_for floor) (latch_word b.words) (home_at b.homes) o r.content)
         (sym (put_back outs me.0.thread me.0.out mine)) r.shelves)

@@ -16,7 +16,7 @@ use Rattle.thread_records.specs.Records.{Record}
 use Rattle.thread_records.specs.declared.record.ThreadRec.{ThreadRec}
 use Rattle.floor_table.specs.Descriptions.{config_in}
 use Rattle.floor_table.specs.declared.description.Description.{Description}
-use Rattle.floor_table.specs.Past.{LeadsTo}
+use Rattle.floor_table.specs.Steps.{IsSound}
 use Rattle.lock_floor.specs.declared.closing.Closing.{Closing}
 
 -- Logs are those of these threads, in their order, behind a history, whose newest entry is first: each is its thread's
@@ -49,8 +49,9 @@ Differ part recs =
 
 -- What is left of a floor, which took in the passes of these threads, in that order: the logs of a history that keeps
 -- the law, but for its part on operations; each thread's record, in its place; the tables that the history leaves; and
--- whether the halt word was set. All steps that were made on the floor led to a state with that history and that halt
--- word; and where it wasn't set, nobody was halted or passed over
+-- whether the halt word was set. Steps of the floor's threads, the newest first, led to a last state, which is lawful
+-- as each between two steps is, with that history and that halt word; and where it wasn't set, nobody was halted or
+-- passed over
 pub record IsClosing (floor : Description) (threads : List ℕ) (x : Closing) : Type 0 where
   pub history : List Entry
   pub logs : AreLogsOf threads (map (λ b. b.entries) x.logs.items) history
@@ -67,7 +68,7 @@ pub record IsClosing (floor : Description) (threads : List ℕ) (x : Closing) : 
   pub tables : x.tables.present ≡ tables_of history
   pub past : List Step
   pub last : State
-  pub reached : LeadsTo floor past last
+  pub sound : IsSound floor past last
   pub left : last.history ≡ history
   pub halted : x.halted ≡ last.halted
   pub unhalted : x.halted ≡ false → NobodyIsHalted (config_in floor) history

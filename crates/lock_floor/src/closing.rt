@@ -12,6 +12,7 @@ ghost use Rattle.floor_table.specs.Rule.{FloorHolds};
 ghost use Rattle.floor_table.specs.declared.slot.Slot.TheVariants.{Record, Cell};
 ghost use Rattle.lock_floor.specs.Closings.{IsClosing};
 ghost use Rattle.lock_floor.specs.Passes.{IsKeeperOf, IsFinished};
+ghost use Rattle.lock_floor.specs.Views.{longer};
 
 use crate::floor::{Floor, FloorOf};
 use crate::keeper::{HandOut, Keeper};
@@ -75,14 +76,16 @@ impl Join<View> for HandOut {
 }
 
 impl Keeper {
-    /// Takes in a pass that is finished, with its log. It never waits and takes no memory. By a load it learns that no
-    /// more passes were taken in than the floor has threads, so that there is room for the log.
+    /// Takes in a pass that is finished, with its log. The keeper then has seen the steps that the pass has, where
+    /// these are more. It never waits and takes no memory. By a load it learns that no more passes were taken in than
+    /// the floor has threads, so that there is room for the log.
     pub fn gather(&mut self, floor: &Floor, pass: Pass)
         requires mine { IsKeeperOf floor.now self.old }
         requires finished { IsFinished floor.now pass }
         ensures mine { IsKeeperOf floor.entry.now self.new }
         ensures gathered { self.new.view.gathered
             ≡ self.old.view.gathered ++ (pass.view.thread, pass.view.share) ∷ [] }
+        ensures seen { self.new.view.seen ≡ longer self.old.view.seen pass.view.seen }
         ensures few { length self.new.view.gathered ≤ length floor.entry.now.description.threads }
     {
         let PassOf {
@@ -120,11 +123,13 @@ fn ask<J: Tells>(board: &Board, seat: &mut FloorSeat) -> u64
 }
 
 impl FloorOf<Slot, View, Description, Law> {
-    /// Closes the floor once all its passes were taken in. It never waits and takes no memory.
+    /// Closes the floor once all its passes were taken in. The steps that were made on it are those that the keeper
+    /// has seen. It never waits and takes no memory.
     pub fn close(self, keeper: Keeper) -> Closing
         requires mine { IsKeeperOf self keeper }
         requires all { length keeper.view.gathered ≡ length self.description.threads }
-        ensures closing { IsClosing self.description (map (λ g. g.0) keeper.view.gathered) result }
+        ensures closing { (left : IsClosing self.description (map (λ g. g.0) keeper.view.gathered) result)
+            × (left.past ≡ keeper.view.seen) }
         ensures logs { map (λ b. b.entries) result.logs.items
             ≡ map (λ g. reverse g.1.log) keeper.view.gathered }
     {

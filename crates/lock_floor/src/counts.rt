@@ -38,6 +38,9 @@ impl FloorOf<Slot, View, Description, Law> {
             (counted how result pass.old.view) }
         ensures step { Makes self.now.description (counts_by how pass.old.view.thread ∷ [])
             pass.old.view pass.new.view }
+        ensures found { (m : Makes self.now.description (counts_by how pass.old.view.thread ∷ [])
+            pass.old.view pass.new.view)
+            × (m.state.awake ≡ result) }
     {
         add_awake::<Brand>(&self.board, &mut pass.seat, how, added(how))
     }

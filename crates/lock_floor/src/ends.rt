@@ -1,5 +1,5 @@
-//! How a thread counts itself among those that have ended, and how another finds out that one hasn't: the ended word says
-//! how many have. FreeBSD keeps no such count. Each is one atomic step, never waits and takes no memory.
+//! How a thread counts itself among those that have ended, and how another finds out that one hasn't: the ended word
+//! says how many have. FreeBSD keeps no such count. Each is one atomic step, never waits and takes no memory.
 ghost use Rattle.std.specs.Prelude.{◌≡◌, ◌+◌, ◌<◌, ◌%◌, ◌^◌, ⊤, [], ◌∷◌};
 ghost use Rattle.atomic_table.specs.Table.{Allows};
 ghost use Rattle.lock_state.specs.Steps.{CountsEnd};
@@ -16,8 +16,8 @@ use floor_table::{Board, Description, FloorSeat, Law, Slot, Tells, View, add, en
 use std::marker::Brand;
 
 impl FloorOf<Slot, View, Description, Law> {
-    /// Counts the thread among those that have ended. It runs, holds and wants nothing, and took its own record last. It
-    /// then gives the record back, counts itself out, and halts others where it was the last.
+    /// Counts the thread among those that have ended. It runs, holds and wants nothing, and took its own record last.
+    /// It then gives the record back, counts itself out, and halts others where it was the last.
     pub fn end(&self, pass: &mut Pass)
         requires own { IsOf self.now pass.old }
         requires may { MayMake self.now.description pass.old.view (λ s. ⊤)

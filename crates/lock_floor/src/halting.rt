@@ -1,5 +1,5 @@
-//! How a thread whose counting out left nobody awake sets the halt word, and how it finds the sleepers that it takes off
-//! their queues then, by aborts (`aborting`); the last of a side of an sx lock's queue by a step on the lock's
+//! How a thread whose counting out left nobody awake sets the halt word, and how it finds the sleepers that it takes
+//! off their queues then, by aborts (`aborting`); the last of a side of an sx lock's queue by a step on the lock's
 //! word, which shows nobody there then. Each is one atomic step or none, never waits and takes no memory.
 ghost use Rattle.std.specs.Prelude.{◌≡◌, ◌+◌, ◌<◌, ◌%◌, ◌^◌, ℕ, ⊤, [], ◌∷◌, length, IfNone, IfSome};
 ghost use Rattle.atomic_table.specs.Table.{Allows, rest};
@@ -51,8 +51,8 @@ impl FloorOf<Slot, View, Description, Law> {
         set_halt::<Brand>(&self.board, &mut pass.seat);
     }
 
-    /// Takes the last sleeper of a side off an sx lock's queue by an abort: it alone is in the marked list then, and the
-    /// lock's word shows nobody on that side. The lock's chain was taken last.
+    /// Takes the last sleeper of a side off an sx lock's queue by an abort: it alone is in the marked list then, and
+    /// the lock's word shows nobody on that side. The lock's chain was taken last.
     pub fn abort_last(&self, pass: &mut Pass, l: LockNo, side: Side, t: ThreadNo)
         requires own { IsOf self.now pass.old }
         requires lock { l.0 < length self.now.description.locks }

@@ -19,8 +19,8 @@
 //! - `opening`: a release that takes waiters off a lock's turnstile, and `claiming`: a gain of a free lock that shows
 //!   waiters, by which the thread owns its turnstile.
 //! - `sleeping`: the same of sx locks, with sleep queues; `relock`: how a wait gives its lock up and takes it back.
-//! - `channels`: how a thread goes to sleep on a channel, and how sleepers are taken off one; `aborting`: how one sleeper
-//!   is taken off a queue by an abort.
+//! - `channels`: how a thread goes to sleep on a channel, and how sleepers are taken off one; `aborting`: how one
+//!   sleeper is taken off a queue by an abort.
 //! - `marking`: how those are woken, and `counts`: how threads are counted that are awake.
 //! - `ends`: how a thread counts itself among those that have ended, and `halting`: how one whose counting out left
 //!   nobody awake sets the halt word, and finds the sleepers that it takes off their queues; `queues`: the queues that

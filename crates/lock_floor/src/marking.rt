@@ -50,10 +50,10 @@ impl FloorOf<Slot, View, Description, Law> {
         u
     }
 
-    /// Wakes the first of the marked list, who is that thread, if its record is at home: it takes the record, counts the
-    /// thread in, marks it, and gives the record back. Its sleep is still to be ended, by `unpark`. `false` comes only
-    /// where another thread had the record out at a moment between the pass's last step and this call's return, or the
-    /// pass itself has it. It never waits.
+    /// Wakes the first of the marked list, who is that thread, if its record is at home: it takes the record, counts
+    /// the thread in, marks it, and gives the record back. Its sleep is still to be ended, by `unpark`. `false` comes
+    /// only where another thread had the record out at a moment between the pass's last step and this call's return, or
+    /// the pass itself has it. It never waits.
     pub fn try_wake(&self, pass: &mut Pass, t: ThreadNo) -> bool
         requires own { IsOf self.now pass.old }
         requires may { CanMark pass.old.view }

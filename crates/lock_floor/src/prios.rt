@@ -54,8 +54,8 @@ impl FloorOf<Slot, View, Description, Law> {
         (base, eff)
     }
 
-    /// Finishes a pass whose thread has ended: it counted itself among those that have, and out of those that are awake,
-    /// and holds nothing and takes nothing. The pass makes no step any more.
+    /// Finishes a pass whose thread has ended: it counted itself among those that have, and out of those that are
+    /// awake, and holds nothing and takes nothing. The pass makes no step any more.
     pub fn finish(&self, pass: &mut Pass)
         requires own { IsOf self.now pass.old }
         requires ended { pass.old.view.share.doing.has_ended ≡ true }

@@ -29,8 +29,8 @@ pub enum HaltAt {
 }
 
 impl FloorOf<Slot, View, Description, Law> {
-    /// A queue of the floor by its place: those of locks come by their numbers, and then those of channels. `None` comes
-    /// exactly past the end. There are 320 at most.
+    /// A queue of the floor by its place: those of locks come by their numbers, and then those of channels. `None`
+    /// comes exactly past the end. There are 320 at most.
     pub fn queue_at(&self, place: u32) -> Option<QueueName>
         ensures queue { result ≡ queue_at self.now.description place }
         ensures of_floor { IfSome result (λ q. IsQueueOf self.now.description q) }

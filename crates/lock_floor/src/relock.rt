@@ -37,8 +37,8 @@ pub trait Relock {
         ensures gives_up { GivesUp l.0 pass.old.view pass.new.view }
         ensures steps { releases floor.entry.now.description l.0 pass.old.view pass.new.view };
 
-    /// Takes the lock back, as a blocking call that checks no order. A sleep of it that is aborted only looks again. The
-    /// floor has one chain of turnstiles.
+    /// Takes the lock back, as a blocking call that checks no order. A sleep of it that is aborted only looks again.
+    /// The floor has one chain of turnstiles.
     fn retake<R: Wait>(&self, floor: &Floor, rt: &R, pass: &mut Pass, l: LockNo, mode: Mode)
         requires own { IsOf floor.now pass.old }
         requires lock { l.0 < length floor.now.description.locks }

@@ -131,6 +131,7 @@ fn push_entries(out: &mut Vec<u8>, plan: &Plan, history: &[Entry]) -> Result<(),
     Ok(())
 }
 
+#[inline(always)]
 fn push_entry(out: &mut Vec<u8>, plan: &Plan, entry: &Entry) -> Result<(), AllocError>
     ensures { OnOk result (out.new.items ≡ out.old.items ++ entry_line plan.now entry.now) }
 {

@@ -5,5 +5,6 @@ mod FirstWords
 mod LastHeld
 mod LineStages
 mod OpenBlocks
+mod Runs
 mod Tens
 mod ToldLines

@@ -1,5 +1,6 @@
 -- Words of this crate's contracts: cuts of a source, and what reading answers.
-use Rattle.std.specs.Prelude.{◌≡◌, ℕ, Bool, true, not, ◌==◌, if◌then◌else◌, ok_or, List, [], ◌∷◌, Option, Some, None, Result, Ok, Err}
+use Rattle.std.specs.Prelude.{◌≡◌, ℕ, ◌+◌, ◌<◌, ◌≤◌, Bool, true, false, not, ◌==◌, if◌then◌else◌, ok_or, List, [], ◌∷◌, slice_index, Option, Some, None, Result, Ok, Err}
+use Rattle.std.specs.Int.{w64, trailing_zeros}
 use Rattle.std.specs.List.{list_all}
 use Rattle.lock_model.specs.Script.{Reading, Reads, Faulty, IsFaulty}
 use Rattle.lock_model.specs.Names.{is_name}
@@ -24,6 +25,16 @@ use Rattle.script_read.specs.declared.fault.ReadError.TheVariants.{Script, Memor
 -- no byte is that one
 abbrev pub Lacks : ℕ → List ℕ → Type 0
 Lacks byte bytes = list_all (λ b. not (b == byte)) bytes ≡ true
+
+-- of n bytes from a place on, the first so many pass a test, and the next fails it
+pub record IsRunIn (test : ℕ → Bool) (bytes : List ℕ) (at n run : ℕ) : Type 0 where
+  pub few : run ≤ n
+  pub pass : (k : ℕ) → at ≤ k → k < at + run → test (slice_index bytes k) ≡ true
+  pub stops : run < n → test (slice_index bytes (at + run)) ≡ false
+
+-- the place of the lowest bit that is set, or n where none is
+abbrev pub lowest_or : ℕ → ℕ → ℕ
+lowest_or bits n = if bits == 0 then n else trailing_zeros w64 bits
 
 -- the words of what stands behind a space, if there is one
 abbrev pub words_behind : Option (List ℕ) → List (List ℕ)

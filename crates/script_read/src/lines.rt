@@ -1,8 +1,10 @@
 //! Cutting a source into lines.
-ghost use Rattle.std.specs.Prelude.{◌≡◌, ◌<◌, ◌++◌, ◌∷◌, [], length, IfSome, IfNone, MatchOption, position, ◌==◌, not, true};
+ghost use Rattle.std.specs.Prelude.{◌≡◌, ◌+◌, ◌<◌, ◌≤◌, ◌++◌, ◌∷◌, [], length, IfSome, IfNone, MatchOption, position, ◌==◌, not, true};
 ghost use Rattle.lock_model.specs.Script.Lines.{is_printable, lines_of};
 ghost use Rattle.std.specs.List.{list_all};
-ghost use Rattle.script_read.specs.Reading.{Lacks};
+ghost use Rattle.script_read.specs.Reading.{IsRunIn, Lacks, lowest_or};
+
+use std::simd::prelude::*;
 
 /// The first line and the bytes behind its end. `None` comes where no bytes are left.
 pub fn split_line(bytes: &[u8]) -> Option<(&[u8], &[u8])>
@@ -41,6 +43,11 @@ fn printable_line(bytes: &[u8]) -> Option<(&[u8], &[u8])>
     ensures cut { IfSome result (λ cut. bytes.now ≡ cut.0.now ++ 10 ∷ cut.1.now) }
     ensures judged { IfSome result (λ cut. list_all is_printable cut.0.now ≡ true) }
 {
+    // An empty line ends at once.
+    let (first, rest) = bytes.split_first()?;
+    if *first == b'\n' {
+        return Some((&[], rest));
+    }
     let place = place_of_unprintable(bytes)?;
     if bytes[place] != b'\n' {
         return None;
@@ -48,10 +55,52 @@ fn printable_line(bytes: &[u8]) -> Option<(&[u8], &[u8])>
     Some((&bytes[..place], &bytes[place + 1..]))
 }
 
+// 16 bytes are judged at once, and those that are left one by one.
 fn place_of_unprintable(bytes: &[u8]) -> Option<usize>
     ensures { result ≡ position (λ b. not (is_printable b)) bytes.now }
 {
+    let mut from = 0;
+    while LANES <= bytes.len() - from {
+        let run = printable_run(bytes, from);
+        if run < LANES {
+            return Some(from + run);
+        }
+        from += LANES;
+    }
+    let place = place_one_by_one(&bytes[from..])?;
+    Some(from + place)
+}
+
+fn place_one_by_one(bytes: &[u8]) -> Option<usize>
+    ensures { result ≡ position (λ b. not (is_printable b)) bytes.now }
+{
     bytes.iter().position(|b| !is_printable(*b))
+}
+
+// How many bytes are judged at once.
+const LANES: usize = 16;
+
+// How many of the 16 bytes from there on stand before the first of them that may not stand in a script.
+#[inline(always)]
+fn printable_run(bytes: &[u8], at: usize) -> usize
+    requires { at + LANES ≤ length bytes.now }
+    ensures { IsRunIn is_printable bytes.now at LANES result }
+{
+    let lanes = u8x16::from_slice(&bytes[at..]);
+    let stops = lanes.simd_lt(u8x16::splat(b' ')) | lanes.simd_gt(u8x16::splat(b'~'));
+    lowest_or(stops.to_bitmask(), LANES)
+}
+
+// The place of the lowest bit that is set, or that number where none is.
+#[inline(always)]
+fn lowest_or(bits: u64, none: usize) -> usize
+    ensures { result ≡ lowest_or bits none }
+{
+    if bits == 0 {
+        none
+    } else {
+        bits.trailing_zeros() as usize
+    }
 }
 
 fn are_printable(bytes: &[u8]) -> bool

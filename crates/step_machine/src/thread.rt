@@ -94,6 +94,7 @@ impl Thread {
 
     /// Takes the lock off those that it holds.
     #[tactic(auto, using(lock_model::proofs::HeldLocks::taken_out))]
+    #[inline(always)]
     pub fn put_down(&mut self, l: LockNo)
         ensures held { self.new.held.items ≡ without_lock l.0 self.old.held.items }
         ensures room { vec_capacity self.new.held ≡ vec_capacity self.old.held }

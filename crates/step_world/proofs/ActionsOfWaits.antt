@@ -64,6 +64,16 @@ module _ {plan : Plan} {m : Machine} {r : Run} {th : Thread} (t : ℕ) (h : IsRu
   hold_read : (l : ℕ) → hold_in th.held.items l ≡ r.state.held t l
   hold_read l = ap (λ x. x.held l) (h.shows.shows.threads.thread t th is).columns
 
+  -- none where it holds nothing,
+  pub owes_without_held : (hs : List Held) → th.held.items ≡ hs → length hs ≡ 0
+      → owed_release (config_of plan) r.state t ≡ None
+  owes_without_held [] e i = go (lock_of_wait (config_of plan) r.state t)
+    where
+      go : (o : Option ℕ) → to_release (r.state.held t) o ≡ None
+      go None = refl
+      go (Some l) = rw (sym (hold_read l) ∙ ap (λ (hs : List Held). hold_in hs l) e) refl
+  owes_without_held (x ∷ xs) e i = absurd cc
+
   -- the lock of none,
   pub owes_none : th.waits_on ≡ None → owed_release (config_of plan) r.state t ≡ None
   owes_none e = rw (sym chan_read ∙ ap (option_map (λ (d : ChanNo). d.0)) e) refl

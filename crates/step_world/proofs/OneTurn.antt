@@ -1,5 +1,5 @@
 -- A course behind one turn more: who still comes, whether the round is idle, who has ended and who sleeps.
-use Rattle.std.proofs.Common.{◌≡◌, ◌≢◌, ◌⊎◌, ℕ, ◌<◌, Bool, true, false, not, ◌&&◌, eqb, ltb, List, [], ◌∷◌, length, option_map, Option, Some, None, IfSome, refl, sym, ap, ap₂, subst, inl, inr, ◌∙◌}
+use Rattle.std.proofs.Common.{◌≡◌, ◌≢◌, ◌⊎◌, ◌↔◌, ℕ, ◌<◌, Bool, true, false, not, ◌&&◌, eqb, ltb, List, [], ◌∷◌, length, option_map, Option, Some, None, IfSome, refl, sym, ap, ap₂, subst, inl, inr, ◌∙◌}
 use Rattle.std.proofs.lemmas.Bool.{and_right, cases_eq, cases_lt, not-false, eq-eqb, ne_eqb, lt-ltb, le-ltb}
 use Rattle.std.proofs.lemmas.Option.{none-some, same_Some}
 use Rattle.lock_model.specs.Counts.{has_bit}
@@ -8,6 +8,7 @@ use Rattle.lock_state.specs.Run.{Run, turn_of, run_behind, has_ended, is_idle, w
 use Rattle.lock_model.specs.declared.numbers.ThreadNo.{ThreadNo}
 use Rattle.lock_model.specs.declared.turn.Turn.{Turn}
 use Rattle.lock_model.specs.declared.turn.Turn.TheVariants.{Idle, Ended}
+use Rattle.run_laws.specs.OnTrack.{IsSleeping}
 use Rattle.run_laws.proofs.Idle.{idle_exactly, ended_exactly, changes_nothing}
 use Rattle.run_laws.proofs.OtherThreads.{ends_no_other}
 use Rattle.step_machine.specs.declared.machine.Machine.{Machine}
@@ -29,7 +30,9 @@ pub record IsKnown (old new : World) (t : ℕ) (answer : Turn) (going asleep goi
   pub going_is : (u : ℕ) → has_bit u going_then ≡ (not (over && eqb t u) && has_bit u going)
   pub woken : Option ThreadNo
   pub woken_is : (r : Run) → Represents old r → option_map (λ u. u.0) woken ≡ first_marked (r.state.marked t)
-  pub own : has_bit t asleep_then ≡ true → (has_bit t asleep ≡ true) ⊎ (answer ≡ Idle)
+  pub sleeps : Bool
+  pub sleeps_is : (r : Run) → Represents new r → sleeps ≡ true ↔ IsSleeping new.plan r t
+  pub own : has_bit t asleep_then ≡ true → (has_bit t asleep ≡ true) ⊎ (sleeps ≡ true)
   pub others : (u : ℕ) → u ≢ t → has_bit u asleep_then ≡ true → (has_bit u asleep ≡ true) × IfSome woken (λ v. v.0 ≢ u)
 
 module _ (old : World) (m : Machine) (t : ℕ) (answer : Turn) (lt : t < length old.plan.threads)
@@ -93,24 +96,24 @@ module _ (old : World) (m : Machine) (t : ℕ) (answer : Turn) (lt : t < length 
           go None i other same = none-some x.thread i
           go (Some v) i other same = other (same_Some v.0 x.thread i ∙ same)
 
-      idles : has_bit t asleep_then ≡ true → answer ≡ Idle
-      idles e = elim (k.own e) [
-        | inl before ↦ w.answer_is r h.run.1
-            ∙ (idle_exactly old.plan r t h.proper h.run.1.on_track).1 ((h.sleep t before).sleeping r h.run.1)
-        | inr i ↦ i
+      -- one who sleeps already has an idle turn
+      idles : has_bit t asleep ≡ true → answer ≡ Idle
+      idles e = w.answer_is r h.run.1
+          ∙ (idle_exactly old.plan r t h.proper h.run.1.on_track).1 ((h.sleep t e).sleeping r h.run.1)
+
+      own_sleeps : ((answer ≡ Idle) ⊎ (answer ≡ Ended) → new ≡ old) → has_bit t asleep_then ≡ true → (q : Run)
+          → Represents new q → IsSleeping old.plan q t
+      own_sleeps still e q s = elim (k.own e) [
+        | inl before ↦ (h.sleep t before).sleeping q
+            (subst (λ (v : World). Represents v q) (still (inl (idles before))) s)
+        | inr now ↦ (k.sleeps_is q s).0 now
       ]
 
       sleep_then : ((answer ≡ Idle) ⊎ (answer ≡ Ended) → new ≡ old) → (u : ℕ) → has_bit u asleep_then ≡ true
           → Sleeps new u
       sleep_then still u e = elim (cases_eq u t) [
         | inl i ↦ let own : has_bit t asleep_then ≡ true = subst (λ (v : ℕ). has_bit v asleep_then ≡ true) i e in
-            let idle = idles own in
-            subst (Sleeps new) (sym i) (record {
-              thread = lt;
-              sleeping = λ q s.
-                  let before : Represents old q = subst (λ (v : World). Represents v q) (still (inl idle)) s in
-                  (idle_exactly old.plan q t h.proper s.on_track).0 (sym (w.answer_is q before) ∙ idle);
-            })
+            subst (Sleeps new) (sym i) (record { thread = lt; sleeping = own_sleeps still own })
         | inr ne ↦
             let x = k.others u ne e in
             let asleep = h.sleep u x.0 in

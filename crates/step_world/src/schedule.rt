@@ -265,7 +265,8 @@ impl<'p> Course<'p> {
     {
         let woken = self.world.wakes_next(t);
         let turn = self.world.act(t);
-        self.asleep = asleep_behind(self.asleep, t, turn, woken);
+        let sleeps = self.world.sleeps(t);
+        self.asleep = asleep_behind(self.asleep, t, sleeps, woken);
         if self.world.has_ended(t) {
             self.going.take_out(t);
         }
@@ -346,16 +347,17 @@ fn going_in(world: &World<'_>) -> ThreadSet
     going
 }
 
-// Who is known to sleep behind a turn, which may have woken another.
-fn asleep_behind(asleep: ThreadSet, t: ThreadNo, turn: Turn, woken: Option<ThreadNo>) -> ThreadSet
+// Who is known to sleep behind the turn of a thread, which may sleep now, and may have woken another.
+fn asleep_behind(asleep: ThreadSet, t: ThreadNo, sleeps: bool, woken: Option<ThreadNo>) -> ThreadSet
     requires thread { t.0 < 32 }
     requires woken { IfSome woken (λ u. u.0 < 32) }
-    ensures own { has_bit t.0 result.bits ≡ true → has_bit t.0 asleep.bits ≡ true ⊎ (turn ≡ Turn.Idle) }
+    ensures own { has_bit t.0 result.bits ≡ true
+        → (has_bit t.0 asleep.bits ≡ true) ⊎ (sleeps ≡ true) }
     ensures others { (u : ℕ) → u ≢ t.0 → has_bit u result.bits ≡ true
         → (has_bit u asleep.bits ≡ true) × IfSome woken (λ w. w.0 ≢ u) }
 {
     let mut behind = asleep;
-    if turn == Turn::Idle {
+    if sleeps {
         behind.put(t);
     }
     if let Some(u) = woken {

@@ -11,7 +11,7 @@ ghost use Rattle.step_world.specs.Worlds.{Represents, first_marked, first_thread
 
 use crate::turns::{act, turn};
 use lock_model::{Plan, ThreadNo, Turn};
-use lock_objects::Marked;
+use lock_objects::{Marked, Wait};
 use std::alloc::{AllocError, Global};
 use std::marker::Model;
 use step_machine::Machine;
@@ -121,6 +121,19 @@ impl<'p> World<'p> {
         ensures thread { IfSome result (λ u. u.0 < length self.now.plan.threads) }
     {
         first_of(&self.machine.threads[usize::from(t.0)].marked)
+    }
+
+    /// Whether a thread, which the plan declares, sleeps: it hasn't ended, its wait word says Queued, and it owes
+    /// nothing.
+    pub(crate) fn sleeps(&self, t: ThreadNo) -> bool
+        requires { t.0 < length self.now.plan.threads }
+        ensures { (r : Run) → Represents self.now r
+            → result ≡ true ↔ IsSleeping self.now.plan r t.0 }
+    {
+        match self.wait(t) {
+            Wait::Queued => !self.owes(t) && !self.has_ended(t),
+            Wait::Running | Wait::Woken(_) => false,
+        }
     }
 
     /// Whether a thread, which the plan declares, has ended: its operations are done or cut, it owes nothing and holds

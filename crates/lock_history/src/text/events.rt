@@ -1,4 +1,5 @@
-// The words of an event, behind the thread's name on an entry's line.
+// The words of an event, behind the thread's name on an entry's line. What pushes them is inlined: a word whose length
+// is known is a move or two, and no call.
 ghost use Rattle.std.specs.Prelude.{◌≡◌, ◌++◌, ◌∷◌, [], decimal, map, OnOk};
 ghost use Rattle.lock_model.specs.Text.{spaced, event_words, mode_letter, chan_word, woken_words, or_dash, names_at_bits, found_word, lock_name, lock_kind, chan_name};
 
@@ -8,6 +9,7 @@ use lock_model::{
 };
 use std::alloc::AllocError;
 
+#[inline(always)]
 pub(super) fn push_event(out: &mut Vec<u8>, plan: &Plan, event: Event) -> Result<(), AllocError>
     ensures { OnOk result (out.new.items
         ≡ out.old.items ++ spaced (event_words plan.now event)) }
@@ -50,6 +52,7 @@ pub(super) fn push_event(out: &mut Vec<u8>, plan: &Plan, event: Event) -> Result
 }
 
 // A call's word, and the name of the lock on which it is made,
+#[inline(always)]
 fn push_on_lock(out: &mut Vec<u8>, plan: &Plan, word: &[u8], l: LockNo) -> Result<(), AllocError>
     ensures { OnOk result (out.new.items
         ≡ out.old.items ++ spaced (word.now ∷ lock_name plan.now l.0 ∷ [])) }
@@ -59,6 +62,7 @@ fn push_on_lock(out: &mut Vec<u8>, plan: &Plan, word: &[u8], l: LockNo) -> Resul
 }
 
 // or that of the condition variable or channel.
+#[inline(always)]
 fn push_on_chan(out: &mut Vec<u8>, plan: &Plan, word: &[u8], c: ChanNo) -> Result<(), AllocError>
     ensures { OnOk result (out.new.items
         ≡ out.old.items ++ spaced (word.now ∷ chan_name plan.now c.0 ∷ [])) }
@@ -68,6 +72,7 @@ fn push_on_chan(out: &mut Vec<u8>, plan: &Plan, word: &[u8], c: ChanNo) -> Resul
 }
 
 // A change at a key of a lock's table.
+#[inline(always)]
 fn push_edit(
     out: &mut Vec<u8>,
     plan: &Plan,
@@ -85,6 +90,7 @@ fn push_edit(
 }
 
 // A lock's word for a mode, as `trylock` or `runlock`, and the lock's name.
+#[inline(always)]
 fn push_mode(
     out: &mut Vec<u8>,
     plan: &Plan,
@@ -104,6 +110,7 @@ fn push_mode(
 }
 
 // The word for a condition variable, or else for a channel, and its name.
+#[inline(always)]
 fn push_chan(
     out: &mut Vec<u8>,
     plan: &Plan,
@@ -135,6 +142,7 @@ fn push_waking(
     push_woken(out, plan.threads.as_slice(), woken)
 }
 
+#[inline(always)]
 fn push_found(out: &mut Vec<u8>, found: Option<u64>) -> Result<(), AllocError>
     ensures { OnOk result (out.new.items ≡ out.old.items ++ 32 ∷ found_word found) }
 {

@@ -46,6 +46,7 @@ impl Reader {
     }
 
     // What a word stands for.
+    #[inline(always)]
     fn declared(&self, word: &[u8]) -> Result<Declared, Code>
         ensures { result ≡ named word.now (declared_as (known self.now) word.now) }
     {

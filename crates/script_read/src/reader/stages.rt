@@ -244,6 +244,7 @@ impl Reader {
     }
 
     // `set L KEY VALUE` and `add L KEY AMOUNT` change a lock's table: the lock and the two numbers.
+    #[inline(always)]
     fn test_edit(
         &self,
         thread: &OpenThread,

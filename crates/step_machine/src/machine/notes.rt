@@ -12,7 +12,8 @@ use lock_model::{Entry, Event, ThreadNo};
 
 impl Machine {
     /// Makes an entry with the next ticket, and what the entry says of a table, of the thread's base priority, of a
-    /// wait of the thread, or of its being cut.
+    /// wait of the thread, or of its being cut. It is inlined, since each call knows the kind of its event.
+    #[inline(always)]
     pub fn stamp(&mut self, t: ThreadNo, event: Event)
         requires may { May self.old (λ c s. MayStamp c s t.0 event) }
         requires room { 1 ≤ self.old.log.spare }

@@ -1,4 +1,5 @@
-//! The actions of a running thread that takes, tries or releases a lock.
+//! The actions of a running thread that takes, tries or releases a lock. What a take calls is inlined: as calls they
+//! hand events and answers on through memory, which costs as much as the steps.
 ghost use Rattle.std.specs.Prelude.{◌≡◌, ◌+◌, ◌≤◌, ◌<◌, length, map, take, Some, MatchResult};
 ghost use Rattle.lock_model.specs.Operations.{IsProper};
 ghost use Rattle.lock_model.specs.Plans.{lock_kind, lock_class, config_of};
@@ -102,6 +103,7 @@ fn class_of(plan: &Plan, l: LockNo) -> ClassNo
 
 /// A thread gains a lock where its word admits the mode, and notes that by the event; else it blocks. So it takes a
 /// lock, and takes it back after a wait.
+#[inline(always)]
 pub fn take(
     machine: &mut Machine,
     plan: &Plan,
@@ -155,6 +157,7 @@ pub fn try_lock(
 
 // A thread gains a lock whose word admits the mode, and notes it. Where the gain isn't plain, it claims the turnstile
 // of those who wait.
+#[inline(always)]
 fn gain_or_claim(
     machine: &mut Machine,
     plan: &Plan,

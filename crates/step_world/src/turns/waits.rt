@@ -39,6 +39,9 @@ fn owed_release(machine: &Machine, plan: &Plan, t: ThreadNo) -> Option<LockNo>
         → option_map (λ l. l.0) result ≡ owed_release (config_of plan.now) r.state t.0 }
 {
     let thread = &machine.threads[usize::from(t.0)];
+    if thread.held.is_empty() {
+        return None;
+    }
     let l = lock_of(plan, thread.waits_on?);
     thread.holds(l).then_some(l)
 }

@@ -34,7 +34,7 @@ outcome_of-requires g c =
     let gathered = c.gather_all.ensures.gathered ∙ ap (λ (gs : List (ℕ × Share)). gs ++ parts all) c.in_ok-floor.ensures.none_gathered in
     record {
       closing = is_closing plan c.args.chains c.in_ok-floor.floor c.in_ok-floor.ensures.description all count
-          done c.gather_all.new.keeper.view.gathered gathered c.close-closing.result c.close-closing.ensures.closing;
+          done c.gather_all.new.keeper.view.gathered gathered c.close-closing.result c.close-closing.ensures.closing.0;
     }
 
 pub returns-clause-run : goal.returns-clause-run
@@ -54,7 +54,7 @@ returns-clause-run g c =
     ∙ c.in_ok-floor.ensures.count in
     let gathered = c.gather_all.ensures.gathered ∙ ap (λ (gs : List (ℕ × Share)). gs ++ parts all) c.in_ok-floor.ensures.none_gathered in
     let closing = is_closing plan chains floor c.in_ok-floor.ensures.description all count done
-    c.gather_all.new.keeper.view.gathered gathered c.close-closing.result c.close-closing.ensures.closing in
+    c.gather_all.new.keeper.view.gathered gathered c.close-closing.result c.close-closing.ensures.closing.0 in
     let legal = left_legal plan chains floor c.in_ok-floor.ensures.description all count done
     c.gather_all.new.keeper.view.gathered gathered c.close-closing.result c.close-closing.ensures.logs closing in
     is_run plan chains c.close-closing.result closing (outcome_seen c.in_ok-outcome.outcome) legal

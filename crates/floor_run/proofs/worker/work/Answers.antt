@@ -1,6 +1,7 @@
 use Rattle.std.proofs.Common.{ℕ, List, sym, ap, subst, ◌∙◌}
 use Rattle.lock_model.specs.declared.event.Entry.{Entry}
 use Rattle.floor_table.specs.Views.{Knowledge}
+use Rattle.halting.specs.Ends.{EndsItself}
 use Rattle.halting.specs.Halts.{Kept}
 use Rattle.lock_floor.specs.Floors.{Pass}
 use Rattle.floor_run.specs.Workers.{IsWhole}
@@ -23,3 +24,11 @@ returns-clause-whole g c =
     ∙ ap (λ (k : Kept). k.log) c.end_thread.ensures.kept in
     subst (λ (z : ℕ × List Entry). IsWhole c.args.plan.now c.args.floor.now.description z.0 z.1)
     (λ i. (sym thread i, sym log i)) c.operate_all.ensures.whole
+
+pub returns-clause-ends : goal.returns-clause-ends
+returns-clause-ends g c =
+    let ended = c.operate_all.new.pass.view in (
+      ended,
+      subst (EndsItself c.args.floor.now.description ended) (sym (ap (λ (p : Pass Knowledge). p.view) c.finish.ensures))
+          c.end_thread.ensures.steps,
+    )

@@ -19,7 +19,7 @@ loop-preserved g c = record {
   stands = again c.args.floor.now.description c.args.pass.now.view c.loop.pass.view c.end.new.pass.view
       c.loop.invariant.stands
       (subst (λ n. GoesOnEnding c.args.floor.now.description Takes n c.loop.pass.view c.end.new.pass.view)
-      (c.in-Again-Takes.is ∙ ap (λ (a : EndAt). Again a) c.in-Again-Takes.field-0-is) c.end.ensures.went);
+      (c.in-Again-Takes.is ∙ ap (λ (a : EndAt). Again a) c.in-Again-Takes.field-0-is) c.end.ensures.went).0;
 }
 
 pub halt_others-requires-clause-last : goal.halt_others-requires-clause-last
@@ -27,14 +27,14 @@ halt_others-requires-clause-last g c =
     is_last c.args.floor.now.description c.args.pass.now.view c.loop.pass.view c.end.new.pass.view
     c.loop.invariant.stands c.in-Again-Halts.field-0-0
     (subst (λ n. GoesOnEnding c.args.floor.now.description Takes n c.loop.pass.view c.end.new.pass.view)
-    (c.in-Again-Halts.is ∙ ap (λ (a : EndAt). Again a) c.in-Again-Halts.field-0-is) c.end.ensures.went)
+    (c.in-Again-Halts.is ∙ ap (λ (a : EndAt). Again a) c.in-Again-Halts.field-0-is) c.end.ensures.went).0
 
 pub returns-in-Again-Halts-clause-steps : goal.returns-in-Again-Halts-clause-steps
 returns-in-Again-Halts-clause-steps g c =
     (halts_whole c.args.floor.now.description c.args.pass.now.view c.loop.pass.view c.end.new.pass.view
     c.loop.invariant.stands c.in-Again-Halts.field-0-0
     (subst (λ n. GoesOnEnding c.args.floor.now.description Takes n c.loop.pass.view c.end.new.pass.view)
-    (c.in-Again-Halts.is ∙ ap (λ (a : EndAt). Again a) c.in-Again-Halts.field-0-is) c.end.ensures.went)
+    (c.in-Again-Halts.is ∙ ap (λ (a : EndAt). Again a) c.in-Again-Halts.field-0-is) c.end.ensures.went).0
     c.halt_others.new.pass.view c.halt_others.ensures.halted c.halt_others.ensures.steps).1
 
 pub returns-in-Again-Halts-clause-ended : goal.returns-in-Again-Halts-clause-ended
@@ -42,7 +42,7 @@ returns-in-Again-Halts-clause-ended g c =
     (halts_whole c.args.floor.now.description c.args.pass.now.view c.loop.pass.view c.end.new.pass.view
     c.loop.invariant.stands c.in-Again-Halts.field-0-0
     (subst (λ n. GoesOnEnding c.args.floor.now.description Takes n c.loop.pass.view c.end.new.pass.view)
-    (c.in-Again-Halts.is ∙ ap (λ (a : EndAt). Again a) c.in-Again-Halts.field-0-is) c.end.ensures.went)
+    (c.in-Again-Halts.is ∙ ap (λ (a : EndAt). Again a) c.in-Again-Halts.field-0-is) c.end.ensures.went).0
     c.halt_others.new.pass.view c.halt_others.ensures.halted c.halt_others.ensures.steps).0
 
 pub returns-in-Done-clause-ended : goal.returns-in-Done-clause-ended
@@ -62,5 +62,5 @@ returns-in-Again-Halts-clause-kept g c =
     halts_kept c.args.floor.now.description c.args.pass.now.view c.loop.pass.view c.end.new.pass.view
     c.loop.invariant.stands c.in-Again-Halts.field-0-0
     (subst (λ n. GoesOnEnding c.args.floor.now.description Takes n c.loop.pass.view c.end.new.pass.view)
-    (c.in-Again-Halts.is ∙ ap (λ (a : EndAt). Again a) c.in-Again-Halts.field-0-is) c.end.ensures.went)
+    (c.in-Again-Halts.is ∙ ap (λ (a : EndAt). Again a) c.in-Again-Halts.field-0-is) c.end.ensures.went).0
     c.halt_others.new.pass.view c.halt_others.ensures.halted

@@ -22,21 +22,25 @@ pub returns-in-Again-clause-went : goal.returns-in-Again-clause-went
 returns-in-Again-clause-went c =
     let h = subst (λ (a : EndAt). IsEnding c.args.floor.now.description a c.args.pass.now.view) c.in-Halts.is
     c.requires.there in
+    let went = subst (λ n. GoesOnHalting c.args.floor.now.description c.in-Halts.there n c.args.pass.now.view
+    c.go_on_halting.new.pass.view) c.in-Again.is c.go_on_halting.ensures.went in
     subst (λ (a : EndAt). GoesOnEnding c.args.floor.now.description a (Again (Halts c.in-Again.to)) c.args.pass.now.view
-    c.go_on_halting.new.pass.view) (sym c.in-Halts.is)
-    (halts_on c.args.floor.now.description c.in-Halts.there c.args.pass.now.view h c.in-Again.to
-    c.go_on_halting.new.pass.view
-    (subst (λ n. GoesOnHalting c.args.floor.now.description c.in-Halts.there n c.args.pass.now.view
-    c.go_on_halting.new.pass.view) c.in-Again.is c.go_on_halting.ensures.went))
+    c.go_on_halting.new.pass.view) (sym c.in-Halts.is) (
+      halts_on c.args.floor.now.description c.in-Halts.there c.args.pass.now.view h c.in-Again.to
+          c.go_on_halting.new.pass.view went.0,
+      went.1,
+    )
 
 pub returns-in-Wake-clause-went : goal.returns-in-Wake-clause-went
 returns-in-Wake-clause-went c =
     let h = subst (λ (a : EndAt). IsEnding c.args.floor.now.description a c.args.pass.now.view) c.in-Halts.is
     c.requires.there in
+    let went = subst (λ n. GoesOnHalting c.args.floor.now.description c.in-Halts.there n c.args.pass.now.view
+    c.go_on_halting.new.pass.view) c.in-Wake.is c.go_on_halting.ensures.went in
     subst (λ (a : EndAt). GoesOnEnding c.args.floor.now.description a (Wake c.in-Wake.t (Halts c.in-Wake.to))
     c.args.pass.now.view
-    c.go_on_halting.new.pass.view) (sym c.in-Halts.is)
-    (halts_on c.args.floor.now.description c.in-Halts.there c.args.pass.now.view h c.in-Wake.to
-    c.go_on_halting.new.pass.view
-    (subst (λ n. GoesOnHalting c.args.floor.now.description c.in-Halts.there n c.args.pass.now.view
-    c.go_on_halting.new.pass.view) c.in-Wake.is c.go_on_halting.ensures.went).on)
+    c.go_on_halting.new.pass.view) (sym c.in-Halts.is) (
+      halts_on c.args.floor.now.description c.in-Halts.there c.args.pass.now.view h c.in-Wake.to
+          c.go_on_halting.new.pass.view went.0,
+      went.1,
+    )

@@ -9,7 +9,7 @@ loop-preserved-then-eq g c = record {
   stands = goes_on c.args.floor.now.description c.args.pass.now.view c.loop.pass.view c.go_on_halting.new.pass.view
       c.loop.at c.loop.invariant.stands c.in-Again.to
       (subst (λ n. GoesOnHalting c.args.floor.now.description c.loop.at n c.loop.pass.view
-      c.go_on_halting.new.pass.view) c.in-Again.is c.go_on_halting.ensures.went);
+      c.go_on_halting.new.pass.view) c.in-Again.is c.go_on_halting.ensures.went).0;
 }
 
 pub loop-preserved-else-eq : goal.loop-preserved-else-eq
@@ -18,7 +18,7 @@ loop-preserved-else-eq g c = record {
   stands = goes_on c.args.floor.now.description c.args.pass.now.view c.loop.pass.view c.go_on_halting.new.pass.view
       c.loop.at c.loop.invariant.stands c.in-Again.to
       (subst (λ n. GoesOnHalting c.args.floor.now.description c.loop.at n c.loop.pass.view
-      c.go_on_halting.new.pass.view) c.in-Again.is c.go_on_halting.ensures.went);
+      c.go_on_halting.new.pass.view) c.in-Again.is c.go_on_halting.ensures.went).0;
 }
 
 pub loop-preserved : goal.loop-preserved
@@ -27,7 +27,7 @@ loop-preserved g c = record {
   stands = goes_on c.args.floor.now.description c.args.pass.now.view c.loop.pass.view c.go_on_halting.new.pass.view
       c.loop.at c.loop.invariant.stands c.in-Wake.to
       (subst (λ n. GoesOnHalting c.args.floor.now.description c.loop.at n c.loop.pass.view
-      c.go_on_halting.new.pass.view) c.in-Wake.is c.go_on_halting.ensures.went).on;
+      c.go_on_halting.new.pass.view) c.in-Wake.is c.go_on_halting.ensures.went).0;
 }
 
 pub returns-in-Done-clause-halted : goal.returns-in-Done-clause-halted

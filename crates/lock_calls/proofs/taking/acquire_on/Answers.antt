@@ -1,9 +1,10 @@
 use Rattle.std.proofs.Common.{inl, inr, sym, ap, ◌∙◌, subst}
 use Rattle.lock_floor.specs.declared.calls.TakeAt.{TakeAt}
 use Rattle.lock_floor.specs.declared.calls.TakeAt.TheVariants.{Spins, Contends}
+use Rattle.halting.proofs.Coming.{wakes_nobody}
 use Rattle.lock_calls.specs.declared.answers.TakeNext.{TakeNext}
 use Rattle.lock_calls.specs.Takes.{IsUnderAcquiring, IsBetween, TakesOn, TakesPart}
-use Rattle.lock_calls.proofs.Calls.{takes_part}
+use Rattle.lock_calls.proofs.Calls.{takes_part, unmarked_there}
 use Rattle.lock_calls.proofs.taking.acquire_on.Goals as goal
 
 pub come-requires-clause-under_way : goal.come-requires-clause-under_way
@@ -12,10 +13,14 @@ come-requires-clause-under_way c =
     (c.in-Spins.is ∙ ap Spins c.if-left-eq0.true) c.requires.under_way
 
 pub returns-then-left-eq0-clause-on : goal.returns-then-left-eq0-clause-on
-returns-then-left-eq0-clause-on c =
-    subst (λ a. TakesOn c.args.floor.now.description c.args.l c.args.mode a c.come.result c.args.pass.now.view
-    c.come.new.pass.view)
-    (sym (c.in-Spins.is ∙ ap Spins c.if-left-eq0.true)) c.come.ensures.on
+returns-then-left-eq0-clause-on c = (
+  subst (λ a. TakesOn c.args.floor.now.description c.args.l c.args.mode a c.come.result c.args.pass.now.view
+      c.come.new.pass.view)
+      (sym (c.in-Spins.is ∙ ap Spins c.if-left-eq0.true)) c.come.ensures.on,
+  wakes_nobody c.args.pass.now.view c.come.new.pass.view
+      (unmarked_there c.args.pass.now.view (c.in-Spins.is ∙ ap Spins c.if-left-eq0.true)
+      c.requires.under_way.calling.unmarked),
+)
 
 pub spin-requires-clause-under_way : goal.spin-requires-clause-under_way
 spin-requires-clause-under_way c =
@@ -25,7 +30,10 @@ spin-requires-clause-under_way c =
 pub returns-else-left-eq0-clause-on : goal.returns-else-left-eq0-clause-on
 returns-else-left-eq0-clause-on c =
     let part = takes_part c.args.floor.now.description c.args.l c.args.mode (Spins c.in-Spins.left) c.spin.result
-    c.args.pass.now.view c.spin.new.pass.view c.spin.ensures.gained c.spin.ensures.end c.spin.ensures.on in
+    c.args.pass.now.view c.spin.new.pass.view c.spin.ensures.gained c.spin.ensures.end c.spin.ensures.on
+    (wakes_nobody c.args.pass.now.view c.spin.new.pass.view
+    (unmarked_there c.args.pass.now.view c.in-Spins.is
+    c.requires.under_way.calling.unmarked)) in
     subst (λ (z : TakeAt × TakeNext). TakesPart c.args.floor.now.description c.args.l c.args.mode z.0 z.1
     c.args.pass.now.view c.spin.new.pass.view) (λ i. (sym c.in-Spins.is i, sym c.stands.ensures i)) part
 
@@ -35,10 +43,14 @@ come_in-requires-clause-under_way c =
     c.in-ComesIn.is c.requires.under_way
 
 pub returns-in-ComesIn-clause-on : goal.returns-in-ComesIn-clause-on
-returns-in-ComesIn-clause-on c =
-    subst (λ a. TakesOn c.args.floor.now.description c.args.l c.args.mode a c.come_in.result c.args.pass.now.view
-    c.come_in.new.pass.view)
-    (sym c.in-ComesIn.is) c.come_in.ensures.on
+returns-in-ComesIn-clause-on c = (
+  subst (λ a. TakesOn c.args.floor.now.description c.args.l c.args.mode a c.come_in.result c.args.pass.now.view
+      c.come_in.new.pass.view)
+      (sym c.in-ComesIn.is) c.come_in.ensures.on,
+  wakes_nobody c.args.pass.now.view c.come_in.new.pass.view
+      (unmarked_there c.args.pass.now.view c.in-ComesIn.is
+      c.requires.under_way.calling.unmarked),
+)
 
 pub contend-requires-clause-under_way : goal.contend-requires-clause-under_way
 contend-requires-clause-under_way c =
@@ -49,7 +61,10 @@ pub returns-in-Contends-clause-on : goal.returns-in-Contends-clause-on
 returns-in-Contends-clause-on c =
     let part = takes_part c.args.floor.now.description c.args.l c.args.mode (Contends c.in-Contends.seen)
     c.contend.result c.args.pass.now.view c.contend.new.pass.view c.contend.ensures.gained c.contend.ensures.end
-    c.contend.ensures.on in
+    c.contend.ensures.on
+    (wakes_nobody c.args.pass.now.view c.contend.new.pass.view
+    (unmarked_there c.args.pass.now.view c.in-Contends.is
+    c.requires.under_way.calling.unmarked)) in
     subst (λ (z : TakeAt × TakeNext). TakesPart c.args.floor.now.description c.args.l c.args.mode z.0 z.1
     c.args.pass.now.view c.contend.new.pass.view)
     (λ i. (sym c.in-Contends.is i, sym c.stands-in-Contends.ensures i)) part
@@ -60,10 +75,14 @@ walk_on-requires-clause-under_way c =
     c.in-Walks.is c.requires.under_way
 
 pub returns-in-Walks-clause-on : goal.returns-in-Walks-clause-on
-returns-in-Walks-clause-on c =
-    subst (λ a. TakesOn c.args.floor.now.description c.args.l c.args.mode a c.walk_on.result c.args.pass.now.view
-    c.walk_on.new.pass.view)
-    (sym c.in-Walks.is) c.walk_on.ensures.on
+returns-in-Walks-clause-on c = (
+  subst (λ a. TakesOn c.args.floor.now.description c.args.l c.args.mode a c.walk_on.result c.args.pass.now.view
+      c.walk_on.new.pass.view)
+      (sym c.in-Walks.is) c.walk_on.ensures.on,
+  wakes_nobody c.args.pass.now.view c.walk_on.new.pass.view
+      (unmarked_there c.args.pass.now.view c.in-Walks.is
+      c.requires.under_way.calling.unmarked),
+)
 
 pub hop_on-requires-clause-under_way : goal.hop_on-requires-clause-under_way
 hop_on-requires-clause-under_way c =
@@ -71,10 +90,14 @@ hop_on-requires-clause-under_way c =
     c.in-Hops.is c.requires.under_way
 
 pub returns-in-Hops-clause-on : goal.returns-in-Hops-clause-on
-returns-in-Hops-clause-on c =
-    subst (λ a. TakesOn c.args.floor.now.description c.args.l c.args.mode a c.hop_on.result c.args.pass.now.view
-    c.hop_on.new.pass.view)
-    (sym c.in-Hops.is) c.hop_on.ensures.on
+returns-in-Hops-clause-on c = (
+  subst (λ a. TakesOn c.args.floor.now.description c.args.l c.args.mode a c.hop_on.result c.args.pass.now.view
+      c.hop_on.new.pass.view)
+      (sym c.in-Hops.is) c.hop_on.ensures.on,
+  wakes_nobody c.args.pass.now.view c.hop_on.new.pass.view
+      (unmarked_there c.args.pass.now.view c.in-Hops.is
+      c.requires.under_way.calling.unmarked),
+)
 
 pub halt_on-requires-clause-under_way : goal.halt_on-requires-clause-under_way
 halt_on-requires-clause-under_way c =

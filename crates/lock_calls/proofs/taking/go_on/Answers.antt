@@ -15,14 +15,14 @@ returns-in-Ok-At-clause-own c =
 pub returns-in-Ok-At-clause-went : goal.returns-in-Ok-At-clause-went
 returns-in-Ok-At-clause-went c =
     let at : Call = calls.Take c.args.l c.args.mode c.in-Ok-At.to in
+    let part = subst (TakesPart c.args.floor.now.description c.args.l c.args.mode c.args.at (next.At c.in-Ok-At.to)
+    c.args.pass.now.view) (sym (view_noted c.take_on.new.pass c.set_call.new.self at c.set_call.ensures))
+    (subst (λ n. TakesPart c.args.floor.now.description c.args.l c.args.mode c.args.at n c.args.pass.now.view
+    c.take_on.new.pass.view) c.in-Ok-At.field-0-is c.in-Ok-At.ensures.on) in
     take_stands c.args.floor.now.description c.args.l c.args.mode c.args.at c.in-Ok-At.to c.args.pass.now
     c.set_call.new.self c.next_at.result
     c.next_at.ensures
-    (call_noted c.take_on.new.pass c.set_call.new.self at c.set_call.ensures)
-    (subst (TakesPart c.args.floor.now.description c.args.l c.args.mode c.args.at (next.At c.in-Ok-At.to)
-    c.args.pass.now.view) (sym (view_noted c.take_on.new.pass c.set_call.new.self at c.set_call.ensures))
-    (subst (λ n. TakesPart c.args.floor.now.description c.args.l c.args.mode c.args.at n c.args.pass.now.view
-    c.take_on.new.pass.view) c.in-Ok-At.field-0-is c.in-Ok-At.ensures.on))
+    (call_noted c.take_on.new.pass c.set_call.new.self at c.set_call.ensures) part.0 part.1
 
 pub returns-in-Ok-Wake-clause-own : goal.returns-in-Ok-Wake-clause-own
 returns-in-Ok-Wake-clause-own c =

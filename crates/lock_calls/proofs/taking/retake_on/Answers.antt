@@ -1,5 +1,7 @@
 use Rattle.std.proofs.Common.{inl, inr, sym, subst}
+use Rattle.halting.proofs.Coming.{wakes_nobody}
 use Rattle.lock_calls.specs.Takes.{IsUnderAcquiring, IsBetween, TakesOn}
+use Rattle.lock_calls.proofs.Calls.{unmarked_there}
 use Rattle.lock_calls.proofs.taking.retake_on.Goals as goal
 
 pub unreachable-requires : goal.unreachable-requires
@@ -29,7 +31,11 @@ wake_back-requires-clause-under_way c =
     c.in-Sleeps.is c.requires.under_way
 
 pub returns-in-Sleeps-clause-on : goal.returns-in-Sleeps-clause-on
-returns-in-Sleeps-clause-on c =
-    subst (λ a. TakesOn c.args.floor.now.description c.args.l c.args.mode a c.wake_back.result c.args.pass.now.view
-    c.wake_back.new.pass.view)
-    (sym c.in-Sleeps.is) c.wake_back.ensures.on
+returns-in-Sleeps-clause-on c = (
+  subst (λ a. TakesOn c.args.floor.now.description c.args.l c.args.mode a c.wake_back.result c.args.pass.now.view
+      c.wake_back.new.pass.view)
+      (sym c.in-Sleeps.is) c.wake_back.ensures.on,
+  wakes_nobody c.args.pass.now.view c.wake_back.new.pass.view
+      (unmarked_there c.args.pass.now.view c.in-Sleeps.is
+      c.requires.under_way.calling.unmarked),
+)

@@ -1,10 +1,11 @@
 use Rattle.std.proofs.Common.{inl, inr, sym, subst}
 use Rattle.lock_floor.specs.declared.calls.TakeAt.{TakeAt}
 use Rattle.lock_floor.specs.declared.calls.TakeAt.TheVariants.{Checks}
+use Rattle.halting.proofs.Coming.{wakes_nobody}
 use Rattle.lock_calls.specs.declared.answers.TakeNext.{TakeNext}
 use Rattle.lock_calls.specs.Takes.{IsUnderTake, IsBetween, TakesOn, TakesPart, IsHalted, kept_at}
 use Rattle.lock_calls.proofs.Attempts.{can_acquire}
-use Rattle.lock_calls.proofs.Calls.{takes_part}
+use Rattle.lock_calls.proofs.Calls.{takes_part, unmarked_there}
 use Rattle.lock_calls.proofs.taking.take_on.Goals as goal
 
 pub check-requires-clause-under_way : goal.check-requires-clause-under_way
@@ -15,7 +16,10 @@ check-requires-clause-under_way c =
 pub returns-in-Ok-clause-on : goal.returns-in-Ok-clause-on
 returns-in-Ok-clause-on c =
     let part = takes_part c.args.floor.now.description c.args.l c.args.mode Checks c.in-Ok.to c.args.pass.now.view
-    c.check.new.pass.view c.in-Ok.ensures.gained c.in-Ok.ensures.end c.in-Ok.ensures.on in
+    c.check.new.pass.view c.in-Ok.ensures.gained c.in-Ok.ensures.end c.in-Ok.ensures.on
+    (wakes_nobody c.args.pass.now.view c.check.new.pass.view
+    (unmarked_there c.args.pass.now.view c.in-Checks.is
+    c.requires.under_way.calling.unmarked)) in
     subst (λ (z : TakeAt × TakeNext). TakesPart c.args.floor.now.description c.args.l c.args.mode z.0 z.1
     c.args.pass.now.view c.check.new.pass.view) (λ i. (sym c.in-Checks.is i, sym c.stands.ensures i)) part
 
@@ -54,10 +58,14 @@ wake_up-requires-clause-under_way c =
     c.in-Sleeps.is c.requires.under_way
 
 pub returns-in-Ok-wake_up-clause-on : goal.returns-in-Ok-wake_up-clause-on
-returns-in-Ok-wake_up-clause-on c =
-    subst (λ a. TakesOn c.args.floor.now.description c.args.l c.args.mode a c.in-Ok-wake_up.to c.args.pass.now.view
-    c.wake_up.new.pass.view)
-    (sym c.in-Sleeps.is) c.in-Ok-wake_up.ensures.on
+returns-in-Ok-wake_up-clause-on c = (
+  subst (λ a. TakesOn c.args.floor.now.description c.args.l c.args.mode a c.in-Ok-wake_up.to c.args.pass.now.view
+      c.wake_up.new.pass.view)
+      (sym c.in-Sleeps.is) c.in-Ok-wake_up.ensures.on,
+  wakes_nobody c.args.pass.now.view c.wake_up.new.pass.view
+      (unmarked_there c.args.pass.now.view c.in-Sleeps.is
+      c.requires.under_way.calling.unmarked),
+)
 
 pub returns-in-Err-wake_up-clause-refused : goal.returns-in-Err-wake_up-clause-refused
 returns-in-Err-wake_up-clause-refused c =

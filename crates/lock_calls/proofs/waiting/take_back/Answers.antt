@@ -50,7 +50,7 @@ loop-preserved-in-Sleeps g c = record {
         (retakes_on c.args.floor.now.description c.args.l c.args.mode c.args.pass.now.view c.requires.may c.loop.at
         c.loop.pass.view c.retake_on.new.pass.view c.loop.invariant.stands w.in-At.to
         (subst (λ n. TakesPart c.args.floor.now.description c.args.l c.args.mode c.loop.at n c.loop.pass.view
-        c.retake_on.new.pass.view) w.in-At.is c.retake_on.ensures.on))
+        c.retake_on.new.pass.view) w.in-At.is c.retake_on.ensures.on).0)
     | in-Wake w ↦ subst (λ a. RetakesSince c.args.floor.now.description c.args.l c.args.mode c.args.pass.now.view a
         c.retake_on.new.pass.view) (sym w.at-is)
         (retakes_on c.args.floor.now.description c.args.l c.args.mode c.args.pass.now.view c.requires.may c.loop.at
@@ -69,7 +69,7 @@ loop-preserved g c = record {
         (retakes_on c.args.floor.now.description c.args.l c.args.mode c.args.pass.now.view c.requires.may c.loop.at
         c.loop.pass.view c.retake_on.new.pass.view c.loop.invariant.stands w.in-At.to
         (subst (λ n. TakesPart c.args.floor.now.description c.args.l c.args.mode c.loop.at n c.loop.pass.view
-        c.retake_on.new.pass.view) w.in-At.is c.retake_on.ensures.on))
+        c.retake_on.new.pass.view) w.in-At.is c.retake_on.ensures.on).0)
     | in-Wake w ↦ subst (λ a. RetakesSince c.args.floor.now.description c.args.l c.args.mode c.args.pass.now.view a
         c.retake_on.new.pass.view) (sym w.at-is)
         (retakes_on c.args.floor.now.description c.args.l c.args.mode c.args.pass.now.view c.requires.may c.loop.at

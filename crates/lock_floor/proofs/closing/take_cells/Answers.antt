@@ -59,5 +59,6 @@ loop-i-preserved c =
       items = others.0 ∙ i.items;
       places = others.2 ∙ i.places;
       taken = λ k below. ap (λ fs. get_or fs k false) others.1 ∙ still_empty flags t k (omega (arith, below)) i.taken;
-      left = λ k past below. ap (λ fs. get_or fs k false) others.1 ∙ still_full flags t k (omega (arith, past)) ∙ i.left k (omega (arith, past)) (subst (λ n. k < n) others.2 below);
+      left = λ k past below. ap (λ fs. get_or fs k false) others.1 ∙ still_full flags t k (omega (arith, past))
+          ∙ i.left k (omega (arith, past)) (subst (λ n. k < n) others.2 below);
     }

@@ -29,5 +29,6 @@ loop-t-preserved c =
       items = others.0 ∙ i.items;
       places = others.2 ∙ i.places;
       taken = λ k low. ap (λ fs. get_or fs k false) others.1 ∙ still_empty flags t k low i.taken;
-      left = λ k past low. ap (λ fs. get_or fs k false) others.1 ∙ still_full flags t k (omega (arith, past)) ∙ i.left k (omega (arith, past)) (subst (λ n. k < n) others.2 low);
+      left = λ k past low. ap (λ fs. get_or fs k false) others.1 ∙ still_full flags t k (omega (arith, past))
+          ∙ i.left k (omega (arith, past)) (subst (λ n. k < n) others.2 low);
     }

@@ -13,7 +13,8 @@ abbrev pub invariant-loop-t : goal.invariant-loop-t
 invariant-loop-t l = record {
   count : length l.recs.items ≡ l.t;
   room : vec_capacity l.recs ≡ vec_capacity l.initial.recs;
-  records : (k : ℕ) (d : Box ThreadRec Global) → k < l.t → get_elem? (slots_items l.initial.closed.slots) k ≡ some (Record (get_or l.recs.items k d));
+  records : (k : ℕ) (d : Box ThreadRec Global) → k < l.t
+      → get_elem? (slots_items l.initial.closed.slots) k ≡ some (Record (get_or l.recs.items k d));
   items : slots_items l.closed.slots ≡ slots_items l.initial.closed.slots;
   places : slots_len l.closed.slots ≡ slots_len l.initial.closed.slots;
   taken : (k : ℕ) → k < l.t → get_or (slots_filled l.closed.slots) k false ≡ false;

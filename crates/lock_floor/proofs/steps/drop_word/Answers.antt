@@ -11,4 +11,6 @@ exchange-requires-clause-may g c =
     let me : Me Slot Knowledge = c.args.seat.now.me in
     let shared = c.args.board.now.shared in
     let new = c.dropped-new in
-    subst (λ i. Allows (FloorHolds shared.key) shared.table_id.slots c.args.seat.now.id me i (λ n. either (eqb n c.args.seen) new.result n) (g.J.Tells.told me)) (sym c.lock_spot.ensures) (c.requires.may new.result new.ensures.word)
+    subst (λ i. Allows (FloorHolds shared.key) shared.table_id.slots c.args.seat.now.id me i
+    (λ n. either (eqb n c.args.seen) new.result n) (g.J.Tells.told me)) (sym c.lock_spot.ensures)
+    (c.requires.may new.result new.ensures.word)

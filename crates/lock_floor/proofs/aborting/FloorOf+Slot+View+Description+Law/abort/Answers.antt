@@ -41,15 +41,15 @@ abort_off-requires-clause-may c =
 
 pub take_sleeper-woken-requires-clause-out : goal.take_sleeper-woken-requires-clause-out
 take_sleeper-woken-requires-clause-out c =
-    before c.self.inside.board.shared.key c.pass.inside.seat.me c.abort_off.new.seat.me c.args.q c.args.t.0
-    c.abort_off.ensures.told.1 c.chain_slot-at.result
+    before c.self.inside.board.shared.key c.pass.inside.seat.me c.abort_off.new.seat.me c.args.q
+    c.abort_off.ensures.told.1.side c.args.t.0 c.abort_off.ensures.told.1.off c.chain_slot-at.result
     (c.chain_slot-at.ensures.place ∙ place_inside _ _ _ _ c.self.view_is c.pass.view_is c.args.q)
     c.pass.invariant.out
 
 pub invariant_of-pass : goal.invariant_of-pass
 invariant_of-pass c =
-    call_tied c.self.inside.board.shared.key c.pass.inside.seat.me c.abort_off.new.seat.me c.args.q c.args.t.0
-    c.abort_off.ensures.told.1 c.chain_slot-at.result
+    call_tied c.self.inside.board.shared.key c.pass.inside.seat.me c.abort_off.new.seat.me c.args.q
+    c.abort_off.ensures.told.1.side c.args.t.0 c.abort_off.ensures.told.1.off c.chain_slot-at.result
     (c.chain_slot-at.ensures.place ∙ place_inside _ _ _ _ c.self.view_is c.pass.view_is c.args.q)
     c.pass.invariant.out c.take_sleeper-woken.new.seat.me c.take_sleeper-woken.result
     c.take_sleeper-woken.ensures.view c.take_sleeper-woken.ensures.out
@@ -62,8 +62,8 @@ returns-clause-own c = record {
   table = c.take_sleeper-woken.ensures.own ∙ c.abort_off.ensures.own
       ∙ ap (λ (p : Pass Knowledge). p.table) c.pass.view_is ∙ c.requires.own.table;
   description = ap (λ (w : Knowledge). w.description)
-      (call_view c.self.inside.board.shared.key c.pass.inside.seat.me c.abort_off.new.seat.me c.args.q c.args.t.0
-      c.abort_off.ensures.told.1 c.chain_slot-at.result
+      (call_view c.self.inside.board.shared.key c.pass.inside.seat.me c.abort_off.new.seat.me c.args.q
+      c.abort_off.ensures.told.1.side c.args.t.0 c.abort_off.ensures.told.1.off c.chain_slot-at.result
       (c.chain_slot-at.ensures.place ∙ place_inside _ _ _ _ c.self.view_is c.pass.view_is c.args.q)
       c.pass.invariant.out c.take_sleeper-woken.new.seat.me c.take_sleeper-woken.result
       c.take_sleeper-woken.ensures.view c.take_sleeper-woken.ensures.out)
@@ -75,8 +75,8 @@ pub returns-clause-aborts : goal.returns-clause-aborts
 returns-clause-aborts c =
     subst (λ (z : Floor Description × Pass Knowledge). AbortsSleeper z.0.description c.args.q c.args.t.0 z.1.view
     c.take_sleeper-woken.new.seat.me.0) (λ i. (c.self.view_is i, c.pass.view_is i))
-    (call_aborts c.self.inside.board.shared.key c.pass.inside.seat.me c.abort_off.new.seat.me c.args.q c.args.t.0
-    c.abort_off.ensures.told.1 c.chain_slot-at.result
+    (call_aborts c.self.inside.board.shared.key c.pass.inside.seat.me c.abort_off.new.seat.me c.args.q
+    c.abort_off.ensures.told.1.side c.args.t.0 c.abort_off.ensures.told.1.off c.chain_slot-at.result
     (c.chain_slot-at.ensures.place ∙ place_inside _ _ _ _ c.self.view_is c.pass.view_is c.args.q)
     c.pass.invariant.out c.take_sleeper-woken.new.seat.me c.take_sleeper-woken.result
-    c.take_sleeper-woken.ensures.view c.take_sleeper-woken.ensures.out)
+    c.take_sleeper-woken.ensures.view c.take_sleeper-woken.ensures.out c.abort_off.ensures.told.1.keeps_word)

@@ -4,7 +4,6 @@ use Rattle.std.specs.Mem.Slots.{slots_items}
 use Rattle.floor_table.specs.declared.description.Description.{Description}
 use Rattle.floor_table.specs.declared.description.ThreadPart.{ThreadPart}
 use Rattle.floor_table.specs.Places.{is_cell}
-use Rattle.floor_table.specs.Shares.{Share}
 use Rattle.floor_table.specs.Views.{Knowledge}
 use Rattle.lock_floor.specs.Closings.{IsClosing}
 use Rattle.lock_floor.specs.Floors.{Floor, Keeper}
@@ -71,8 +70,9 @@ returns-clause-closing c =
     } in
     let column : ℕ → ℕ → Option ℕ = (left key v _ _ final all).table in
     let values = c.take_cells.ensures.values column out in
-    subst (λ (z : Description × List (ℕ × Share)). IsClosing z.0 (map (λ g. g.0) z.1) x)
-    (λ i. ((c.self.view_is i).description, (c.keeper.view_is i).view.gathered))
+    subst (λ (z : Description × Knowledge).
+    (left : IsClosing z.0 (map (λ g. g.0) z.1.gathered) x) × (left.past ≡ z.1.seen))
+    (λ i. ((c.self.view_is i).description, (c.keeper.view_is i).view))
     (is_closing key v _ _ final all x record {
       logs = c.keeper.invariant.logs_are;
       count = c.take_records.ensures.count ∙ same;

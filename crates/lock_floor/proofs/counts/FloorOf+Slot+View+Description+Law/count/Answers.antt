@@ -20,8 +20,10 @@ add_awake-requires-clause-may c =
     shared.table_id.slots c.pass.inside.seat.id may
 
 behind_is : (c : goal.After-add_awake)
-    → c.add_awake.new.seat.me ≡
-    (seeing c.add_awake.new.seat.me.0.seen (counted c.args.how c.add_awake.result c.pass.inside.seat.me.0), c.pass.inside.seat.me.1)
+    → c.add_awake.new.seat.me ≡ (
+      seeing c.add_awake.new.seat.me.0.seen (counted c.args.how c.add_awake.result c.pass.inside.seat.me.0),
+      c.pass.inside.seat.me.1,
+    )
 behind_is c = c.add_awake.ensures.told.0
 
 pub invariant_of-pass : goal.invariant_of-pass
@@ -55,3 +57,10 @@ returns-clause-step c =
     subst (λ (z : Floor Description × Pass Knowledge). Makes z.0.description
     (counts_by c.args.how z.1.view.thread ∷ []) z.1.view c.add_awake.new.seat.me.0)
     (λ i. (c.self.view_is i, c.pass.view_is i)) c.add_awake.ensures.told.1
+
+pub returns-clause-found : goal.returns-clause-found
+returns-clause-found c =
+    subst (λ (z : Floor Description × Pass Knowledge). (m : Makes z.0.description
+    (counts_by c.args.how z.1.view.thread ∷ []) z.1.view c.add_awake.new.seat.me.0)
+    × (m.state.awake ≡ c.add_awake.result)) (λ i. (c.self.view_is i, c.pass.view_is i))
+    (c.add_awake.ensures.told.1, c.add_awake.ensures.told.2)

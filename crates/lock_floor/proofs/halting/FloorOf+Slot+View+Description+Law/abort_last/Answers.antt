@@ -6,7 +6,7 @@ use Rattle.floor_table.specs.declared.description.Description.{Description}
 use Rattle.lock_floor.specs.Halting.{MayAbortLast, AbortsLast}
 use Rattle.lock_floor.specs.Floors.{Floor, Pass}
 use Rattle.lock_floor.specs.Waits.{chain_place}
-use Rattle.lock_floor.proofs.LastCall.{before, call_view, call_tied, call_aborts}
+use Rattle.lock_floor.proofs.AbortCall.{before, call_view, call_tied, call_step}
 use Rattle.lock_floor.proofs.LastStep.{last_allowed}
 use Rattle.lock_floor.proofs.halting.FloorOf+Slot+View+Description+Law.abort_last.Goals as goal
 
@@ -34,15 +34,15 @@ hide-requires-clause-may c =
 
 pub take_sleeper-woken-requires-clause-out : goal.take_sleeper-woken-requires-clause-out
 take_sleeper-woken-requires-clause-out c =
-    before c.self.inside.board.shared.key c.pass.inside.seat.me c.hide.new.seat.me c.args.l.0 c.args.side c.args.t.0
-    c.hide.ensures.told.1 c.chain_slot-at.result
+    before c.self.inside.board.shared.key c.pass.inside.seat.me c.hide.new.seat.me (lock_queue c.args.l.0) c.args.side
+    c.args.t.0 c.hide.ensures.told.1.off c.chain_slot-at.result
     (c.chain_slot-at.ensures.place ∙ place_inside _ _ _ _ c.self.view_is c.pass.view_is c.args.l.0)
     c.pass.invariant.out
 
 pub invariant_of-pass : goal.invariant_of-pass
 invariant_of-pass c =
-    call_tied c.self.inside.board.shared.key c.pass.inside.seat.me c.hide.new.seat.me c.args.l.0 c.args.side c.args.t.0
-    c.hide.ensures.told.1 c.chain_slot-at.result
+    call_tied c.self.inside.board.shared.key c.pass.inside.seat.me c.hide.new.seat.me (lock_queue c.args.l.0)
+    c.args.side c.args.t.0 c.hide.ensures.told.1.off c.chain_slot-at.result
     (c.chain_slot-at.ensures.place ∙ place_inside _ _ _ _ c.self.view_is c.pass.view_is c.args.l.0)
     c.pass.invariant.out c.take_sleeper-woken.new.seat.me c.take_sleeper-woken.result
     c.take_sleeper-woken.ensures.view c.take_sleeper-woken.ensures.out
@@ -55,8 +55,8 @@ returns-clause-own c = record {
   table = c.take_sleeper-woken.ensures.own ∙ c.hide.ensures.own
       ∙ ap (λ (p : Pass Knowledge). p.table) c.pass.view_is ∙ c.requires.own.table;
   description = ap (λ (w : Knowledge). w.description)
-      (call_view c.self.inside.board.shared.key c.pass.inside.seat.me c.hide.new.seat.me c.args.l.0 c.args.side
-      c.args.t.0 c.hide.ensures.told.1 c.chain_slot-at.result
+      (call_view c.self.inside.board.shared.key c.pass.inside.seat.me c.hide.new.seat.me (lock_queue c.args.l.0)
+      c.args.side c.args.t.0 c.hide.ensures.told.1.off c.chain_slot-at.result
       (c.chain_slot-at.ensures.place ∙ place_inside _ _ _ _ c.self.view_is c.pass.view_is c.args.l.0)
       c.pass.invariant.out c.take_sleeper-woken.new.seat.me c.take_sleeper-woken.result
       c.take_sleeper-woken.ensures.view c.take_sleeper-woken.ensures.out)
@@ -66,10 +66,22 @@ returns-clause-own c = record {
 
 pub returns-clause-aborts : goal.returns-clause-aborts
 returns-clause-aborts c =
+    let off = c.hide.ensures.told.1.off in
+    let at = c.chain_slot-at.ensures.place ∙ place_inside _ _ _ _ c.self.view_is c.pass.view_is c.args.l.0 in
     subst (λ (z : Floor Description × Pass Knowledge). AbortsLast z.0.description c.args.l.0 c.args.side c.args.t.0
     z.1.view c.take_sleeper-woken.new.seat.me.0) (λ i. (c.self.view_is i, c.pass.view_is i))
-    (call_aborts c.self.inside.board.shared.key c.pass.inside.seat.me c.hide.new.seat.me c.args.l.0 c.args.side
-    c.args.t.0 c.hide.ensures.told.1 c.chain_slot-at.result
-    (c.chain_slot-at.ensures.place ∙ place_inside _ _ _ _ c.self.view_is c.pass.view_is c.args.l.0)
-    c.pass.invariant.out c.take_sleeper-woken.new.seat.me c.take_sleeper-woken.result
-    c.take_sleeper-woken.ensures.view c.take_sleeper-woken.ensures.out)
+    record {
+      sleepers = off.sleepers;
+      sleeps = record {
+        head = off.head;
+        there = off.there;
+        stands = off.stands;
+        last = c.hide.ensures.told.1.last;
+      };
+      view = call_view c.self.inside.board.shared.key c.pass.inside.seat.me c.hide.new.seat.me (lock_queue c.args.l.0)
+          c.args.side c.args.t.0 off c.chain_slot-at.result at c.pass.invariant.out c.take_sleeper-woken.new.seat.me
+          c.take_sleeper-woken.result c.take_sleeper-woken.ensures.view c.take_sleeper-woken.ensures.out;
+      step = call_step c.self.inside.board.shared.key c.pass.inside.seat.me c.hide.new.seat.me (lock_queue c.args.l.0)
+          c.args.side c.args.t.0 off c.chain_slot-at.result at c.pass.invariant.out c.take_sleeper-woken.new.seat.me
+          c.take_sleeper-woken.result c.take_sleeper-woken.ensures.view c.take_sleeper-woken.ensures.out;
+    }

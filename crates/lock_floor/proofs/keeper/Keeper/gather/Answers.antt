@@ -10,7 +10,7 @@ use Rattle.floor_table.specs.Shares.{Share}
 use Rattle.floor_table.specs.Views.{Knowledge, nothing}
 use Rattle.lock_floor.specs.Floors.{Floor, Pass, Keeper}
 use Rattle.lock_floor.specs.Ties.{IsKept}
-use Rattle.lock_floor.specs.Views.{with_pass_taken}
+use Rattle.lock_floor.specs.Views.{longer, with_pass_taken}
 use Rattle.floor_table.specs.Places.{spot, ticket_line}
 use Rattle.lock_floor.proofs.Joining.{Asked, joins, ask_allowed}
 use Rattle.lock_floor.proofs.keeper.Keeper.gather.Goals as goal
@@ -61,8 +61,11 @@ push_reserved-requires c =
     let w : Knowledge = c.pass.inside.seat.me.0 in
     let key : Description = c.floor.inside.board.shared.key in
     let logs = c.self.inside.logs.items in
-    let long : length logs ≡ length v.gathered = sym (length-map logs (λ (b : Book). b.entries)) ∙ ap length c.self.invariant.logs_are ∙ length-map v.gathered (λ (g : ℕ × Share). reverse g.1.log) in
-    let more : length c.join_seat.new.seat.me.0.gathered ≡ length v.gathered + 1 = ap (λ (m : Me Slot Knowledge). length m.0.gathered) c.join_seat.ensures.2 ∙ length-append v.gathered ((w.thread, w.share) ∷ []) in
+    let long : length logs ≡ length v.gathered = sym (length-map logs (λ (b : Book). b.entries))
+    ∙ ap length c.self.invariant.logs_are ∙ length-map v.gathered (λ (g : ℕ × Share). reverse g.1.log) in
+    let more : length c.join_seat.new.seat.me.0.gathered ≡ length v.gathered + 1 =
+    ap (λ (m : Me Slot Knowledge). length m.0.gathered) c.join_seat.ensures.2
+    ∙ length-append v.gathered ((w.thread, w.share) ∷ []) in
     let threads : length v.description.threads ≡ length key.threads =
     ap (λ (d : Description). length d.threads) (its_floor c) in
     omega (arith, long, more, threads, c.ask.ensures.told.1, c.self.invariant.room_for_logs)
@@ -75,7 +78,8 @@ invariant_of-self c =
     let over = ap (λ (p : Pass Knowledge). p.finished) c.pass.view_is ∙ c.requires.finished.finished in
     let rests : ℕ × Share → Type 0 = λ g. g.1.doing.taking ≡ None in
     let bares : ℕ × Share → Type 0 = λ g. g.1.held ≡ [] in
-    subst (λ (m : Me Slot Knowledge). IsKept c.push_reserved.new.self c.self.inside.recs c.self.inside.tables c.ask.new.seat.id m) (sym (behind c)) record {
+    subst (λ (m : Me Slot Knowledge). IsKept c.push_reserved.new.self c.self.inside.recs c.self.inside.tables
+    c.ask.new.seat.id m) (sym (behind c)) record {
       first = c.ask.ensures.id ∙ c.join_seat.ensures.1 ∙ k.first;
       role = k.role;
       none_out = k.none_out;
@@ -97,7 +101,8 @@ invariant_of-self c =
 
 pub returns-clause-mine : goal.returns-clause-mine
 returns-clause-mine c = record {
-  table = c.ask.ensures.own ∙ c.join_seat.ensures.0 ∙ ap (λ (k : Keeper). k.table) c.self.view_is ∙ c.requires.mine.table;
+  table = c.ask.ensures.own ∙ c.join_seat.ensures.0 ∙ ap (λ (k : Keeper). k.table) c.self.view_is
+      ∙ c.requires.mine.table;
   description = ap (λ (m : Me Slot Knowledge). m.0.description) (behind c)
       ∙ ap (λ (k : Keeper). k.view.description) c.self.view_is ∙ c.requires.mine.description;
 }
@@ -106,3 +111,8 @@ pub returns-clause-gathered : goal.returns-clause-gathered
 returns-clause-gathered c =
     ap (λ (m : Me Slot Knowledge). m.0.gathered) (behind c)
     ∙ (λ i. (c.self.view_is i).view.gathered ++ ((c.pass.view_is i).view.thread, (c.pass.view_is i).view.share) ∷ [])
+
+pub returns-clause-seen : goal.returns-clause-seen
+returns-clause-seen c =
+    ap (λ (m : Me Slot Knowledge). m.0.seen) (behind c)
+    ∙ (λ i. longer (c.self.view_is i).view.seen (c.pass.view_is i).view.seen)

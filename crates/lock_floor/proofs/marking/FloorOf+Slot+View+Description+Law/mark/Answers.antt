@@ -66,7 +66,8 @@ invariant_of-pass c =
     call_tied (key c) (me c) c.in-Some.woken c.pass.inside.marked c.pop.new.self c.from.result c.thread-u.result.0
     (need c) (are c) c.in-Some.ensures.some c.pass.invariant.out c.from.ensures c.thread-u.ensures
     c.hand_back.new.seat.me c.hand_back.ensures.view c.hand_back.ensures.value
-    c.word_for-word.result c.say_woken.new.seat.me c.say_woken.ensures.told c.pass.inside.who.0 c.pass.inside.held c.pass.inside.log
+    c.word_for-word.result c.say_woken.new.seat.me c.say_woken.ensures.told c.pass.inside.who.0 c.pass.inside.held
+    c.pass.inside.log
     c.pass.inside.finished (going c) (mine _ _ _ _ c.self.view_is c.pass.view_is c.requires.own.description)
     c.pass.invariant
 

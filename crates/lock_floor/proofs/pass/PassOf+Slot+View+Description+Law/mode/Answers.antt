@@ -9,11 +9,16 @@ use Rattle.lock_floor.proofs.pass.PassOf+Slot+View+Description+Law.mode.Goals as
 pub returns-in-Some : goal.returns-in-Some
 returns-in-Some c =
     let items = c.self.inside.held.items in
-    let there = ap (position (holds_lock c.args.l)) (sym c.deref.ensures.value) ∙ sym c.place_held.ensures ∙ c.in-Some.is in
-    ap (λ h. Holds h.mode) c.index.ensures ∙ held_there c.args.l items c.in-Some.i c.index.result.now there ∙ ap (λ hs. hold_in hs c.args.l.0) c.self.invariant.held ∙ ap (λ (p : Pass Knowledge). hold_in p.view.share.held c.args.l.0) c.self.view_is
+    let there = ap (position (holds_lock c.args.l)) (sym c.deref.ensures.value) ∙ sym c.place_held.ensures
+    ∙ c.in-Some.is in
+    ap (λ h. Holds h.mode) c.index.ensures ∙ held_there c.args.l items c.in-Some.i c.index.result.now there
+    ∙ ap (λ hs. hold_in hs c.args.l.0) c.self.invariant.held
+    ∙ ap (λ (p : Pass Knowledge). hold_in p.view.share.held c.args.l.0) c.self.view_is
 
 pub returns-in-None : goal.returns-in-None
 returns-in-None c =
     let items = c.self.inside.held.items in
-    let nowhere = ap (position (holds_lock c.args.l)) (sym c.deref.ensures.value) ∙ sym c.place_held.ensures ∙ c.in-None.is in
-    none_held c.args.l items nowhere ∙ ap (λ hs. hold_in hs c.args.l.0) c.self.invariant.held ∙ ap (λ (p : Pass Knowledge). hold_in p.view.share.held c.args.l.0) c.self.view_is
+    let nowhere = ap (position (holds_lock c.args.l)) (sym c.deref.ensures.value) ∙ sym c.place_held.ensures
+    ∙ c.in-None.is in
+    none_held c.args.l items nowhere ∙ ap (λ hs. hold_in hs c.args.l.0) c.self.invariant.held
+    ∙ ap (λ (p : Pass Knowledge). hold_in p.view.share.held c.args.l.0) c.self.view_is

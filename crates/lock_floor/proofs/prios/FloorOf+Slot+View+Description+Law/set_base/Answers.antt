@@ -83,14 +83,17 @@ give-requires-clause-may g c =
           ∙ ap (λ (w : Knowledge). w.share.doing.counting) taken.view ∙ c.requires.ready.rest.uncounted),
     )
 
-used : (g : given.Over) (c : goal.After-give g) → Used c.args.self.now (RecordOf c.args.pass.now.view.thread) (Base c.args.prio) c.args.pass.now c.give.new.pass
+used : (g : given.Over) (c : goal.After-give g)
+    → Used c.args.self.now (RecordOf c.args.pass.now.view.thread) (Base c.args.prio) c.args.pass.now c.give.new.pass
 used g c =
     let f = c.args.self.now in
     let i = RecordOf c.args.pass.now.view.thread in
     let j = c.record_slot-slot.result in
     let place = c.record_slot-slot.ensures in
-    uses_change f i j (Base c.args.prio) refl refl c.args.pass.now c.take.new.pass c.stamp_change.new.pass c.give.new.pass c.stamp_change.result c.requires.ready c.requires.room (c.take.ensures.out i place)
-    c.stamp_change.ensures.view c.stamp_change.ensures.step c.give.ensures.own (c.give.ensures.view i place) (c.give.ensures.step i place)
+    uses_change f i j (Base c.args.prio) refl refl c.args.pass.now c.take.new.pass c.stamp_change.new.pass
+    c.give.new.pass c.stamp_change.result c.requires.ready c.requires.room (c.take.ensures.out i place)
+    c.stamp_change.ensures.view c.stamp_change.ensures.step c.give.ensures.own (c.give.ensures.view i place)
+    (c.give.ensures.step i place)
 
 pub returns-clause-ready : goal.returns-clause-ready
 returns-clause-ready g c = (used g c).ready

@@ -31,7 +31,8 @@ pub stamp-requires-clause-room : goal.stamp-requires-clause-room
 stamp-requires-clause-room g c =
     let v : Knowledge = c.args.pass.now.view in
     let taken = c.take.ensures.out (RecordOf v.thread) c.record_slot-slot.ensures in
-    subst (λ (w : Knowledge). 1 ≤ w.spare) (sym (ap (λ (p : Pass Knowledge). p.view) c.priorities.ensures.same ∙ taken.view)) c.requires.room
+    subst (λ (w : Knowledge). 1 ≤ w.spare)
+    (sym (ap (λ (p : Pass Knowledge). p.view) c.priorities.ensures.same ∙ taken.view)) c.requires.room
 
 pub stamp-requires-clause-may : goal.stamp-requires-clause-may
 stamp-requires-clause-may g c =
@@ -54,7 +55,9 @@ give-requires-clause-last g c =
     let v : Knowledge = c.args.pass.now.view in
     let j = c.record_slot-slot.result in
     let taken = c.take.ensures.out (RecordOf v.thread) c.record_slot-slot.ensures in
-    let same = ap (λ (w : Knowledge). w.out) c.stamp.ensures.view ∙ ap (λ (p : Pass Knowledge). p.view.out) c.priorities.ensures.same ∙ ap (λ (w : Knowledge). w.out) taken.view in
+    let same = ap (λ (w : Knowledge). w.out) c.stamp.ensures.view
+    ∙ ap (λ (p : Pass Knowledge). p.view.out) c.priorities.ensures.same
+    ∙ ap (λ (w : Knowledge). w.out) taken.view in
     (taken.value, subst (λ o. o ≡ (j, taken.value) ∷ rest o) (sym same) refl)
 
 pub give-requires-clause-may : goal.give-requires-clause-may
@@ -86,7 +89,9 @@ give-requires-clause-may g c =
           ∙ ap (λ (w : Knowledge). w.share.doing.counting) taken.view ∙ c.requires.ready.rest.uncounted),
     )
 
-used : (g : given.Over) (c : goal.After-give g) → Used c.args.self.now (RecordOf c.args.pass.now.view.thread) (Shown c.priorities.result.0 c.priorities.result.1) c.args.pass.now c.give.new.pass
+used : (g : given.Over) (c : goal.After-give g)
+    → Used c.args.self.now (RecordOf c.args.pass.now.view.thread) (Shown c.priorities.result.0 c.priorities.result.1)
+    c.args.pass.now c.give.new.pass
 used g c =
     let f = c.args.self.now in
     let i = RecordOf c.args.pass.now.view.thread in
@@ -94,8 +99,10 @@ used g c =
     let place = c.record_slot-slot.ensures in
     let taken = subst (λ (p : Pass Knowledge). Takes f.description i j c.args.pass.now.view p.view)
     (sym c.priorities.ensures.same) (c.take.ensures.out i place) in
-    uses f i j (Shown c.priorities.result.0 c.priorities.result.1) refl refl c.args.pass.now c.priorities.new.pass c.stamp.new.pass c.give.new.pass c.stamp.result c.requires.ready c.requires.room taken
-    c.stamp.ensures.view c.stamp.ensures.step c.give.ensures.own (c.give.ensures.view i place) (c.give.ensures.step i place)
+    uses f i j (Shown c.priorities.result.0 c.priorities.result.1) refl refl c.args.pass.now c.priorities.new.pass
+    c.stamp.new.pass c.give.new.pass c.stamp.result c.requires.ready c.requires.room taken
+    c.stamp.ensures.view c.stamp.ensures.step c.give.ensures.own (c.give.ensures.view i place)
+    (c.give.ensures.step i place)
 
 pub returns-clause-ready : goal.returns-clause-ready
 returns-clause-ready g c = (used g c).ready

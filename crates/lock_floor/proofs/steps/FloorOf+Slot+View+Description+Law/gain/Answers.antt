@@ -22,4 +22,5 @@ gain_word-found-requires-clause-may c new says =
     (Looks z.1.view.thread l (counts z.1.view l) ∷ [])) (λ i. (sym c.self.view_is i, sym c.pass.view_is i))
     c.requires.may_look in
     let says_mine = subst (λ t. word_of new ≡ gained (word_of seen) t hold.mode) c.pass.invariant.thread says in
-    gain_allowed c.self.inside.board.shared.key c.pass.inside.seat.me c.pass.invariant.role c.self.inside.board.shared.table_id.slots c.pass.inside.seat.id seen new hold low says_mine may may_look
+    gain_allowed c.self.inside.board.shared.key c.pass.inside.seat.me c.pass.invariant.role
+    c.self.inside.board.shared.table_id.slots c.pass.inside.seat.id seen new hold low says_mine may may_look

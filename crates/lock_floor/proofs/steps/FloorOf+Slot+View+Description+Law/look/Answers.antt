@@ -16,4 +16,5 @@ read_word-requires-clause-may c =
     let may = subst (λ (z : Floor Description × Pass Knowledge). MayMake z.0.description z.1.view (λ s. Unit {0})
     (Looks z.1.view.thread l (counts z.1.view l) ∷ [])) (λ i. (sym c.self.view_is i, sym c.pass.view_is i))
     c.requires.may in
-    look_allowed c.self.inside.board.shared.key c.pass.inside.seat.me l c.pass.invariant.role low table.slots c.pass.inside.seat.id may
+    look_allowed c.self.inside.board.shared.key c.pass.inside.seat.me l c.pass.invariant.role low table.slots
+    c.pass.inside.seat.id may

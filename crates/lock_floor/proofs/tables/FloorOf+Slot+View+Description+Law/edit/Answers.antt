@@ -37,7 +37,8 @@ pub stamp_change-requires-clause-item : goal.stamp_change-requires-clause-item
 stamp_change-requires-clause-item g c =
     let cell = CellOf c.args.l.0 c.args.key in
     let t = c.take.new.pass.view.thread in
-    let about = subst (λ (e : Event). IsChangeOf t e cell) (sym c.event.ensures) (change_of t c.args.l c.args.key c.args.change) in
+    let about = subst (λ (e : Event). IsChangeOf t e cell) (sym c.event.ensures)
+    (change_of t c.args.l c.args.key c.args.change) in
     (cell, about, c.cell_slot-slot.ensures)
 
 pub stamp_change-requires-clause-last : goal.stamp_change-requires-clause-last
@@ -92,7 +93,9 @@ give-requires-clause-may g c =
           ∙ ap (λ (w : Knowledge). w.share.doing.counting) taken.view ∙ c.requires.ready.rest.uncounted),
     )
 
-used : (g : given.Over) (c : goal.After-give g) → Used c.args.self.now (CellOf c.args.l.0 c.args.key) (event_of c.args.l c.args.key c.args.change) c.args.pass.now c.give.new.pass
+used : (g : given.Over) (c : goal.After-give g)
+    → Used c.args.self.now (CellOf c.args.l.0 c.args.key) (event_of c.args.l c.args.key c.args.change) c.args.pass.now
+    c.give.new.pass
 used g c =
     let f = c.args.self.now in
     let cell = CellOf c.args.l.0 c.args.key in
@@ -105,7 +108,9 @@ used g c =
     c.stamp_change.ensures.view in
     let step = subst (λ (x : Event). Makes f.description (Stamps a.thread x ∷ []) a b) c.event.ensures
     c.stamp_change.ensures.step in
-    uses_change f cell c.cell_slot-slot.result e refl (change_is_quiet c.args.l c.args.key c.args.change) c.args.pass.now c.take.new.pass c.stamp_change.new.pass c.give.new.pass c.stamp_change.result c.requires.ready c.requires.room (c.take.ensures.out cell place)
+    uses_change f cell c.cell_slot-slot.result e refl (change_is_quiet c.args.l c.args.key c.args.change)
+    c.args.pass.now c.take.new.pass c.stamp_change.new.pass c.give.new.pass c.stamp_change.result c.requires.ready
+    c.requires.room (c.take.ensures.out cell place)
     view step c.give.ensures.own (c.give.ensures.view cell place) (c.give.ensures.step cell place)
 
 pub returns-clause-ready : goal.returns-clause-ready

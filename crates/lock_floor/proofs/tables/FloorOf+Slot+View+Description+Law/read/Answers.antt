@@ -32,7 +32,8 @@ value-found-requires-clause-last g c =
 pub stamp-requires-clause-room : goal.stamp-requires-clause-room
 stamp-requires-clause-room g c =
     let taken = c.take.ensures.out (CellOf c.args.l.0 c.args.key) c.cell_slot-slot.ensures in
-    subst (λ (w : Knowledge). 1 ≤ w.spare) (sym (ap (λ (p : Pass Knowledge). p.view) c.value-found.ensures.same ∙ taken.view)) c.requires.room
+    subst (λ (w : Knowledge). 1 ≤ w.spare)
+    (sym (ap (λ (p : Pass Knowledge). p.view) c.value-found.ensures.same ∙ taken.view)) c.requires.room
 
 pub stamp-requires-clause-may : goal.stamp-requires-clause-may
 stamp-requires-clause-may g c =
@@ -49,7 +50,8 @@ pub give-requires-clause-last : goal.give-requires-clause-last
 give-requires-clause-last g c =
     let j = c.cell_slot-slot.result in
     let x = Cell c.value-found.result in
-    let same = ap (λ (w : Knowledge). w.out) c.stamp.ensures.view ∙ ap (λ (p : Pass Knowledge). p.view.out) c.value-found.ensures.same in
+    let same = ap (λ (w : Knowledge). w.out) c.stamp.ensures.view
+    ∙ ap (λ (p : Pass Knowledge). p.view.out) c.value-found.ensures.same in
     (x, subst (λ o. o ≡ (j, x) ∷ rest o) (sym same) c.value-found.ensures.value)
 
 pub give-requires-clause-may : goal.give-requires-clause-may
@@ -82,7 +84,9 @@ give-requires-clause-may g c =
           ∙ c.requires.ready.rest.uncounted),
     )
 
-used : (g : given.Over) (c : goal.After-give g) → Used c.args.self.now (CellOf c.args.l.0 c.args.key) (Got c.args.l c.args.key c.value-found.result) c.args.pass.now c.give.new.pass
+used : (g : given.Over) (c : goal.After-give g)
+    → Used c.args.self.now (CellOf c.args.l.0 c.args.key) (Got c.args.l c.args.key c.value-found.result) c.args.pass.now
+    c.give.new.pass
 used g c =
     let f = c.args.self.now in
     let cell = CellOf c.args.l.0 c.args.key in
@@ -90,8 +94,10 @@ used g c =
     let place = c.cell_slot-slot.ensures in
     let taken = subst (λ (p : Pass Knowledge). Takes f.description cell j c.args.pass.now.view p.view)
     (sym c.value-found.ensures.same) (c.take.ensures.out cell place) in
-    uses f cell j (Got c.args.l c.args.key c.value-found.result) refl refl c.args.pass.now c.value-found.new.pass c.stamp.new.pass c.give.new.pass c.stamp.result c.requires.ready c.requires.room taken
-    c.stamp.ensures.view c.stamp.ensures.step c.give.ensures.own (c.give.ensures.view cell place) (c.give.ensures.step cell place)
+    uses f cell j (Got c.args.l c.args.key c.value-found.result) refl refl c.args.pass.now c.value-found.new.pass
+    c.stamp.new.pass c.give.new.pass c.stamp.result c.requires.ready c.requires.room taken
+    c.stamp.ensures.view c.stamp.ensures.step c.give.ensures.own (c.give.ensures.view cell place)
+    (c.give.ensures.step cell place)
 
 pub returns-clause-ready : goal.returns-clause-ready
 returns-clause-ready g c = (used g c).ready

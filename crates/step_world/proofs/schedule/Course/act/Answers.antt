@@ -21,6 +21,8 @@ invariant_of-self c =
           ∙ ap (λ (b : Bool). not (b && c.args.t.0 == u) && has_bit u i.going.bits) (sym c.if-has_ended.true);
       woken = c.wakes_next-woken.result;
       woken_is = c.wakes_next-woken.ensures.next;
+      sleeps = c.sleeps-sleeps.result;
+      sleeps_is = c.sleeps-sleeps.ensures;
       own = known.own;
       others = known.others;
     } in
@@ -44,6 +46,8 @@ invariant_of-self-else-has_ended c =
           (sym c.if-has_ended.false);
       woken = c.wakes_next-woken.result;
       woken_is = c.wakes_next-woken.ensures.next;
+      sleeps = c.sleeps-sleeps.result;
+      sleeps_is = c.sleeps-sleeps.ensures;
       own = known.own;
       others = known.others;
     } in

@@ -1,8 +1,14 @@
-use Rattle.std.proofs.Common.{sym, ap, ◌∙◌, option_map}
+use Rattle.std.proofs.Common.{refl, sym, ap, ◌∙◌, option_map}
+use Rattle.std.proofs.lemmas.Bool.{eqb-true}
 use Rattle.lock_model.specs.declared.numbers.LockNo.{LockNo}
 use Rattle.step_world.proofs.ActionsOfTurns.{here}
 use Rattle.step_world.proofs.ActionsOfWaits as actions
 use Rattle.step_world.proofs.turns.waits.owed_release.Goals as goal
+
+pub returns-then-is_empty : goal.returns-then-is_empty
+returns-then-is_empty c r h =
+    sym (actions.owes_without_held c.args.t.0 h (here h c.requires.thread c.from.ensures c.index-thread.ensures) _ refl
+    (sym c.index-thread.result.now.held.ok.0 ∙ eqb-true _ _ (sym c.is_empty.ensures ∙ c.if-is_empty.true)))
 
 pub returns-in_err-thread : goal.returns-in_err-thread
 returns-in_err-thread c r h =

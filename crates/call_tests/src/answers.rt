@@ -1,0 +1,201 @@
+//! Wrong calls are answered, and right ones go on: each row is a thread, what is asked of it, and what the rules of the
+//! calls say that it answers. A row that goes on does so until that answers something else than to go on.
+use crate::floors::{Parts, describe};
+use floor_calls::{Cause, Next, OpenFloor, Request, Thread};
+use lock_model::{ClassNo, LockNo, Mode, Reversal, ThreadNo};
+use std::test::Fail;
+
+// How many parts of a call are made in a row at most: a take looks 100 times, and has a few other parts.
+const PARTS: u32 = 1_000;
+
+// The threads have room for so many entries; locks 2 to 9 are sx locks.
+const FLOOR: Parts = Parts {
+    rooms: &[4, 1, 2, 9, 5],
+    locks: 10,
+    class: 9,
+    channels: 0,
+    keys: 0,
+    first_once_more: false,
+    chains: 1,
+};
+
+const M: LockNo = LockNo(0);
+
+const RW: LockNo = LockNo(1);
+
+const SX: LockNo = LockNo(2);
+
+const OTHER_SX: LockNo = LockNo(3);
+
+const NONE: LockNo = LockNo(10);
+
+const TAKE_M: Request = Request::Take {
+    l: M,
+    mode: Mode::Excl,
+};
+
+const TAKE_M_SHARED: Request = Request::Take {
+    l: M,
+    mode: Mode::Shared,
+};
+
+const TRY_M: Request = Request::Try {
+    l: M,
+    mode: Mode::Excl,
+};
+
+const RELEASE_M: Request = Request::Release {
+    l: M,
+    mode: Mode::Excl,
+};
+
+const TAKE_RW: Request = Request::Take {
+    l: RW,
+    mode: Mode::Excl,
+};
+
+const TRY_RW_SHARED: Request = Request::Try {
+    l: RW,
+    mode: Mode::Shared,
+};
+
+const RELEASE_RW: Request = Request::Release {
+    l: RW,
+    mode: Mode::Excl,
+};
+
+const RELEASE_RW_SHARED: Request = Request::Release {
+    l: RW,
+    mode: Mode::Shared,
+};
+
+const TAKE_SX: Request = Request::Take {
+    l: SX,
+    mode: Mode::Excl,
+};
+
+const RELEASE_SX: Request = Request::Release {
+    l: SX,
+    mode: Mode::Excl,
+};
+
+const TAKE_OTHER_SX: Request = Request::Take {
+    l: OTHER_SX,
+    mode: Mode::Excl,
+};
+
+const RELEASE_OTHER_SX: Request = Request::Release {
+    l: OTHER_SX,
+    mode: Mode::Excl,
+};
+
+const TAKE_NONE: Request = Request::Take {
+    l: NONE,
+    mode: Mode::Excl,
+};
+
+// A mutex's word has bit 2 where it is held, and from bit 3 on the number of who holds it: here thread 0.
+const HELD: u64 = 4;
+
+const REVERSAL: Reversal = Reversal {
+    held: ClassNo(3),
+    wanted: ClassNo(2),
+};
+
+const ROWS: &[(usize, Request, Result<Next, Cause>)] = &[
+    // Nothing was begun, and nothing is held.
+    (0, Request::GoOn, Err(Cause::AtRest)),
+    (0, RELEASE_M, Err(Cause::NotHeld(M, Mode::Excl))),
+    (0, TAKE_NONE, Err(Cause::NoLock(NONE))),
+    (0, TAKE_M_SHARED, Err(Cause::NoMode(M, Mode::Shared))),
+    (0, TAKE_M, Ok(Next::Done)),
+    // The mutex is held, by thread 0.
+    (0, TAKE_M, Err(Cause::Held(M))),
+    (0, TRY_M, Err(Cause::Held(M))),
+    (0, TAKE_SX, Err(Cause::HoldsUnsleepable(SX))),
+    (0, Request::End, Err(Cause::HoldsSome)),
+    (1, TRY_M, Ok(Next::Busy(HELD))),
+    (1, TRY_M, Err(Cause::Spent)),
+    (1, RELEASE_M, Err(Cause::NotHeld(M, Mode::Excl))),
+    // Thread 2 must wait for it: it sleeps, until a release has woken it.
+    (2, TAKE_M, Ok(Next::Again)),
+    (2, TAKE_RW, Err(Cause::InCall)),
+    (2, Request::End, Err(Cause::InCall)),
+    (2, Request::GoOn, Ok(Next::Sleep)),
+    (2, Request::GoOn, Ok(Next::Sleep)),
+    (0, TRY_RW_SHARED, Ok(Next::Done)),
+    (0, RELEASE_RW, Err(Cause::NotHeld(RW, Mode::Excl))),
+    (0, RELEASE_RW_SHARED, Ok(Next::Done)),
+    (0, RELEASE_M, Ok(Next::Again)),
+    (0, TAKE_M, Err(Cause::InCall)),
+    (0, Request::GoOn, Ok(Next::Wake(ThreadNo(2)))),
+    (0, Request::GoOn, Ok(Next::Done)),
+    (2, Request::GoOn, Ok(Next::Done)),
+    (2, RELEASE_M, Ok(Next::Done)),
+    (2, RELEASE_M, Err(Cause::NotHeld(M, Mode::Excl))),
+    // Classes 2 and 3 are taken in this order, and so not the other way round.
+    (4, TAKE_SX, Ok(Next::Done)),
+    (4, TAKE_OTHER_SX, Ok(Next::Again)),
+    (4, Request::GoOn, Ok(Next::Done)),
+    (4, RELEASE_SX, Ok(Next::Done)),
+    (4, TAKE_SX, Ok(Next::Again)),
+    (4, Request::GoOn, Ok(Next::Reversed(REVERSAL))),
+    (4, RELEASE_OTHER_SX, Ok(Next::Done)),
+    // Others are awake when thread 0 ends. Once it has, it makes no call.
+    (0, Request::End, Ok(Next::Done)),
+    (0, Request::End, Err(Cause::Ended)),
+    (0, Request::GoOn, Err(Cause::Ended)),
+    (0, TAKE_M, Err(Cause::Ended)),
+    (0, RELEASE_M, Err(Cause::Ended)),
+];
+
+#[test]
+fn calls_are_answered(rt: HostRuntime) -> Result<(), Fail> {
+    let description = describe(rt.alloc(), &FLOOR)?;
+    let Ok((_open, mut threads)) = OpenFloor::open(rt.alloc(), description) else {
+        return Err("the floor isn't opened".into());
+    };
+    for (row, (t, request, answer)) in ROWS.iter().enumerate() {
+        let thread = threads.get_mut(*t).ok_or("there is no such thread")?;
+        let stage = thread.stage();
+        assert_eq!(rt; ask(thread, *request), *answer, "in row {row}");
+        assert!(rt; answer.is_ok() || thread.stage() == stage, "in row {row}");
+    }
+    Ok(())
+}
+
+#[test]
+fn a_thread_holds_eight_locks(rt: HostRuntime) -> Result<(), Fail> {
+    let description = describe(rt.alloc(), &FLOOR)?;
+    let Ok((_open, mut threads)) = OpenFloor::open(rt.alloc(), description) else {
+        return Err("the floor isn't opened".into());
+    };
+    let thread = threads.get_mut(3).ok_or("there is no such thread")?;
+    for l in 2..10 {
+        assert_eq!(rt; thread.begin_try(LockNo(l), Mode::Excl), Ok(Next::Done));
+    }
+    assert_eq!(rt; thread.begin_take(M, Mode::Excl), Err(Cause::HoldsMost));
+    Ok(())
+}
+
+// Asks that of a thread.
+fn ask(thread: &mut Thread, request: Request) -> Result<Next, Cause> {
+    match request {
+        Request::Take { l, mode } => thread.begin_take(l, mode),
+        Request::Try { l, mode } => thread.begin_try(l, mode),
+        Request::Release { l, mode } => thread.begin_release(l, mode),
+        Request::End => thread.begin_end(),
+        Request::GoOn => go_on(thread),
+    }
+}
+
+// Goes on with a thread's call, until that answers something else than to go on.
+fn go_on(thread: &mut Thread) -> Result<Next, Cause> {
+    for _ in 0..PARTS {
+        let answer = thread.go_on();
+        if answer != Ok(Next::Again) {
+            return answer;
+        }
+    }
+    Ok(Next::Again)
+}

@@ -1,9 +1,0 @@
-use Rattle.lock_floor.specs.Passes.{IsOf}
-use Rattle.lock_floor.proofs.Taking.{HasWaited}
-use Rattle.cond_vars.proofs.sleeping.sleep_through.Given as goal
-
-abbrev pub invariant-loop : goal.invariant-loop
-invariant-loop g l = record {
-  own : IsOf l.floor l.pass;
-  waited : HasWaited l.initial.pass.view l.pass.view;
-}

@@ -1,0 +1,7 @@
+mod Numbers
+mod Sleepable
+mod Tests
+mod Fitting
+mod Standing
+mod Answered
+mod Opened

@@ -1,0 +1,38 @@
+-- The passes of a floor as they are made, and its threads.
+use Rattle.std.proofs.Common.{◌≡◌, ℕ, ◌<◌, List, length, map, sym, ap, subst, ◌∙◌, arith}
+use Rattle.std.proofs.lemmas.List.{get_or-map}
+use Rattle.std.specs.List.{All}
+use Rattle.std.specs.Prelude.{slice_index_or}
+use Rattle.floor_table.specs.Views.{Knowledge}
+use Rattle.floor_table.specs.declared.description.Description.{Description}
+use Rattle.lock_calls.proofs.First.{ready_first}
+use Rattle.lock_floor.specs.Floors.{Floor, Pass}
+use Rattle.lock_floor.specs.Passes.{IsReady, first_pass}
+use Rattle.floor_calls.specs.Openings.{first_thread, thread_at_rest}
+use Rattle.floor_calls.specs.Threads.{Thread}
+
+-- these are the passes of a floor as it is made
+abbrev pub AreFirst : Floor Description → List (Pass Knowledge) → Type 0
+AreFirst f ps =
+    (t : ℕ) (d : Pass Knowledge) → t < length ps → slice_index_or ps t d ≡ first_pass f.table f.description t
+
+-- as the making of the floor tells of them, found through another path
+pub are_first : (f g : Floor Description) (floor : Description) (ps : List (Pass Knowledge)) → f ≡ g
+    → g.description ≡ floor → length ps ≡ length floor.threads
+    → ((t : ℕ) (d : Pass Knowledge) → t < length floor.threads
+    → slice_index_or ps t d ≡ first_pass g.table floor t)
+    → AreFirst f ps
+are_first f g floor ps same about count each t d lt =
+    subst (λ (h : Floor Description). slice_index_or ps t d ≡ first_pass h.table h.description t) (sym same)
+    (subst (λ (x : Description). slice_index_or ps t d ≡ first_pass g.table x t) (sym about)
+    (each t d (omega (arith, lt, count))))
+
+pub ready_all : (f : Floor Description) (ps : List (Pass Knowledge)) → AreFirst f ps
+    → All (λ (p : Pass Knowledge). IsReady f p) ps
+ready_all f ps first t d lt = subst (IsReady f) (sym (first t d lt)) (ready_first f t)
+
+pub threads_all : (f : Floor Description) (ps : List (Pass Knowledge)) → AreFirst f ps → (t : ℕ) (d : Thread)
+    → t < length ps → slice_index_or (map (thread_at_rest f) ps) t d ≡ first_thread f t
+threads_all f ps first t d lt =
+    let p : Pass Knowledge = first_pass f.table f.description t in
+    get_or-map (thread_at_rest f) ps t p d lt ∙ ap (thread_at_rest f) (first t p lt)

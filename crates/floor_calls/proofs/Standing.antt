@@ -1,0 +1,173 @@
+-- At which stage a thread is behind a part of its call, and what is so of it there.
+use Rattle.std.proofs.Common.{◌≡◌, refl, sym, ap, subst, ◌∙◌, arith}
+use Rattle.floor_table.specs.Views.{Knowledge}
+use Rattle.floor_table.specs.declared.description.Description.{Description}
+use Rattle.halting.specs.Ends.{EndsOn, GoesOnEnding, kept_to}
+use Rattle.halting.specs.Halts.{Kept as HaltKept}
+use Rattle.halting.specs.declared.ending.EndAt.{EndAt}
+use Rattle.halting.specs.declared.ending.EndAt.TheVariants as places
+use Rattle.halting.specs.declared.ending.EndNext.TheVariants as end
+use Rattle.lock_calls.proofs.Taken.{under_take_on}
+use Rattle.lock_calls.specs.Choices.{outside}
+use Rattle.lock_calls.specs.Releases.{IsInRelease, HasBegunRelease}
+use Rattle.lock_calls.specs.Takes.{IsInTake, TakesOn, HasBegunTake}
+use Rattle.lock_calls.specs.Tries.{IsInTry, HasBegunTry}
+use Rattle.lock_calls.specs.Waiting.{Kept, IsCalling}
+use Rattle.lock_calls.specs.declared.answers.Next.{Next as PartNext}
+use Rattle.lock_calls.specs.declared.answers.Next.TheVariants as part
+use Rattle.lock_calls.specs.declared.trying.TryNext.{TryNext}
+use Rattle.lock_calls.specs.declared.trying.TryNext.TheVariants as try
+use Rattle.lock_floor.specs.Floors.{Floor, Pass}
+use Rattle.lock_floor.specs.Passes.{IsOf}
+use Rattle.lock_floor.specs.declared.calls.Call.TheVariants as calls
+use Rattle.lock_floor.specs.declared.calls.ReleaseAt.TheVariants.{Wakes}
+use Rattle.lock_floor.specs.declared.calls.TakeAt.{TakeAt}
+use Rattle.lock_floor.specs.declared.calls.TakeAt.TheVariants.{Checks}
+use Rattle.lock_floor.specs.declared.calls.TryAt.TheVariants.{Tries as TriesAt}
+use Rattle.lock_model.specs.declared.numbers.LockNo.{LockNo}
+use Rattle.lock_model.specs.declared.numbers.ThreadNo.{ThreadNo}
+use Rattle.lock_model.specs.declared.plan.Mode.{Mode}
+use Rattle.floor_calls.specs.Calls.{TakeWent, TryWent, ReleaseWent}
+use Rattle.floor_calls.specs.Stages.{stage_behind, told, told_of_try}
+use Rattle.floor_calls.specs.Threads.{IsAt, IsEndingAt}
+use Rattle.floor_calls.specs.declared.stages.Next.{Next}
+use Rattle.floor_calls.specs.declared.stages.Stage.{Stage}
+use Rattle.floor_calls.specs.declared.stages.Stage.TheVariants.{Takes, Tries, Releases}
+
+-- 1. How a part is told
+
+module _ (on : Stage) (r : Next × Stage) (n t : Next) (is : r ≡ (n, stage_behind on n)) (tells : n ≡ t) where
+  pub stands_behind : (f : Floor Description) (q : Pass Knowledge) → IsAt f (stage_behind on t) q → IsAt f r.1 q
+  stands_behind f q at =
+      subst (λ (z : Next × Stage). IsAt f z.1 q) (sym is)
+      (subst (λ (z : Next). IsAt f (stage_behind on z) q) (sym tells) at)
+
+  pub is_told : r.0 ≡ t
+  is_told = ap (λ (z : Next × Stage). z.0) is ∙ tells
+
+  pub stands : r.1 ≡ stage_behind on t
+  stands = ap (λ (z : Next × Stage). z.1) is ∙ ap (stage_behind on) tells
+
+module _ (f : Floor Description) (p q : Pass Knowledge) (own : IsOf f q) where
+  -- 2. A take
+
+  pub take_begins : (l : LockNo) (mode : Mode) (next : PartNext) → HasBegunTake f.description l mode next p q
+      → IsAt f (stage_behind Takes (told next)) q
+  take_begins l mode part.Done begun = record { own = own; rest = begun.taken.rest }
+  take_begins l mode part.Again begun = (
+    own,
+    record { l = l; mode = mode; at = Checks; call = begun.call; there = begun.there },
+  )
+  take_begins l mode part.Sleep begun = absurd begun
+  take_begins l mode (part.Wake t) begun = absurd begun
+  take_begins l mode (part.Reversed r) begun = absurd begun
+  take_begins l mode part.Halted begun = absurd begun
+
+  takes_still : (m : IsInTake f.description p) (to : TakeAt) → q.call ≡ calls.Take m.l m.mode to
+      → TakesOn f.description m.l m.mode m.at to p.view q.view → IsAt f Takes q
+  takes_still m to call on = (
+    own,
+    record {
+      l = m.l;
+      mode = m.mode;
+      at = to;
+      call = call;
+      there = under_take_on f.description m.l m.mode m.at to p.view q.view m.there on;
+    },
+  )
+
+  pub take_goes_on : (next : PartNext) → IsInTake f.description p → TakeWent f.description next p q
+      → IsAt f (stage_behind Takes (told next)) q
+  take_goes_on part.Done m went = record { own = own; rest = (went m.l m.mode m.at m.call).1.rest }
+  take_goes_on part.Again m went = let s = went m.l m.mode m.at m.call in takes_still m s.to s.call s.on
+  take_goes_on part.Sleep m went = let s = went m.l m.mode m.at m.call in takes_still m s.to s.call s.on
+  take_goes_on (part.Wake t) m went = let s = went m.l m.mode m.at m.call in takes_still m s.to s.call s.wakes.on
+  take_goes_on (part.Reversed r) m went = record { own = own; rest = (went m.l m.mode m.at m.call).refused.rest }
+  take_goes_on part.Halted m went = record { own = own; rest = (went m.l m.mode m.at m.call).halted.rest }
+
+  -- 3. A try
+
+  pub try_begins : (l : LockNo) (mode : Mode) (next : TryNext) → HasBegunTry f.description l mode next p q
+      → IsAt f (stage_behind Tries (told_of_try next)) q
+  try_begins l mode try.Gained begun = record { own = own; rest = begun.1.rest }
+  try_begins l mode (try.Busy seen) begun = record { own = own; rest = begun.1.rest }
+  try_begins l mode try.Again begun = (
+    own,
+    record { l = l; mode = mode; at = TriesAt begun.left; call = begun.call; there = begun.there },
+  )
+
+  pub try_goes_on : (next : TryNext) → IsInTry f.description p → TryWent f.description next p q
+      → IsAt f (stage_behind Tries (told_of_try next)) q
+  try_goes_on try.Gained m went = record { own = own; rest = (went m.l m.mode m.at m.call).1.rest }
+  try_goes_on (try.Busy seen) m went = record { own = own; rest = (went m.l m.mode m.at m.call).1.rest }
+  try_goes_on try.Again m went =
+      let s = went m.l m.mode m.at m.call in (
+        own,
+        record {
+          l = m.l;
+          mode = m.mode;
+          at = s.to;
+          call = s.call;
+          there = record {
+            covered = m.there.covered;
+            calling = subst (IsCalling f.description) (sym s.on.kept) m.there.calling;
+            room = omega (arith, m.there.room, ap (λ (k : Kept). k.spare) s.on.kept);
+            there = s.on.there;
+          };
+        },
+      )
+
+  -- 4. A release
+
+  pub release_begins : (l : LockNo) (mode : Mode) (next : PartNext) → HasBegunRelease f.description l mode next p q
+      → IsAt f (stage_behind Releases (told next)) q
+  release_begins l mode part.Done begun = record { own = own; rest = begun.1.rest }
+  release_begins l mode part.Again begun = (
+    own,
+    record { l = l; mode = mode; at = outside mode begun.found; call = begun.call; there = begun.there },
+  )
+  release_begins l mode part.Sleep begun = absurd begun
+  release_begins l mode (part.Wake t) begun = absurd begun
+  release_begins l mode (part.Reversed r) begun = absurd begun
+  release_begins l mode part.Halted begun = absurd begun
+
+  pub release_goes_on : (next : PartNext) → IsInRelease f.description p → ReleaseWent f.description next p q
+      → IsAt f (stage_behind Releases (told next)) q
+  release_goes_on part.Done m went = record { own = own; rest = (went m.l m.mode m.at m.call).rest }
+  release_goes_on part.Again m went =
+      let s = went m.l m.mode m.at m.call in (
+        own,
+        record { l = m.l; mode = m.mode; at = s.to; call = s.call; there = s.there },
+      )
+  release_goes_on part.Sleep m went = absurd (went m.l m.mode m.at m.call)
+  release_goes_on (part.Wake t) m went =
+      let s = went m.l m.mode m.at m.call in (
+        own,
+        record { l = m.l; mode = m.mode; at = Wakes; call = s.call; there = s.there },
+      )
+  release_goes_on (part.Reversed r) m went = absurd (went m.l m.mode m.at m.call)
+  release_goes_on part.Halted m went = absurd (went m.l m.mode m.at m.call)
+
+  -- 5. An end
+
+  taking_kept : (to : EndAt) (k : HaltKept) → (kept_to to k).taking ≡ k.taking
+  taking_kept places.Takes k = refl
+  taking_kept (places.Halts there) k = refl
+
+  ends_still : (at to : EndAt) → IsEndingAt f at p → EndsOn f.description at to p.view q.view → IsEndingAt f to q
+  ends_still at to was on = record {
+    own = own;
+    there = on.at;
+    takes_nothing = ap (λ (k : HaltKept). k.taking) on.kept ∙ taking_kept to _ ∙ was.takes_nothing;
+  }
+
+  -- where it woke no other thread it stands there
+  pub again_still : (at to : EndAt) → IsEndingAt f at p
+      → GoesOnEnding f.description at (end.Again to) p.view q.view → IsEndingAt f to q
+  again_still at to was went = ends_still at to was went.0
+
+  -- where it woke another thread it halts others
+  pub woken_still : (at to : EndAt) (t : ThreadNo) → IsEndingAt f at p
+      → GoesOnEnding f.description at (end.Wake t to) p.view q.view → IsEndingAt f to q
+  woken_still places.Takes to t was went = absurd went
+  woken_still (places.Halts there) to t was went = ends_still (places.Halts there) to was went.0

@@ -1,0 +1,135 @@
+-- Nothing stands against a call exactly where it may be made.
+use Rattle.std.proofs.Common.{◌≡◌, ◌≢◌, List, [], ◌∷◌, Option, None, refl, sym, subst, ◌∙◌, arith}
+use Rattle.floor_table.specs.Descriptions.{config_in}
+use Rattle.lock_model.specs.Holds.{Hold, NotHeld, Holds}
+use Rattle.lock_model.specs.declared.event.Held.{Held as HeldLock}
+use Rattle.lock_model.specs.declared.plan.Kind.{Kind}
+use Rattle.lock_model.specs.declared.plan.Kind.TheVariants.{Mtx}
+use Rattle.lock_model.specs.declared.plan.Mode.{Mode}
+use Rattle.lock_model.specs.declared.plan.Mode.TheVariants.{Excl, Shared}
+use Rattle.floor_calls.proofs.Numbers.{below, some}
+use Rattle.floor_calls.proofs.Sleepable.{none_by_lock, none_of}
+use Rattle.floor_calls.specs.Causes.{Says, causes, held_by, MayCall}
+use Rattle.floor_calls.specs.First.{IsFirst, none, here, later}
+use Rattle.floor_calls.specs.Stages.{IsInCall}
+use Rattle.floor_calls.specs.Threads.{Thread}
+use Rattle.floor_calls.specs.declared.requests.Request.{Request}
+use Rattle.floor_calls.specs.declared.requests.Request.TheVariants.{Take, Try, Release, End, GoOn}
+use Rattle.floor_calls.specs.declared.stages.Stage.{Stage}
+use Rattle.floor_calls.specs.declared.stages.Stage.TheVariants as stages
+
+-- 1. The first cause that is so is one
+
+pub first_is_one : {A : Type 0} {So : A → Type 0} {xs : List A} {a b : Option A} → IsFirst So xs a → IsFirst So xs b
+    → a ≡ b
+first_is_one none none = refl
+first_is_one (here s) (here t) = refl
+first_is_one (here s) (later n rest) = absurd (n s)
+first_is_one (later n rest) (here s) = absurd (n s)
+first_is_one (later m more) (later n rest) = first_is_one more rest
+
+-- 2. What is so where a cause isn't
+
+at_rest : (s : Stage) → (s ≡ stages.Ended → ⊥) → (IsInCall s → ⊥) → s ≡ stages.AtRest
+at_rest stages.AtRest e c = refl
+at_rest stages.Takes e c = absurd (c tt)
+at_rest stages.Tries e c = absurd (c tt)
+at_rest stages.Releases e c = absurd (c tt)
+at_rest (stages.Ends at) e c = absurd (c tt)
+at_rest stages.Ended e c = absurd (e refl)
+
+in_call : (s : Stage) → (s ≡ stages.Ended → ⊥) → (s ≡ stages.AtRest → ⊥) → IsInCall s
+in_call stages.AtRest e r = r refl
+in_call stages.Takes e r = tt
+in_call stages.Tries e r = tt
+in_call stages.Releases e r = tt
+in_call (stages.Ends at) e r = tt
+in_call stages.Ended e r = absurd (e refl)
+
+has_mode : (kind : Kind) (mode : Mode) → ((kind ≡ Mtx) × (mode ≡ Shared) → ⊥) → kind ≡ Mtx → mode ≡ Excl
+has_mode kind Excl n is = refl
+has_mode kind Shared n is = absurd (n (is, refl))
+
+is_unheld : (h : Hold) → ((mode : Mode) × (h ≡ Holds mode) → ⊥) → h ≡ NotHeld
+is_unheld NotHeld n = refl
+is_unheld (Holds mode) n = absurd (n (mode, refl))
+
+is_held : (h : Hold) (mode : Mode) → (h ≢ Holds mode → ⊥) → h ≡ Holds mode
+is_held NotHeld mode n = absurd (n (λ e. cc))
+is_held (Holds Excl) Excl n = refl
+is_held (Holds Excl) Shared n = absurd (n (λ e. cc))
+is_held (Holds Shared) Excl n = absurd (n (λ e. cc))
+is_held (Holds Shared) Shared n = refl
+
+is_bare : (hs : List HeldLock) → (hs ≢ [] → ⊥) → hs ≡ []
+is_bare [] n = refl
+is_bare (h ∷ hs) n = absurd (n (λ e. cc))
+
+-- 3. And what isn't, where the call may be made
+
+module _ (x : Thread) (rest : x.stage ≡ stages.AtRest) where
+  unended : x.stage ≡ stages.Ended → ⊥
+  unended is = let z : stages.AtRest ≡ stages.Ended = sym rest ∙ is in cc
+
+  idle : IsInCall x.stage → ⊥
+  idle is = subst IsInCall rest is
+
+-- 4. Both
+
+pub none_may : (request : Request) (x : Thread) → IsFirst (λ c. Says c x) (causes request) None → MayCall request x
+none_may (Take l mode) x (later e (later c (later nl (later m (later h (later u (later f (later s none)))))))) = (
+  at_rest x.stage e c,
+  record {
+    covered = record { lock = below _ _ nl; mutex = has_mode _ mode (λ s. m (below _ _ nl, s.0, s.1)) };
+    unheld = is_unheld _ h;
+    few = below _ _ f;
+    room = some _ s;
+  },
+  λ sx k is. none_of (config_in x.floor.description).kind (held_by x) k (λ one. u (sx, one)) is,
+)
+none_may (Try l mode) x (later e (later c (later nl (later m (later h (later u (later f (later s none)))))))) = (
+  at_rest x.stage e c,
+  record {
+    covered = record { lock = below _ _ nl; mutex = has_mode _ mode (λ s. m (below _ _ nl, s.0, s.1)) };
+    unheld = is_unheld _ h;
+    few = below _ _ f;
+    room = some _ s;
+  },
+  λ sx k is. none_of (config_in x.floor.description).kind (held_by x) k (λ one. u (sx, one)) is,
+)
+none_may (Release l mode) x (later e (later c (later nl (later m (later h (later s none)))))) = (
+  at_rest x.stage e c,
+  record {
+    covered = record { lock = below _ _ nl; mutex = has_mode _ mode (λ s. m (below _ _ nl, s.0, s.1)) };
+    held = is_held _ mode h;
+    room = some _ s;
+  },
+)
+none_may End x (later e (later c (later h none))) = (at_rest x.stage e c, is_bare (held_by x) h)
+none_may GoOn x (later e (later r none)) = in_call x.stage e r
+
+pub may_none : (request : Request) (x : Thread) → MayCall request x → IsFirst (λ c. Says c x) (causes request) None
+may_none (Take l mode) x m =
+    later (unended x m.0) (later (idle x m.0)
+    (later (λ nl. omega (arith, nl, m.1.covered.lock))
+    (later (λ s. let e : Excl ≡ Shared = sym (m.1.covered.mutex s.1) ∙ s.2 in cc)
+    (later (λ h. let e : NotHeld ≡ Holds h.0 = sym m.1.unheld ∙ h.1 in cc)
+    (later (λ u. none_by_lock (config_in x.floor.description).kind (held_by x) (m.2 u.0) u.1)
+    (later (λ f. omega (arith, f, m.1.few))
+    (later (λ s. omega (arith, s, m.1.room)) none)))))))
+may_none (Try l mode) x m =
+    later (unended x m.0) (later (idle x m.0)
+    (later (λ nl. omega (arith, nl, m.1.covered.lock))
+    (later (λ s. let e : Excl ≡ Shared = sym (m.1.covered.mutex s.1) ∙ s.2 in cc)
+    (later (λ h. let e : NotHeld ≡ Holds h.0 = sym m.1.unheld ∙ h.1 in cc)
+    (later (λ u. none_by_lock (config_in x.floor.description).kind (held_by x) (m.2 u.0) u.1)
+    (later (λ f. omega (arith, f, m.1.few))
+    (later (λ s. omega (arith, s, m.1.room)) none)))))))
+may_none (Release l mode) x m =
+    later (unended x m.0) (later (idle x m.0)
+    (later (λ nl. omega (arith, nl, m.1.covered.lock))
+    (later (λ s. let e : Excl ≡ Shared = sym (m.1.covered.mutex s.1) ∙ s.2 in cc)
+    (later (λ h. h m.1.held)
+    (later (λ s. omega (arith, s, m.1.room)) none)))))
+may_none End x m = later (unended x m.0) (later (idle x m.0) (later (λ h. h m.1) none))
+may_none GoOn x m = later (λ e. subst IsInCall e m) (later (λ r. subst IsInCall r m) none)

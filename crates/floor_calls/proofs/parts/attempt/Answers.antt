@@ -1,0 +1,25 @@
+use Rattle.floor_calls.specs.Stages.{told_of_try}
+use Rattle.floor_calls.specs.declared.stages.Stage.TheVariants.{Tries}
+use Rattle.floor_calls.proofs.Standing.{is_told, stands, stands_behind, try_begins}
+use Rattle.floor_calls.proofs.parts.attempt.Goals as goal
+
+pub returns-clause-at : goal.returns-clause-at
+returns-clause-at c =
+    let part = c.begin_try-part in
+    let f = c.args.floor.now in
+    stands_behind Tries c.behind.result c.told_of_try.result (told_of_try part.result) c.behind.ensures
+    c.told_of_try.ensures
+    f part.new.pass
+    (try_begins f c.args.pass.now part.new.pass part.ensures.own c.args.l c.args.mode part.result
+    part.ensures.begun)
+
+pub returns-clause-did : goal.returns-clause-did
+returns-clause-did c =
+    let part = c.begin_try-part in
+    let t = told_of_try part.result in
+    record {
+      part = part.result;
+      tells = is_told Tries c.behind.result c.told_of_try.result t c.behind.ensures c.told_of_try.ensures;
+      stands = stands Tries c.behind.result c.told_of_try.result t c.behind.ensures c.told_of_try.ensures;
+      did = part.ensures.begun;
+    }

@@ -1,0 +1,115 @@
+-- What a call of a thread does where it is made, and what each call promises.
+use Rattle.std.specs.Prelude.{◌≡◌, ◌↔◌, Option, Some, None, Result, Ok, Err, IsOk, IfOk, IfErr}
+use Rattle.floor_table.specs.Views.{Knowledge}
+use Rattle.floor_table.specs.declared.description.Description.{Description}
+use Rattle.halting.specs.Ends.{GoesOnEnding}
+use Rattle.halting.specs.declared.ending.EndAt.{EndAt}
+use Rattle.halting.specs.declared.ending.EndAt.TheVariants as places
+use Rattle.halting.specs.declared.ending.EndNext.{EndNext}
+use Rattle.lock_calls.specs.Releases.{HasBegunRelease, GoesOnReleasing}
+use Rattle.lock_calls.specs.Takes.{HasBegunTake, GoesOnTaking}
+use Rattle.lock_calls.specs.Tries.{HasBegunTry, GoesOnTrying}
+use Rattle.lock_calls.specs.declared.answers.Next.{Next as PartNext}
+use Rattle.lock_calls.specs.declared.trying.TryNext.{TryNext}
+use Rattle.lock_floor.specs.Floors.{Pass}
+use Rattle.lock_floor.specs.declared.calls.Call.TheVariants as calls
+use Rattle.lock_floor.specs.declared.calls.ReleaseAt.{ReleaseAt}
+use Rattle.lock_floor.specs.declared.calls.TakeAt.{TakeAt}
+use Rattle.lock_floor.specs.declared.calls.TryAt.{TryAt}
+use Rattle.lock_model.specs.declared.numbers.LockNo.{LockNo}
+use Rattle.lock_model.specs.declared.plan.Mode.{Mode}
+use Rattle.floor_calls.specs.Causes.{MayCall, Says, causes}
+use Rattle.floor_calls.specs.First.{IsFirst}
+use Rattle.floor_calls.specs.Stages.{stage_behind, stage_of_end, told, told_of_end, told_of_try}
+use Rattle.floor_calls.specs.Threads.{Thread}
+use Rattle.floor_calls.specs.declared.requests.Cause.{Cause}
+use Rattle.floor_calls.specs.declared.requests.Request.{Request}
+use Rattle.floor_calls.specs.declared.requests.Request.TheVariants.{Take, Try, Release, End, GoOn}
+use Rattle.floor_calls.specs.declared.stages.Next.{Next}
+use Rattle.floor_calls.specs.declared.stages.Stage.{Stage}
+use Rattle.floor_calls.specs.declared.stages.Stage.TheVariants.{AtRest, Takes, Tries, Releases, Ends, Ended}
+
+-- 1. A part of a call
+
+-- A part of a call was made, with a thread's pass: it answered in its crate's words and did so, and is told in this
+-- crate's, with the thread's stage behind it
+pub record Makes (A : Type 0) (told_as : A → Next) (behind : A → Stage)
+    (Did : A → Pass Knowledge → Pass Knowledge → Type 0) (next : Next) (stage : Stage)
+    (p q : Pass Knowledge) : Type 0 where
+  pub part : A
+  pub tells : next ≡ told_as part
+  pub stands : stage ≡ behind part
+  pub did : Did part p q
+
+-- a part of a take or of a release, at that stage
+abbrev pub MakesPart : Stage → (PartNext → Pass Knowledge → Pass Knowledge → Type 0) → Next → Stage
+    → Pass Knowledge → Pass Knowledge → Type 0
+MakesPart on Did next stage p q =
+    Makes PartNext told (λ part. stage_behind on (told part)) Did next stage p q
+
+-- a part of a try
+abbrev pub MakesTryPart : (TryNext → Pass Knowledge → Pass Knowledge → Type 0) → Next → Stage
+    → Pass Knowledge → Pass Knowledge → Type 0
+MakesTryPart Did next stage p q =
+    Makes TryNext told_of_try (λ part. stage_behind Tries (told_of_try part)) Did next stage p q
+
+-- a part of a thread's end, from there
+abbrev pub MakesEndPart : Description → EndAt → Next → Stage → Pass Knowledge → Pass Knowledge
+    → Type 0
+MakesEndPart floor at next stage p q =
+    Makes EndNext told_of_end stage_of_end (λ part r s. GoesOnEnding floor at part r.view s.view)
+    next stage p q
+
+-- the take that a pass was in the middle of went on so
+abbrev pub TakeWent : Description → PartNext → Pass Knowledge → Pass Knowledge → Type 0
+TakeWent floor part p q =
+    (l : LockNo) (mode : Mode) (at : TakeAt) → p.call ≡ calls.Take l mode at
+    → GoesOnTaking floor l mode at part p q
+
+-- or the try
+abbrev pub TryWent : Description → TryNext → Pass Knowledge → Pass Knowledge → Type 0
+TryWent floor part p q =
+    (l : LockNo) (mode : Mode) (at : TryAt) → p.call ≡ calls.Try l mode at
+    → GoesOnTrying floor l mode at part p q
+
+-- or the release
+abbrev pub ReleaseWent : Description → PartNext → Pass Knowledge → Pass Knowledge → Type 0
+ReleaseWent floor part p q =
+    (l : LockNo) (mode : Mode) (at : ReleaseAt) → p.call ≡ calls.Release l mode at
+    → GoesOnReleasing floor l mode at part p q
+
+-- a thread at that stage went on with its call
+abbrev pub GoesOn : Description → Stage → Next → Stage → Pass Knowledge → Pass Knowledge → Type 0
+GoesOn floor AtRest next stage p q = ⊥
+GoesOn floor Takes next stage p q = MakesPart Takes (TakeWent floor) next stage p q
+GoesOn floor Tries next stage p q = MakesTryPart (TryWent floor) next stage p q
+GoesOn floor Releases next stage p q = MakesPart Releases (ReleaseWent floor) next stage p q
+GoesOn floor (Ends at) next stage p q = MakesEndPart floor at next stage p q
+GoesOn floor Ended next stage p q = ⊥
+
+-- 2. A call
+
+-- what a call does that is made: just what the part of it promises that the crate of the call has
+abbrev pub Does : Request → Next → Thread → Thread → Type 0
+Does (Take l mode) next x y =
+    MakesPart Takes (HasBegunTake x.floor.description l mode) next y.stage x.pass y.pass
+Does (Try l mode) next x y =
+    MakesTryPart (HasBegunTry x.floor.description l mode) next y.stage x.pass y.pass
+Does (Release l mode) next x y =
+    MakesPart Releases (HasBegunRelease x.floor.description l mode) next y.stage x.pass y.pass
+Does End next x y = MakesEndPart x.floor.description places.Takes next y.stage x.pass y.pass
+Does GoOn next x y = GoesOn x.floor.description x.stage next y.stage x.pass y.pass
+
+-- the cause that a call answers
+abbrev pub cause_in : Result Next Cause → Option Cause
+cause_in (Ok next) = None
+cause_in (Err cause) = Some cause
+
+-- What a call promises: it is made exactly where it may be, and does what it is for; else it answers what stands
+-- against it, the first that is so, and nothing is changed. The thread stays one of the floor
+pub record Answers (request : Request) (answer : Result Next Cause) (x y : Thread) : Type 0 where
+  pub floor : y.floor ≡ x.floor
+  pub may : IsOk answer ↔ MayCall request x
+  pub cause : IsFirst (λ cause. Says cause x) (causes request) (cause_in answer)
+  pub does : IfOk answer (λ next. Does request next x y)
+  pub unchanged : IfErr answer (λ cause. y ≡ x)

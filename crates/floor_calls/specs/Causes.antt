@@ -1,0 +1,84 @@
+-- What may stand against a call of a thread, and when the call may be made.
+use Rattle.std.specs.Prelude.{◌≡◌, ◌≢◌, ℕ, ◌<◌, ◌≤◌, true, List, [], ◌∷◌, length}
+use Rattle.std.specs.List.{Any}
+use Rattle.lock_model.specs.Holds.{NotHeld, Holds}
+use Rattle.lock_model.specs.Limits.{most_held}
+use Rattle.lock_model.specs.Operations.{hold_in}
+use Rattle.lock_model.specs.Words.{is_turnstile}
+use Rattle.lock_model.specs.declared.event.Held.{Held as HeldLock}
+use Rattle.lock_model.specs.declared.numbers.LockNo.{LockNo}
+use Rattle.lock_model.specs.declared.plan.Kind.TheVariants.{Mtx, Sx}
+use Rattle.lock_model.specs.declared.plan.Mode.{Mode}
+use Rattle.lock_model.specs.declared.plan.Mode.TheVariants.{Shared}
+use Rattle.floor_table.specs.Descriptions.{config_in}
+use Rattle.lock_calls.specs.Steps.{MayTake, MayRelease}
+use Rattle.floor_calls.specs.Stages.{IsInCall}
+use Rattle.floor_calls.specs.Threads.{Thread}
+use Rattle.floor_calls.specs.declared.requests.Cause.{Cause}
+use Rattle.floor_calls.specs.declared.requests.Cause.TheVariants.{Ended, InCall, AtRest, NoLock, NoMode, Held, HoldsUnsleepable, NotHeld, HoldsMost, HoldsSome, Spent}
+use Rattle.floor_calls.specs.declared.requests.Request.{Request}
+use Rattle.floor_calls.specs.declared.requests.Request.TheVariants.{Take, Try, Release, End, GoOn}
+use Rattle.floor_calls.specs.declared.stages.Stage.TheVariants as stages
+
+-- the locks that a thread holds
+abbrev pub held_by : Thread → List HeldLock
+held_by x = x.pass.view.share.held
+
+-- it holds a mutex or a reader-writer lock
+abbrev pub HoldsMutexOrRw : Thread → Type 0
+HoldsMutexOrRw x =
+    Any (λ h. is_turnstile ((config_in x.floor.description).kind h.l.0) ≡ true) (held_by x)
+
+-- 1. What may stand against a call
+
+-- what each cause says of a thread
+abbrev pub Says : Cause → Thread → Type 0
+Says Ended x = x.stage ≡ stages.Ended
+Says InCall x = IsInCall x.stage
+Says AtRest x = x.stage ≡ stages.AtRest
+Says (NoLock l) x = length x.floor.description.locks ≤ l.0
+Says (NoMode l mode) x =
+    (l.0 < length x.floor.description.locks) × ((config_in x.floor.description).kind l.0 ≡ Mtx)
+    × (mode ≡ Shared)
+Says (Held l) x = (mode : Mode) × (hold_in (held_by x) l.0 ≡ Holds mode)
+Says (HoldsUnsleepable l) x =
+    ((config_in x.floor.description).kind l.0 ≡ Sx) × HoldsMutexOrRw x
+Says (NotHeld l mode) x = hold_in (held_by x) l.0 ≢ Holds mode
+Says HoldsMost x = most_held ≤ length (held_by x)
+Says HoldsSome x = held_by x ≢ []
+Says Spent x = x.pass.view.spare ≡ 0
+
+-- what may stand against each call, in the order in which it is tested
+abbrev pub causes : Request → List Cause
+causes (Take l mode) =
+    Ended ∷ InCall ∷ NoLock l ∷ NoMode l mode ∷ Held l ∷ HoldsUnsleepable l ∷ HoldsMost
+    ∷ Spent ∷ []
+causes (Try l mode) =
+    Ended ∷ InCall ∷ NoLock l ∷ NoMode l mode ∷ Held l ∷ HoldsUnsleepable l ∷ HoldsMost
+    ∷ Spent ∷ []
+causes (Release l mode) =
+    Ended ∷ InCall ∷ NoLock l ∷ NoMode l mode ∷ NotHeld l mode ∷ Spent ∷ []
+causes End = Ended ∷ InCall ∷ HoldsSome ∷ []
+causes GoOn = Ended ∷ AtRest ∷ []
+
+-- 2. When a call may be made
+
+-- a thread that takes or tries an sx lock holds no mutex and no reader-writer lock: these may not be held over a sleep
+-- without bound (locking(9))
+abbrev pub MaySleepFor : Thread → LockNo → Type 0
+MaySleepFor x l =
+    (config_in x.floor.description).kind l.0 ≡ Sx → (k : ℕ)
+    → is_turnstile ((config_in x.floor.description).kind k) ≡ true
+    → hold_in (held_by x) k ≡ NotHeld
+
+-- The crate of a lock's call says what it needs beside a thread at rest; an end needs that the thread holds nothing;
+-- and a call is gone on with in its middle
+abbrev pub MayCall : Request → Thread → Type 0
+MayCall (Take l mode) x =
+    (x.stage ≡ stages.AtRest) × MayTake x.floor.description l.0 mode x.pass.view × MaySleepFor x l
+MayCall (Try l mode) x =
+    (x.stage ≡ stages.AtRest) × MayTake x.floor.description l.0 mode x.pass.view × MaySleepFor x l
+MayCall (Release l mode) x =
+    (x.stage ≡ stages.AtRest) × MayRelease x.floor.description l.0 mode x.pass.view
+MayCall End x = (x.stage ≡ stages.AtRest) × (held_by x ≡ [])
+MayCall GoOn x = IsInCall x.stage

@@ -1,0 +1,58 @@
+-- How a thread's stage follows from what a call answered, and how this crate's answers tell those of the parts of
+-- calls.
+use Rattle.halting.specs.declared.ending.EndNext.{EndNext}
+use Rattle.halting.specs.declared.ending.EndNext.TheVariants as end
+use Rattle.lock_calls.specs.declared.answers.Next.{Next as PartNext}
+use Rattle.lock_calls.specs.declared.answers.Next.TheVariants as part
+use Rattle.lock_calls.specs.declared.trying.TryNext.{TryNext}
+use Rattle.lock_calls.specs.declared.trying.TryNext.TheVariants as try
+use Rattle.floor_calls.specs.declared.stages.Next.{Next}
+use Rattle.floor_calls.specs.declared.stages.Next.TheVariants.{Done, Again, Sleep, Wake, Busy, Reversed, Halted}
+use Rattle.floor_calls.specs.declared.stages.Stage.{Stage}
+use Rattle.floor_calls.specs.declared.stages.Stage.TheVariants.{AtRest, Takes, Tries, Releases, Ends, Ended}
+
+-- a thread at that stage is in the middle of a call
+abbrev pub IsInCall : Stage → Type 0
+IsInCall AtRest = ⊥
+IsInCall Takes = Unit {0}
+IsInCall Tries = Unit {0}
+IsInCall Releases = Unit {0}
+IsInCall (Ends at) = Unit {0}
+IsInCall Ended = ⊥
+
+-- the stage behind a part of a lock's call: the same, unless the call is done
+abbrev pub stage_behind : Stage → Next → Stage
+stage_behind on Done = AtRest
+stage_behind on Again = on
+stage_behind on Sleep = on
+stage_behind on (Wake t) = on
+stage_behind on (Busy seen) = AtRest
+stage_behind on (Reversed r) = AtRest
+stage_behind on Halted = AtRest
+
+-- the stage behind a part of a thread's end
+abbrev pub stage_of_end : EndNext → Stage
+stage_of_end end.Done = Ended
+stage_of_end (end.Again to) = Ends to
+stage_of_end (end.Wake t to) = Ends to
+
+-- what is told of a part of a take or of a release
+abbrev pub told : PartNext → Next
+told part.Done = Done
+told part.Again = Again
+told part.Sleep = Sleep
+told (part.Wake t) = Wake t
+told (part.Reversed r) = Reversed r
+told part.Halted = Halted
+
+-- of a try
+abbrev pub told_of_try : TryNext → Next
+told_of_try try.Gained = Done
+told_of_try (try.Busy seen) = Busy seen
+told_of_try try.Again = Again
+
+-- and of a thread's end
+abbrev pub told_of_end : EndNext → Next
+told_of_end end.Done = Done
+told_of_end (end.Again to) = Again
+told_of_end (end.Wake t to) = Wake t

@@ -1,0 +1,35 @@
+-- A thread as its caller has it, and what is so of it at each stage.
+use Rattle.std.specs.Prelude.{◌≡◌, None}
+use Rattle.floor_table.specs.Views.{Knowledge}
+use Rattle.floor_table.specs.declared.description.Description.{Description}
+use Rattle.halting.specs.Ends.{IsEnding}
+use Rattle.halting.specs.declared.ending.EndAt.{EndAt}
+use Rattle.lock_calls.specs.Releases.{IsInRelease}
+use Rattle.lock_calls.specs.Takes.{IsInTake}
+use Rattle.lock_calls.specs.Tries.{IsInTry}
+use Rattle.lock_floor.specs.Floors.{Floor, Pass}
+use Rattle.lock_floor.specs.Passes.{IsOf, IsFinished, IsReady}
+use Rattle.floor_calls.specs.declared.stages.Stage.{Stage}
+use Rattle.floor_calls.specs.declared.stages.Stage.TheVariants.{AtRest, Takes, Tries, Releases, Ends, Ended}
+
+-- which floor it is a thread of, its pass there, and its stage
+pub record Thread : Type 0 where
+  pub floor : Floor Description
+  pub pass : Pass Knowledge
+  pub stage : Stage
+
+-- it is in the middle of its end, stands there, and takes no lock
+pub record IsEndingAt (f : Floor Description) (at : EndAt) (p : Pass Knowledge) : Type 0 where
+  pub own : IsOf f p
+  pub there : IsEnding f.description at p.view
+  pub takes_nothing : p.view.share.doing.taking ≡ None
+
+-- At rest its pass is ready; in the middle of a call it is the floor's, and stands in that call; and behind its end it
+-- is finished
+abbrev pub IsAt : Floor Description → Stage → Pass Knowledge → Type 0
+IsAt f AtRest p = IsReady f p
+IsAt f Takes p = IsOf f p × IsInTake f.description p
+IsAt f Tries p = IsOf f p × IsInTry f.description p
+IsAt f Releases p = IsOf f p × IsInRelease f.description p
+IsAt f (Ends at) p = IsEndingAt f at p
+IsAt f Ended p = IsFinished f p

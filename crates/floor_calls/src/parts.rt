@@ -1,0 +1,126 @@
+//! The parts of locks' calls and of a thread's end, told in this crate's words, with the thread's stage behind each.
+ghost use Rattle.std.specs.Prelude.{◌≡◌};
+ghost use Rattle.floor_calls.specs.Calls.{GoesOn, MakesEndPart, MakesPart, MakesTryPart};
+ghost use Rattle.floor_calls.specs.Stages.{IsInCall, stage_behind};
+ghost use Rattle.floor_calls.specs.Threads.{IsAt, IsEndingAt};
+ghost use Rattle.floor_calls.specs.declared.stages.Stage.TheVariants.{Takes, Tries, Releases};
+ghost use Rattle.lock_calls.specs.Releases.{HasBegunRelease};
+ghost use Rattle.lock_calls.specs.Steps.{MayRelease, MayTake};
+ghost use Rattle.lock_calls.specs.Takes.{HasBegunTake};
+ghost use Rattle.lock_calls.specs.Tries.{HasBegunTry};
+ghost use Rattle.lock_floor.specs.Passes.{IsReady};
+
+use crate::stages::{Next, Stage, stage_behind, told, told_of_try};
+use halting::{EndAt, EndNext, go_on_ending};
+use lock_calls::{
+    begin_release, begin_take, begin_try, go_on_releasing, go_on_taking, go_on_trying,
+};
+use lock_floor::{Floor, Pass};
+use lock_model::{LockNo, Mode};
+
+// Begins a take.
+pub(crate) fn take(floor: &Floor, pass: &mut Pass, l: LockNo, mode: Mode) -> (Next, Stage)
+    requires ready { IsReady floor.now pass.old }
+    requires may { MayTake floor.now.description l.0 mode pass.old.view }
+    ensures at { IsAt floor.now result.1 pass.new }
+    ensures did { MakesPart Takes (HasBegunTake floor.now.description l mode)
+        result.0 result.1 pass.old pass.new }
+{
+    let part = begin_take(floor, pass, l, mode);
+    behind(Stage::Takes, told(part))
+}
+
+// Begins a try.
+pub(crate) fn attempt(floor: &Floor, pass: &mut Pass, l: LockNo, mode: Mode) -> (Next, Stage)
+    requires ready { IsReady floor.now pass.old }
+    requires may { MayTake floor.now.description l.0 mode pass.old.view }
+    ensures at { IsAt floor.now result.1 pass.new }
+    ensures did { MakesTryPart (HasBegunTry floor.now.description l mode)
+        result.0 result.1 pass.old pass.new }
+{
+    let part = begin_try(floor, pass, l, mode);
+    behind(Stage::Tries, told_of_try(part))
+}
+
+// Begins a release.
+pub(crate) fn release(floor: &Floor, pass: &mut Pass, l: LockNo, mode: Mode) -> (Next, Stage)
+    requires ready { IsReady floor.now pass.old }
+    requires may { MayRelease floor.now.description l.0 mode pass.old.view }
+    ensures at { IsAt floor.now result.1 pass.new }
+    ensures did { MakesPart Releases (HasBegunRelease floor.now.description l mode)
+        result.0 result.1 pass.old pass.new }
+{
+    let part = begin_release(floor, pass, l, mode);
+    behind(Stage::Releases, told(part))
+}
+
+// Goes on with the end of a thread that stands there, and finishes its pass where that is done.
+pub(crate) fn end(floor: &Floor, pass: &mut Pass, at: EndAt) -> (Next, Stage)
+    requires there { IsEndingAt floor.now at pass.old }
+    ensures at { IsAt floor.now result.1 pass.new }
+    ensures did { MakesEndPart floor.now.description at result.0 result.1 pass.old pass.new }
+{
+    match go_on_ending(floor, pass, at) {
+        EndNext::Done => {
+            floor.finish(pass);
+            (Next::Done, Stage::Ended)
+        }
+        EndNext::Again(to) => (Next::Again, Stage::Ends(to)),
+        EndNext::Wake(t, to) => (Next::Wake(t), Stage::Ends(to)),
+    }
+}
+
+// Goes on with the call that a thread at that stage is in the middle of.
+pub(crate) fn go_on(floor: &Floor, pass: &mut Pass, stage: Stage) -> (Next, Stage)
+    requires one_chain { floor.now.description.chains ≡ 1 }
+    requires in_call { IsInCall stage }
+    requires there { IsAt floor.now stage pass.old }
+    ensures at { IsAt floor.now result.1 pass.new }
+    ensures did { GoesOn floor.now.description stage result.0 result.1 pass.old pass.new }
+{
+    match stage {
+        Stage::Takes => go_on_in_take(floor, pass),
+        Stage::Tries => go_on_in_try(floor, pass),
+        Stage::Releases => go_on_in_release(floor, pass),
+        Stage::Ends(at) => end(floor, pass, at),
+        Stage::AtRest | Stage::Ended => unreachable!(),
+    }
+}
+
+// Goes on with a take.
+fn go_on_in_take(floor: &Floor, pass: &mut Pass) -> (Next, Stage)
+    requires one_chain { floor.now.description.chains ≡ 1 }
+    requires there { IsAt floor.now Takes pass.old }
+    ensures at { IsAt floor.now result.1 pass.new }
+    ensures did { GoesOn floor.now.description Takes result.0 result.1 pass.old pass.new }
+{
+    let part = go_on_taking(floor, pass);
+    behind(Stage::Takes, told(part))
+}
+
+// Goes on with a try.
+fn go_on_in_try(floor: &Floor, pass: &mut Pass) -> (Next, Stage)
+    requires there { IsAt floor.now Tries pass.old }
+    ensures at { IsAt floor.now result.1 pass.new }
+    ensures did { GoesOn floor.now.description Tries result.0 result.1 pass.old pass.new }
+{
+    let part = go_on_trying(floor, pass);
+    behind(Stage::Tries, told_of_try(part))
+}
+
+// Goes on with a release.
+fn go_on_in_release(floor: &Floor, pass: &mut Pass) -> (Next, Stage)
+    requires there { IsAt floor.now Releases pass.old }
+    ensures at { IsAt floor.now result.1 pass.new }
+    ensures did { GoesOn floor.now.description Releases result.0 result.1 pass.old pass.new }
+{
+    let part = go_on_releasing(floor, pass);
+    behind(Stage::Releases, told(part))
+}
+
+// What a part of a lock's call answered, and the stage behind it.
+fn behind(on: Stage, next: Next) -> (Next, Stage)
+    ensures { result ≡ (next, stage_behind on next) }
+{
+    (next, stage_behind(on, next))
+}

@@ -1,0 +1,45 @@
+//! What a caller can ask of a thread, and what may stand against it.
+
+use lock_model::{LockNo, Mode};
+
+/// What a caller asks of a thread.
+#[derive(Clone, Copy, Debug, PartialEq, Eq)]
+pub enum Request {
+    /// To begin a take of a lock in a mode.
+    Take { l: LockNo, mode: Mode },
+    /// To begin a try of a lock in a mode.
+    Try { l: LockNo, mode: Mode },
+    /// To begin a release of a lock that is held in a mode.
+    Release { l: LockNo, mode: Mode },
+    /// To begin the thread's end.
+    End,
+    /// To go on with the call that it is in the middle of.
+    GoOn,
+}
+
+/// Why a call isn't made.
+#[derive(Clone, Copy, Debug, PartialEq, Eq)]
+pub enum Cause {
+    /// The thread has ended.
+    Ended,
+    /// It is in the middle of a call.
+    InCall,
+    /// It is in the middle of no call.
+    AtRest,
+    /// The floor has no such lock.
+    NoLock(LockNo),
+    /// The lock has no such mode: it is a mutex, which is never shared.
+    NoMode(LockNo, Mode),
+    /// The thread holds the lock already.
+    Held(LockNo),
+    /// The lock is an sx lock, and the thread holds a mutex or a reader-writer lock, over which it may not sleep.
+    HoldsUnsleepable(LockNo),
+    /// It doesn't hold the lock in that mode.
+    NotHeld(LockNo, Mode),
+    /// It holds as many locks as a thread may.
+    HoldsMost,
+    /// It holds a lock.
+    HoldsSome,
+    /// Its log has no room for an entry.
+    Spent,
+}

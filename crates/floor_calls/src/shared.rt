@@ -1,0 +1,13 @@
+//! What the threads of a floor share.
+ghost use Rattle.std.specs.Prelude.{◌≡◌, length};
+
+use lock_floor::Floor;
+
+/// A floor with one chain of each sort, and how many locks it has.
+#[derive(Drop)]
+pub struct Shared {
+    pub(crate) floor: Floor,
+    pub(crate) locks: usize,
+    ghost all_locks: { locks ≡ length floor.description.locks },
+    ghost one_chain: { floor.description.chains ≡ 1 },
+}

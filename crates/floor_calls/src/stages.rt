@@ -1,0 +1,88 @@
+//! At which stage a thread is between two calls, and what a call answers.
+ghost use Rattle.std.specs.Prelude.{◌≡◌, ◌↔◌, IsTrue};
+ghost use Rattle.floor_calls.specs.Stages.{IsInCall, stage_behind, told, told_of_try};
+
+use halting::EndAt;
+use lock_calls::TryNext;
+use lock_model::{Reversal, ThreadNo};
+
+/// At which stage a thread is between two calls.
+#[derive(Clone, Copy, Debug, PartialEq, Eq)]
+pub enum Stage {
+    /// It is in the middle of no call.
+    AtRest,
+    /// It is in the middle of a take.
+    Takes,
+    /// It is in the middle of a try.
+    Tries,
+    /// It is in the middle of a release.
+    Releases,
+    /// It is in the middle of its end, and stands there.
+    Ends(EndAt),
+    /// It has ended.
+    Ended,
+}
+
+/// What the caller is to do next, where the call was made.
+#[derive(Clone, Copy, Debug, PartialEq, Eq)]
+pub enum Next {
+    /// Nothing: the call is done.
+    Done,
+    /// Go on with the call, maybe after a pause.
+    Again,
+    /// Sleep until the thread is woken, or for a while, and then go on with the call.
+    Sleep,
+    /// End the sleep of that thread, which was woken, and then go on with the call.
+    Wake(ThreadNo),
+    /// Nothing: the try found the lock busy, whose word was that one.
+    Busy(u64),
+    /// Nothing: the order of locks refused the take.
+    Reversed(Reversal),
+    /// Nothing: the take's sleep was ended by an abort, and the lock isn't held.
+    Halted,
+}
+
+// Whether a thread at that stage is in the middle of a call.
+pub(crate) fn is_in_call(stage: Stage) -> bool
+    ensures { IsTrue result ↔ IsInCall stage }
+{
+    match stage {
+        Stage::AtRest | Stage::Ended => false,
+        Stage::Takes | Stage::Tries | Stage::Releases | Stage::Ends(_) => true,
+    }
+}
+
+// The stage behind a part of a call of a lock, which was gone on with at that stage.
+pub(crate) fn stage_behind(on: Stage, next: Next) -> Stage
+    ensures { result ≡ stage_behind on next }
+{
+    match next {
+        Next::Again | Next::Sleep | Next::Wake(_) => on,
+        Next::Done | Next::Busy(_) | Next::Reversed(_) | Next::Halted => Stage::AtRest,
+    }
+}
+
+// What a part of a take or of a release answered.
+pub(crate) fn told(part: lock_calls::Next) -> Next
+    ensures { result ≡ told part }
+{
+    match part {
+        lock_calls::Next::Done => Next::Done,
+        lock_calls::Next::Again => Next::Again,
+        lock_calls::Next::Sleep => Next::Sleep,
+        lock_calls::Next::Wake(t) => Next::Wake(t),
+        lock_calls::Next::Reversed(reversal) => Next::Reversed(reversal),
+        lock_calls::Next::Halted => Next::Halted,
+    }
+}
+
+// What a part of a try answered.
+pub(crate) fn told_of_try(part: TryNext) -> Next
+    ensures { result ≡ told_of_try part }
+{
+    match part {
+        TryNext::Gained => Next::Done,
+        TryNext::Busy(seen) => Next::Busy(seen),
+        TryNext::Again => Next::Again,
+    }
+}

@@ -1,0 +1,266 @@
+//! A thread of a floor, as its caller has it, and what stands against a call of it.
+ghost use Rattle.std.specs.Prelude.{◌≡◌, ◌↔◌, ◌<◌, true, IsTrue, length};
+ghost use Rattle.std.specs.Arc.{arc_value};
+ghost use Rattle.lock_floor.specs.Passes.{IsFinished, IsReady};
+ghost use Rattle.lock_model.specs.Holds.{Holds};
+ghost use Rattle.lock_model.specs.Operations.{hold_in};
+ghost use Rattle.lock_model.specs.Words.{is_turnstile};
+ghost use Rattle.floor_table.specs.Descriptions.{config_in};
+ghost use Rattle.lock_model.specs.declared.plan.Kind.TheVariants.{Mtx, Sx};
+ghost use Rattle.floor_calls.specs.declared.requests.Cause.TheVariants.{NoMode};
+ghost use Rattle.floor_calls.specs.declared.requests.Request.TheVariants.{Take};
+ghost use Rattle.floor_calls.specs.declared.stages.Stage.TheVariants as stages;
+ghost use Rattle.floor_calls.specs.Causes.{HoldsMutexOrRw, Says, causes};
+ghost use Rattle.floor_calls.specs.First.{IsFirst};
+ghost use Rattle.floor_calls.specs.Openings.{thread_at_rest};
+
+use crate::requests::{Cause, Request};
+use crate::shared::Shared;
+use crate::stages::{Stage, is_in_call};
+use lock_floor::Pass;
+use lock_model::limits::HELD;
+use lock_model::{Kind, LockNo, Mode, ThreadNo};
+use std::alloc::Global;
+use std::marker::Model;
+use std::sync::Arc;
+
+/// A thread of a floor: its share of the floor, its pass there, and at which stage it is. One caller uses it at a time.
+#[derive(Drop)]
+pub struct Thread {
+    pub(crate) shared: Arc<Shared, Global>,
+    pub(crate) pass: Pass,
+    pub(crate) stage: Stage,
+}
+
+impl Model for Thread {
+    ghost use Rattle.std.specs.Arc.{arc_value};
+    ghost use Rattle.floor_calls.specs.Threads.{Thread as Seen, IsAt};
+
+    ghost Value = { Seen };
+
+    ghost view = { λ t. record {
+      floor = (arc_value t.shared).floor;
+      pass = t.pass;
+      stage = t.stage;
+    } };
+
+    ghost invariant = { λ t. IsAt (arc_value t.shared).floor t.stage t.pass };
+}
+
+impl Thread {
+    // The thread of a pass that is ready.
+    pub(crate) fn new(shared: Arc<Shared, Global>, pass: Pass) -> Thread
+        requires ready { IsReady (arc_value shared).floor pass }
+        ensures { result ≡ thread_at_rest (arc_value shared).floor pass }
+    {
+        Thread {
+            shared,
+            pass,
+            stage: Stage::AtRest,
+        }
+    }
+
+    // Its pass, once it has ended.
+    pub(crate) fn into_pass(self) -> Pass
+        requires ended { self.stage ≡ stages.Ended }
+        ensures pass { result ≡ self.pass }
+        ensures finished { IsFinished self.floor result }
+    {
+        let Thread {
+            shared: _,
+            pass,
+            stage: _,
+        } = self;
+        pass
+    }
+
+    /// Its number among the floor's threads.
+    pub fn number(&self) -> ThreadNo
+        ensures { result.0 ≡ self.now.pass.view.thread }
+    {
+        self.pass.thread()
+    }
+
+    /// At which stage it is.
+    pub fn stage(&self) -> Stage
+        ensures { result ≡ self.now.stage }
+    {
+        self.stage
+    }
+
+    /// Whether it has ended.
+    pub fn has_ended(&self) -> bool
+        ensures { IsTrue result ↔ (self.now.stage ≡ stages.Ended) }
+    {
+        match self.stage {
+            Stage::Ended => true,
+            Stage::AtRest | Stage::Takes | Stage::Tries | Stage::Releases | Stage::Ends(_) => false,
+        }
+    }
+
+    /// Whether its wait word says just then that it is queued: where a call answered `Sleep`, that it is still to
+    /// sleep.
+    pub fn is_queued(&self) -> bool {
+        self.shared.floor.is_queued(self.pass.thread())
+    }
+
+    /// What stands against a call: of all that may, the first that is so. `None` comes exactly where the call may be
+    /// made.
+    pub fn against(&self, request: Request) -> Option<Cause>
+        ensures { IsFirst (λ cause. Says cause self.now) (causes request) result }
+    {
+        match request {
+            Request::Take { l, mode } => self.against_gain(l, mode),
+            Request::Try { l, mode } => self.against_gain(l, mode),
+            Request::Release { l, mode } => self.first(&[
+                Cause::Ended,
+                Cause::InCall,
+                Cause::NoLock(l),
+                Cause::NoMode(l, mode),
+                Cause::NotHeld(l, mode),
+                Cause::Spent,
+            ]),
+            Request::End => self.first(&[Cause::Ended, Cause::InCall, Cause::HoldsSome]),
+            Request::GoOn => self.first(&[Cause::Ended, Cause::AtRest]),
+        }
+    }
+
+    // What stands against a take or a try of a lock in a mode.
+    #[inline(always)]
+    fn against_gain(&self, l: LockNo, mode: Mode) -> Option<Cause>
+        ensures { IsFirst (λ cause. Says cause self.now) (causes (Take l mode)) result }
+    {
+        self.first(&[
+            Cause::Ended,
+            Cause::InCall,
+            Cause::NoLock(l),
+            Cause::NoMode(l, mode),
+            Cause::Held(l),
+            Cause::HoldsUnsleepable(l),
+            Cause::HoldsMost,
+            Cause::Spent,
+        ])
+    }
+
+    // The first of the causes that is so.
+    #[inline(always)]
+    fn first(&self, causes: &[Cause]) -> Option<Cause>
+        ensures { IsFirst (λ cause. Says cause self.now) causes.now result }
+    {
+        for cause in causes {
+            if self.is_so(*cause) {
+                return Some(*cause);
+            }
+        }
+        None
+    }
+
+    // Whether that is so.
+    #[inline(always)]
+    fn is_so(&self, cause: Cause) -> bool
+        ensures { IsTrue result ↔ Says cause self.now }
+    {
+        match cause {
+            Cause::Ended => self.has_ended(),
+            Cause::InCall => is_in_call(self.stage),
+            Cause::AtRest => self.is_at_rest(),
+            Cause::NoLock(l) => !self.has_lock(l),
+            Cause::NoMode(l, mode) => self.has_no_mode(l, mode),
+            Cause::Held(l) => self.pass.mode(l).is_some(),
+            Cause::HoldsUnsleepable(l) => is_sx(self.kind(l)) && self.holds_mutex_or_rw(),
+            Cause::NotHeld(l, mode) => !self.holds(l, mode),
+            Cause::HoldsMost => self.pass.held().len() >= HELD,
+            Cause::HoldsSome => !self.pass.held().is_empty(),
+            Cause::Spent => self.pass.spare() == 0,
+        }
+    }
+
+    // Whether it is in the middle of no call, and hasn't ended.
+    fn is_at_rest(&self) -> bool
+        ensures { IsTrue result ↔ (self.now.stage ≡ stages.AtRest) }
+    {
+        match self.stage {
+            Stage::AtRest => true,
+            Stage::Takes | Stage::Tries | Stage::Releases | Stage::Ends(_) | Stage::Ended => false,
+        }
+    }
+
+    // Whether the floor has that lock.
+    fn has_lock(&self, l: LockNo) -> bool
+        ensures { IsTrue result ↔ (l.0 < length self.now.floor.description.locks) }
+    {
+        usize::from(l.0) < self.shared.locks
+    }
+
+    // Whether the floor has that lock, and it has no such mode.
+    fn has_no_mode(&self, l: LockNo, mode: Mode) -> bool
+        ensures { IsTrue result ↔ Says (NoMode l mode) self.now }
+    {
+        match mode {
+            Mode::Excl => false,
+            Mode::Shared => self.has_lock(l) && is_mutex(self.kind(l)),
+        }
+    }
+
+    // The kind of a lock, which is that of a mutex where the floor has no such lock.
+    fn kind(&self, l: LockNo) -> Kind
+        ensures { result ≡ (config_in self.now.floor.description).kind l.0 }
+    {
+        if self.has_lock(l) {
+            self.shared.floor.kind(l)
+        } else {
+            Kind::Mtx
+        }
+    }
+
+    // Whether the thread holds a mutex or a reader-writer lock.
+    fn holds_mutex_or_rw(&self) -> bool
+        ensures { IsTrue result ↔ HoldsMutexOrRw self.now }
+    {
+        self.pass
+            .held()
+            .iter()
+            .any(|held| is_mutex_or_rw(self.kind(held.l)))
+    }
+
+    // Whether the thread holds the lock in that mode.
+    fn holds(&self, l: LockNo, mode: Mode) -> bool
+        ensures { IsTrue result ↔ (hold_in self.now.pass.view.share.held l.0 ≡ Holds mode) }
+    {
+        match (self.pass.mode(l), mode) {
+            (Some(Mode::Excl), Mode::Excl) | (Some(Mode::Shared), Mode::Shared) => true,
+            (Some(Mode::Excl), Mode::Shared) | (Some(Mode::Shared), Mode::Excl) | (None, _) =>
+                false,
+        }
+    }
+}
+
+// Whether it is the kind of an sx lock.
+fn is_sx(kind: Kind) -> bool
+    ensures { IsTrue result ↔ (kind ≡ Sx) }
+{
+    match kind {
+        Kind::Sx => true,
+        Kind::Mtx | Kind::Rw => false,
+    }
+}
+
+// Whether it is the kind of a mutex or a reader-writer lock.
+fn is_mutex_or_rw(kind: Kind) -> bool
+    ensures { IsTrue result ↔ (is_turnstile kind ≡ true) }
+{
+    match kind {
+        Kind::Mtx | Kind::Rw => true,
+        Kind::Sx => false,
+    }
+}
+
+// Whether it is the kind of a mutex.
+fn is_mutex(kind: Kind) -> bool
+    ensures { IsTrue result ↔ (kind ≡ Mtx) }
+{
+    match kind {
+        Kind::Mtx => true,
+        Kind::Rw | Kind::Sx => false,
+    }
+}
