@@ -2,7 +2,7 @@
 //! calls say that it answers. A row that goes on does so until that answers something else than to go on.
 use crate::floors::{Parts, describe};
 use floor_calls::{Cause, Next, OpenFloor, Request, Thread};
-use lock_model::{ClassNo, LockNo, Mode, Reversal, ThreadNo};
+use lock_model::{ChanNo, ClassNo, LockNo, Mode, Reversal, ThreadNo};
 use std::test::Fail;
 
 // How many parts of a call are made in a row at most: a take looks 100 times, and has a few other parts.
@@ -10,10 +10,10 @@ const PARTS: u32 = 1_000;
 
 // The threads have room for so many entries; locks 2 to 9 are sx locks.
 const FLOOR: Parts = Parts {
-    rooms: &[4, 1, 2, 9, 5],
+    rooms: &[4, 1, 2, 9, 7],
     locks: 10,
     class: 9,
-    channels: 0,
+    channels: 1,
     keys: 0,
     first_once_more: false,
     chains: 1,
@@ -94,6 +94,21 @@ const TAKE_NONE: Request = Request::Take {
     mode: Mode::Excl,
 };
 
+const WAKE_ALL: Request = Request::WakeUp {
+    c: ChanNo(0),
+    all: true,
+};
+
+const WAKE_ONE: Request = Request::WakeUp {
+    c: ChanNo(0),
+    all: false,
+};
+
+const WAKE_NONE: Request = Request::WakeUp {
+    c: ChanNo(1),
+    all: true,
+};
+
 // A mutex's word has bit 2 where it is held, and from bit 3 on the number of who holds it: here thread 0.
 const HELD: u64 = 4;
 
@@ -141,6 +156,14 @@ const ROWS: &[(usize, Request, Result<Next, Cause>)] = &[
     (4, TAKE_SX, Ok(Next::Again)),
     (4, Request::GoOn, Ok(Next::Reversed(REVERSAL))),
     (4, RELEASE_OTHER_SX, Ok(Next::Done)),
+    // Nobody sleeps on the channel, so a wake finds nobody.
+    (4, WAKE_NONE, Err(Cause::NoChan(ChanNo(1)))),
+    (4, WAKE_ALL, Ok(Next::Again)),
+    (4, WAKE_ONE, Err(Cause::InCall)),
+    (4, Request::GoOn, Ok(Next::Done)),
+    (4, WAKE_ONE, Ok(Next::Again)),
+    (4, Request::GoOn, Ok(Next::Done)),
+    (4, WAKE_ONE, Err(Cause::Spent)),
     // Others are awake when thread 0 ends. Once it has, it makes no call.
     (0, Request::End, Ok(Next::Done)),
     (0, Request::End, Err(Cause::Ended)),
@@ -184,6 +207,7 @@ fn ask(thread: &mut Thread, request: Request) -> Result<Next, Cause> {
         Request::Take { l, mode } => thread.begin_take(l, mode),
         Request::Try { l, mode } => thread.begin_try(l, mode),
         Request::Release { l, mode } => thread.begin_release(l, mode),
+        Request::WakeUp { c, all } => thread.begin_wakeup(c, all),
         Request::End => thread.begin_end(),
         Request::GoOn => go_on(thread),
     }

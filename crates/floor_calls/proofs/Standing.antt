@@ -1,5 +1,8 @@
 -- At which stage a thread is behind a part of its call, and what is so of it there.
-use Rattle.std.proofs.Common.{◌≡◌, refl, sym, ap, subst, ◌∙◌, arith}
+use Rattle.std.proofs.Common.{◌≡◌, ℕ, Bool, [], Option, Some, None, refl, sym, ap, subst, ◌∙◌, arith}
+use Rattle.cond_vars.proofs.Woken.{rests_done}
+use Rattle.cond_vars.specs.Wakes.{GoesOnWaking, MayWakeUp}
+use Rattle.cond_vars.specs.declared.waking.WakeNext.TheVariants as wake
 use Rattle.floor_table.specs.Views.{Knowledge}
 use Rattle.floor_table.specs.declared.description.Description.{Description}
 use Rattle.halting.specs.Ends.{EndsOn, GoesOnEnding, kept_to}
@@ -17,18 +20,21 @@ use Rattle.lock_calls.specs.declared.answers.Next.{Next as PartNext}
 use Rattle.lock_calls.specs.declared.answers.Next.TheVariants as part
 use Rattle.lock_calls.specs.declared.trying.TryNext.{TryNext}
 use Rattle.lock_calls.specs.declared.trying.TryNext.TheVariants as try
+use Rattle.lock_floor.proofs.Resting.{rest_seeing}
 use Rattle.lock_floor.specs.Floors.{Floor, Pass}
-use Rattle.lock_floor.specs.Passes.{IsOf}
+use Rattle.lock_floor.specs.Marks.{with_marks}
+use Rattle.lock_floor.specs.Passes.{IsAtRest, IsOf, IsReady}
 use Rattle.lock_floor.specs.declared.calls.Call.TheVariants as calls
 use Rattle.lock_floor.specs.declared.calls.ReleaseAt.TheVariants.{Wakes}
 use Rattle.lock_floor.specs.declared.calls.TakeAt.{TakeAt}
 use Rattle.lock_floor.specs.declared.calls.TakeAt.TheVariants.{Checks}
 use Rattle.lock_floor.specs.declared.calls.TryAt.TheVariants.{Tries as TriesAt}
+use Rattle.lock_model.specs.declared.numbers.ChanNo.{ChanNo}
 use Rattle.lock_model.specs.declared.numbers.LockNo.{LockNo}
 use Rattle.lock_model.specs.declared.numbers.ThreadNo.{ThreadNo}
 use Rattle.lock_model.specs.declared.plan.Mode.{Mode}
-use Rattle.floor_calls.specs.Calls.{TakeWent, TryWent, ReleaseWent}
-use Rattle.floor_calls.specs.Stages.{stage_behind, told, told_of_try}
+use Rattle.floor_calls.specs.Calls.{HasBegunWake, TakeWent, TryWent, ReleaseWent}
+use Rattle.floor_calls.specs.Stages.{stage_behind, stage_of_begun, told, told_of_try}
 use Rattle.floor_calls.specs.Threads.{IsAt, IsEndingAt}
 use Rattle.floor_calls.specs.declared.stages.Next.{Next}
 use Rattle.floor_calls.specs.declared.stages.Stage.{Stage}
@@ -148,7 +154,26 @@ module _ (f : Floor Description) (p q : Pass Knowledge) (own : IsOf f q) where
   release_goes_on (part.Reversed r) m went = absurd (went m.l m.mode m.at m.call)
   release_goes_on part.Halted m went = absurd (went m.l m.mode m.at m.call)
 
-  -- 5. An end
+  -- 5. A wake
+
+  pub wake_begins : (c : ChanNo) (all : Bool) (part : Option ℕ) → IsReady f p
+      → MayWakeUp f.description c.0 p.view → HasBegunWake f.description c all part p q
+      → IsAt f (stage_of_begun c all part) q
+  wake_begins c all (Some woken) ready may begun = (own, begun.rest)
+  wake_begins c all None ready may begun = (
+    record {
+      own = own;
+      rest = subst (IsAtRest f.description) (sym begun.0)
+          (rest_seeing f.description p.view q.view.seen ready.rest);
+    },
+    subst (MayWakeUp f.description c.0) (sym begun.0) (record { chan = may.chan; room = may.room }),
+  )
+
+  pub wake_done : IsAtRest f.description (with_marks p.view [])
+      → GoesOnWaking f.description wake.Done p.view q.view → IsReady f q
+  wake_done rest went = record { own = own; rest = rests_done f.description p.view q.view rest went }
+
+  -- 6. An end
 
   taking_kept : (to : EndAt) (k : HaltKept) → (kept_to to k).taking ≡ k.taking
   taking_kept places.Takes k = refl

@@ -14,7 +14,7 @@ use Rattle.floor_calls.specs.First.{IsFirst, none, here, later}
 use Rattle.floor_calls.specs.Stages.{IsInCall}
 use Rattle.floor_calls.specs.Threads.{Thread}
 use Rattle.floor_calls.specs.declared.requests.Request.{Request}
-use Rattle.floor_calls.specs.declared.requests.Request.TheVariants.{Take, Try, Release, End, GoOn}
+use Rattle.floor_calls.specs.declared.requests.Request.TheVariants.{Take, Try, Release, WakeUp, End, GoOn}
 use Rattle.floor_calls.specs.declared.stages.Stage.{Stage}
 use Rattle.floor_calls.specs.declared.stages.Stage.TheVariants as stages
 
@@ -35,6 +35,8 @@ at_rest stages.AtRest e c = refl
 at_rest stages.Takes e c = absurd (c tt)
 at_rest stages.Tries e c = absurd (c tt)
 at_rest stages.Releases e c = absurd (c tt)
+at_rest (stages.ComesToWake d all) e c = absurd (c tt)
+at_rest stages.Wakes e c = absurd (c tt)
 at_rest (stages.Ends at) e c = absurd (c tt)
 at_rest stages.Ended e c = absurd (e refl)
 
@@ -43,6 +45,8 @@ in_call stages.AtRest e r = r refl
 in_call stages.Takes e r = tt
 in_call stages.Tries e r = tt
 in_call stages.Releases e r = tt
+in_call (stages.ComesToWake d all) e r = tt
+in_call stages.Wakes e r = tt
 in_call (stages.Ends at) e r = tt
 in_call stages.Ended e r = absurd (e refl)
 
@@ -105,6 +109,8 @@ none_may (Release l mode) x (later e (later c (later nl (later m (later h (later
     room = some _ s;
   },
 )
+none_may (WakeUp d all) x (later e (later c (later nc (later s none)))) =
+    (at_rest x.stage e c, record { chan = below _ _ nc; room = some _ s })
 none_may End x (later e (later c (later h none))) = (at_rest x.stage e c, is_bare (held_by x) h)
 none_may GoOn x (later e (later r none)) = in_call x.stage e r
 
@@ -131,5 +137,9 @@ may_none (Release l mode) x m =
     (later (λ s. let e : Excl ≡ Shared = sym (m.1.covered.mutex s.1) ∙ s.2 in cc)
     (later (λ h. h m.1.held)
     (later (λ s. omega (arith, s, m.1.room)) none)))))
+may_none (WakeUp d all) x m =
+    later (unended x m.0) (later (idle x m.0)
+    (later (λ nc. omega (arith, nc, m.1.chan))
+    (later (λ s. omega (arith, s, m.1.room)) none)))
 may_none End x m = later (unended x m.0) (later (idle x m.0) (later (λ h. h m.1) none))
 may_none GoOn x m = later (λ e. subst IsInCall e m) (later (λ r. subst IsInCall r m) none)

@@ -1,6 +1,8 @@
 -- What a call of a thread does where it is made, and what each call promises.
-use Rattle.std.specs.Prelude.{◌≡◌, ◌↔◌, Option, Some, None, Result, Ok, Err, IsOk, IfOk, IfErr}
-use Rattle.floor_table.specs.Views.{Knowledge}
+use Rattle.std.specs.Prelude.{◌≡◌, ◌↔◌, ℕ, Bool, Option, Some, None, Result, Ok, Err, IsOk, IfOk, IfErr}
+use Rattle.cond_vars.specs.Wakes.{GoesOnWaking, HasTakenOff}
+use Rattle.cond_vars.specs.declared.waking.WakeNext.{WakeNext}
+use Rattle.floor_table.specs.Views.{Knowledge, seeing}
 use Rattle.floor_table.specs.declared.description.Description.{Description}
 use Rattle.halting.specs.Ends.{GoesOnEnding}
 use Rattle.halting.specs.declared.ending.EndAt.{EndAt}
@@ -12,22 +14,27 @@ use Rattle.lock_calls.specs.Tries.{HasBegunTry, GoesOnTrying}
 use Rattle.lock_calls.specs.declared.answers.Next.{Next as PartNext}
 use Rattle.lock_calls.specs.declared.trying.TryNext.{TryNext}
 use Rattle.lock_floor.specs.Floors.{Pass}
+use Rattle.lock_floor.specs.Latches.{FindsOut}
+use Rattle.lock_floor.specs.Waits.{its_chain}
 use Rattle.lock_floor.specs.declared.calls.Call.TheVariants as calls
 use Rattle.lock_floor.specs.declared.calls.ReleaseAt.{ReleaseAt}
 use Rattle.lock_floor.specs.declared.calls.TakeAt.{TakeAt}
 use Rattle.lock_floor.specs.declared.calls.TryAt.{TryAt}
+use Rattle.lock_model.specs.Queues.{chan_queue}
+use Rattle.lock_model.specs.declared.numbers.ChanNo.{ChanNo}
 use Rattle.lock_model.specs.declared.numbers.LockNo.{LockNo}
 use Rattle.lock_model.specs.declared.plan.Mode.{Mode}
 use Rattle.floor_calls.specs.Causes.{MayCall, Says, causes}
 use Rattle.floor_calls.specs.First.{IsFirst}
-use Rattle.floor_calls.specs.Stages.{stage_behind, stage_of_end, told, told_of_end, told_of_try}
+use Rattle.floor_calls.specs.Stages.{stage_behind, stage_of_begun, stage_of_end, stage_of_wake, told, told_of_end, told_of_try, told_of_wake}
 use Rattle.floor_calls.specs.Threads.{Thread}
 use Rattle.floor_calls.specs.declared.requests.Cause.{Cause}
 use Rattle.floor_calls.specs.declared.requests.Request.{Request}
-use Rattle.floor_calls.specs.declared.requests.Request.TheVariants.{Take, Try, Release, End, GoOn}
+use Rattle.floor_calls.specs.declared.requests.Request.TheVariants.{Take, Try, Release, WakeUp, End, GoOn}
 use Rattle.floor_calls.specs.declared.stages.Next.{Next}
+use Rattle.floor_calls.specs.declared.stages.Next.TheVariants.{Again}
 use Rattle.floor_calls.specs.declared.stages.Stage.{Stage}
-use Rattle.floor_calls.specs.declared.stages.Stage.TheVariants.{AtRest, Takes, Tries, Releases, Ends, Ended}
+use Rattle.floor_calls.specs.declared.stages.Stage.TheVariants.{AtRest, Takes, Tries, Releases, ComesToWake, Wakes, Ends, Ended}
 
 -- 1. A part of a call
 
@@ -52,6 +59,21 @@ abbrev pub MakesTryPart : (TryNext → Pass Knowledge → Pass Knowledge → Typ
     → Pass Knowledge → Pass Knowledge → Type 0
 MakesTryPart Did next stage p q =
     Makes TryNext told_of_try (λ part. stage_behind Tries (told_of_try part)) Did next stage p q
+
+-- a wake began, and took off those whose bits it tells; or it found the channel's chain out
+abbrev pub HasBegunWake : Description → ChanNo → Bool → Option ℕ → Pass Knowledge → Pass Knowledge
+    → Type 0
+HasBegunWake floor c all (Some woken) p q = HasTakenOff floor c all woken p.view q.view
+HasBegunWake floor c all None p q =
+    (q.view ≡ seeing q.view.seen p.view)
+    × FindsOut floor (its_chain floor (chan_queue c.0)) p.view q.view
+
+-- so the begin of a wake
+abbrev pub MakesWakePart : Description → ChanNo → Bool → Next → Stage → Pass Knowledge
+    → Pass Knowledge → Type 0
+MakesWakePart floor c all next stage p q =
+    Makes (Option ℕ) (λ part. Again) (stage_of_begun c all) (HasBegunWake floor c all)
+    next stage p q
 
 -- a part of a thread's end, from there
 abbrev pub MakesEndPart : Description → EndAt → Next → Stage → Pass Knowledge → Pass Knowledge
@@ -84,6 +106,10 @@ GoesOn floor AtRest next stage p q = ⊥
 GoesOn floor Takes next stage p q = MakesPart Takes (TakeWent floor) next stage p q
 GoesOn floor Tries next stage p q = MakesTryPart (TryWent floor) next stage p q
 GoesOn floor Releases next stage p q = MakesPart Releases (ReleaseWent floor) next stage p q
+GoesOn floor (ComesToWake c all) next stage p q = MakesWakePart floor c all next stage p q
+GoesOn floor Wakes next stage p q =
+    Makes WakeNext told_of_wake stage_of_wake (λ part r s. GoesOnWaking floor part r.view s.view)
+    next stage p q
 GoesOn floor (Ends at) next stage p q = MakesEndPart floor at next stage p q
 GoesOn floor Ended next stage p q = ⊥
 
@@ -97,6 +123,8 @@ Does (Try l mode) next x y =
     MakesTryPart (HasBegunTry x.floor.description l mode) next y.stage x.pass y.pass
 Does (Release l mode) next x y =
     MakesPart Releases (HasBegunRelease x.floor.description l mode) next y.stage x.pass y.pass
+Does (WakeUp c all) next x y =
+    MakesWakePart x.floor.description c all next y.stage x.pass y.pass
 Does End next x y = MakesEndPart x.floor.description places.Takes next y.stage x.pass y.pass
 Does GoOn next x y = GoesOn x.floor.description x.stage next y.stage x.pass y.pass
 

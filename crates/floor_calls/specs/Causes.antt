@@ -10,14 +10,15 @@ use Rattle.lock_model.specs.declared.numbers.LockNo.{LockNo}
 use Rattle.lock_model.specs.declared.plan.Kind.TheVariants.{Mtx, Sx}
 use Rattle.lock_model.specs.declared.plan.Mode.{Mode}
 use Rattle.lock_model.specs.declared.plan.Mode.TheVariants.{Shared}
+use Rattle.cond_vars.specs.Wakes.{MayWakeUp}
 use Rattle.floor_table.specs.Descriptions.{config_in}
 use Rattle.lock_calls.specs.Steps.{MayTake, MayRelease}
 use Rattle.floor_calls.specs.Stages.{IsInCall}
 use Rattle.floor_calls.specs.Threads.{Thread}
 use Rattle.floor_calls.specs.declared.requests.Cause.{Cause}
-use Rattle.floor_calls.specs.declared.requests.Cause.TheVariants.{Ended, InCall, AtRest, NoLock, NoMode, Held, HoldsUnsleepable, NotHeld, HoldsMost, HoldsSome, Spent}
+use Rattle.floor_calls.specs.declared.requests.Cause.TheVariants.{Ended, InCall, AtRest, NoLock, NoMode, NoChan, Held, HoldsUnsleepable, NotHeld, HoldsMost, HoldsSome, Spent}
 use Rattle.floor_calls.specs.declared.requests.Request.{Request}
-use Rattle.floor_calls.specs.declared.requests.Request.TheVariants.{Take, Try, Release, End, GoOn}
+use Rattle.floor_calls.specs.declared.requests.Request.TheVariants.{Take, Try, Release, WakeUp, End, GoOn}
 use Rattle.floor_calls.specs.declared.stages.Stage.TheVariants as stages
 
 -- the locks that a thread holds
@@ -40,6 +41,7 @@ Says (NoLock l) x = length x.floor.description.locks ≤ l.0
 Says (NoMode l mode) x =
     (l.0 < length x.floor.description.locks) × ((config_in x.floor.description).kind l.0 ≡ Mtx)
     × (mode ≡ Shared)
+Says (NoChan c) x = length x.floor.description.chans ≤ c.0
 Says (Held l) x = (mode : Mode) × (hold_in (held_by x) l.0 ≡ Holds mode)
 Says (HoldsUnsleepable l) x =
     ((config_in x.floor.description).kind l.0 ≡ Sx) × HoldsMutexOrRw x
@@ -58,6 +60,7 @@ causes (Try l mode) =
     ∷ Spent ∷ []
 causes (Release l mode) =
     Ended ∷ InCall ∷ NoLock l ∷ NoMode l mode ∷ NotHeld l mode ∷ Spent ∷ []
+causes (WakeUp c all) = Ended ∷ InCall ∷ NoChan c ∷ Spent ∷ []
 causes End = Ended ∷ InCall ∷ HoldsSome ∷ []
 causes GoOn = Ended ∷ AtRest ∷ []
 
@@ -80,5 +83,7 @@ MayCall (Try l mode) x =
     (x.stage ≡ stages.AtRest) × MayTake x.floor.description l.0 mode x.pass.view × MaySleepFor x l
 MayCall (Release l mode) x =
     (x.stage ≡ stages.AtRest) × MayRelease x.floor.description l.0 mode x.pass.view
+MayCall (WakeUp c all) x =
+    (x.stage ≡ stages.AtRest) × MayWakeUp x.floor.description c.0 x.pass.view
 MayCall End x = (x.stage ≡ stages.AtRest) × (held_by x ≡ [])
 MayCall GoOn x = IsInCall x.stage

@@ -1,15 +1,19 @@
 -- How a thread's stage follows from what a call answered, and how this crate's answers tell those of the parts of
 -- calls.
+use Rattle.std.specs.Prelude.{Bool, ℕ, Option, Some, None}
+use Rattle.cond_vars.specs.declared.waking.WakeNext.{WakeNext}
+use Rattle.cond_vars.specs.declared.waking.WakeNext.TheVariants as wake
 use Rattle.halting.specs.declared.ending.EndNext.{EndNext}
 use Rattle.halting.specs.declared.ending.EndNext.TheVariants as end
 use Rattle.lock_calls.specs.declared.answers.Next.{Next as PartNext}
 use Rattle.lock_calls.specs.declared.answers.Next.TheVariants as part
 use Rattle.lock_calls.specs.declared.trying.TryNext.{TryNext}
 use Rattle.lock_calls.specs.declared.trying.TryNext.TheVariants as try
+use Rattle.lock_model.specs.declared.numbers.ChanNo.{ChanNo}
 use Rattle.floor_calls.specs.declared.stages.Next.{Next}
 use Rattle.floor_calls.specs.declared.stages.Next.TheVariants.{Done, Again, Sleep, Wake, Busy, Reversed, Halted}
 use Rattle.floor_calls.specs.declared.stages.Stage.{Stage}
-use Rattle.floor_calls.specs.declared.stages.Stage.TheVariants.{AtRest, Takes, Tries, Releases, Ends, Ended}
+use Rattle.floor_calls.specs.declared.stages.Stage.TheVariants.{AtRest, Takes, Tries, Releases, ComesToWake, Wakes, Ends, Ended}
 
 -- a thread at that stage is in the middle of a call
 abbrev pub IsInCall : Stage → Type 0
@@ -17,6 +21,8 @@ IsInCall AtRest = ⊥
 IsInCall Takes = Unit {0}
 IsInCall Tries = Unit {0}
 IsInCall Releases = Unit {0}
+IsInCall (ComesToWake c all) = Unit {0}
+IsInCall Wakes = Unit {0}
 IsInCall (Ends at) = Unit {0}
 IsInCall Ended = ⊥
 
@@ -36,6 +42,17 @@ stage_of_end end.Done = Ended
 stage_of_end (end.Again to) = Ends to
 stage_of_end (end.Wake t to) = Ends to
 
+-- the stage behind the begin of a wake: it is to be begun again, or those who were taken off are to be woken
+abbrev pub stage_of_begun : ChanNo → Bool → Option ℕ → Stage
+stage_of_begun c all None = ComesToWake c all
+stage_of_begun c all (Some woken) = Wakes
+
+-- and behind a part of it
+abbrev pub stage_of_wake : WakeNext → Stage
+stage_of_wake wake.Done = AtRest
+stage_of_wake wake.Again = Wakes
+stage_of_wake (wake.Wake t) = Wakes
+
 -- what is told of a part of a take or of a release
 abbrev pub told : PartNext → Next
 told part.Done = Done
@@ -50,6 +67,12 @@ abbrev pub told_of_try : TryNext → Next
 told_of_try try.Gained = Done
 told_of_try (try.Busy seen) = Busy seen
 told_of_try try.Again = Again
+
+-- of a wake
+abbrev pub told_of_wake : WakeNext → Next
+told_of_wake wake.Done = Done
+told_of_wake wake.Again = Again
+told_of_wake (wake.Wake t) = Wake t
 
 -- and of a thread's end
 abbrev pub told_of_end : EndNext → Next

@@ -1,5 +1,6 @@
 -- A thread as its caller has it, and what is so of it at each stage.
-use Rattle.std.specs.Prelude.{◌≡◌, None}
+use Rattle.std.specs.Prelude.{◌≡◌, [], None}
+use Rattle.cond_vars.specs.Wakes.{MayWakeUp}
 use Rattle.floor_table.specs.Views.{Knowledge}
 use Rattle.floor_table.specs.declared.description.Description.{Description}
 use Rattle.halting.specs.Ends.{IsEnding}
@@ -8,9 +9,10 @@ use Rattle.lock_calls.specs.Releases.{IsInRelease}
 use Rattle.lock_calls.specs.Takes.{IsInTake}
 use Rattle.lock_calls.specs.Tries.{IsInTry}
 use Rattle.lock_floor.specs.Floors.{Floor, Pass}
-use Rattle.lock_floor.specs.Passes.{IsOf, IsFinished, IsReady}
+use Rattle.lock_floor.specs.Marks.{with_marks}
+use Rattle.lock_floor.specs.Passes.{IsAtRest, IsOf, IsFinished, IsReady}
 use Rattle.floor_calls.specs.declared.stages.Stage.{Stage}
-use Rattle.floor_calls.specs.declared.stages.Stage.TheVariants.{AtRest, Takes, Tries, Releases, Ends, Ended}
+use Rattle.floor_calls.specs.declared.stages.Stage.TheVariants.{AtRest, Takes, Tries, Releases, ComesToWake, Wakes, Ends, Ended}
 
 -- which floor it is a thread of, its pass there, and its stage
 pub record Thread : Type 0 where
@@ -24,12 +26,15 @@ pub record IsEndingAt (f : Floor Description) (at : EndAt) (p : Pass Knowledge) 
   pub there : IsEnding f.description at p.view
   pub takes_nothing : p.view.share.doing.taking ≡ None
 
--- At rest its pass is ready; in the middle of a call it is the floor's, and stands in that call; and behind its end it
--- is finished
+-- At rest its pass is ready; in the middle of a call it is the floor's, and stands in that call: with a wake that it is
+-- to begin again it is ready and may begin it, and with those whom it has yet to wake it is at rest but for them; and
+-- behind its end it is finished
 abbrev pub IsAt : Floor Description → Stage → Pass Knowledge → Type 0
 IsAt f AtRest p = IsReady f p
 IsAt f Takes p = IsOf f p × IsInTake f.description p
 IsAt f Tries p = IsOf f p × IsInTry f.description p
 IsAt f Releases p = IsOf f p × IsInRelease f.description p
+IsAt f (ComesToWake c all) p = IsReady f p × MayWakeUp f.description c.0 p.view
+IsAt f Wakes p = IsOf f p × IsAtRest f.description (with_marks p.view [])
 IsAt f (Ends at) p = IsEndingAt f at p
 IsAt f Ended p = IsFinished f p

@@ -2,12 +2,12 @@
 ghost use Rattle.floor_calls.specs.Calls.{Answers};
 ghost use Rattle.floor_calls.specs.declared.requests.Request.TheVariants as request;
 
-use crate::parts::{attempt, end, go_on, release, take};
+use crate::parts::{attempt, end, go_on, release, take, wake_up};
 use crate::requests::{Cause, Request};
 use crate::stages::Next;
 use crate::thread::Thread;
 use halting::EndAt;
-use lock_model::{LockNo, Mode};
+use lock_model::{ChanNo, LockNo, Mode};
 
 impl Thread {
     /// Begins a take of a lock in a mode, as `begin_take` of `lock_calls`. `Ok` comes exactly where the thread is in
@@ -51,6 +51,22 @@ impl Thread {
             Some(cause) => Err(cause),
             None => {
                 let made = release(&self.shared.floor, &mut self.pass, l, mode);
+                self.stage = made.1;
+                Ok(made.0)
+            }
+        }
+    }
+
+    /// Begins a wake of a condition variable or channel, of its most important sleeper or of all, as `begin_wakeup` of
+    /// `cond_vars`. Each who is woken is told by a `Wake`. `Ok` comes exactly where the thread is in the middle of no
+    /// call and hasn't ended, the floor has that condition variable or channel, and its log has room for an entry.
+    pub fn begin_wakeup(&mut self, c: ChanNo, all: bool) -> Result<Next, Cause>
+        ensures { Answers (request.WakeUp c all) result self.old self.new }
+    {
+        match self.against(Request::WakeUp { c, all }) {
+            Some(cause) => Err(cause),
+            None => {
+                let made = wake_up(&self.shared.floor, &mut self.pass, c, all);
                 self.stage = made.1;
                 Ok(made.0)
             }

@@ -12,7 +12,8 @@
 //! - `stages`: at which stage a thread is between two calls, and what a call answers.
 //! - `requests`: what a caller can ask for, and what may stand against it.
 //! - `thread`: a thread, and what stands against a call of it.
-//! - `calls`: its calls, and `parts`: the parts of locks' calls and of the thread's end, of which they are made.
+//! - `calls`: its calls, and `parts`: the parts of locks' calls, of wakes and of the thread's end, over which they
+//!   stand.
 #![tactic(auto)]
 
 mod calls;

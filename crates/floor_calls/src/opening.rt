@@ -137,8 +137,16 @@ fn make(alloc: Global, description: Description) -> Result<(OpenFloor, Vec<Threa
 {
     let left = description.threads.as_slice().len();
     let locks = description.locks.as_slice().len();
+    let chans = description.chans.as_slice().len();
     let (floor, keeper, passes) = Floor::of_description(alloc, description)?;
-    let shared = share(alloc, Shared { floor, locks })?;
+    let shared = share(
+        alloc,
+        Shared {
+            floor,
+            locks,
+            chans,
+        },
+    )?;
     let all = hand_out(alloc, &shared, passes)?;
     let open = OpenFloor {
         shared,

@@ -1,9 +1,10 @@
 //! The parts of locks' calls and of a thread's end, told in this crate's words, with the thread's stage behind each.
 ghost use Rattle.std.specs.Prelude.{◌≡◌};
-ghost use Rattle.floor_calls.specs.Calls.{GoesOn, MakesEndPart, MakesPart, MakesTryPart};
+ghost use Rattle.cond_vars.specs.Wakes.{MayWakeUp};
+ghost use Rattle.floor_calls.specs.Calls.{GoesOn, MakesEndPart, MakesPart, MakesTryPart, MakesWakePart};
 ghost use Rattle.floor_calls.specs.Stages.{IsInCall, stage_behind};
 ghost use Rattle.floor_calls.specs.Threads.{IsAt, IsEndingAt};
-ghost use Rattle.floor_calls.specs.declared.stages.Stage.TheVariants.{Takes, Tries, Releases};
+ghost use Rattle.floor_calls.specs.declared.stages.Stage.TheVariants.{Takes, Tries, Releases, Wakes};
 ghost use Rattle.lock_calls.specs.Releases.{HasBegunRelease};
 ghost use Rattle.lock_calls.specs.Steps.{MayRelease, MayTake};
 ghost use Rattle.lock_calls.specs.Takes.{HasBegunTake};
@@ -11,12 +12,13 @@ ghost use Rattle.lock_calls.specs.Tries.{HasBegunTry};
 ghost use Rattle.lock_floor.specs.Passes.{IsReady};
 
 use crate::stages::{Next, Stage, stage_behind, told, told_of_try};
+use cond_vars::{WakeNext, begin_wakeup, go_on_waking};
 use halting::{EndAt, EndNext, go_on_ending};
 use lock_calls::{
     begin_release, begin_take, begin_try, go_on_releasing, go_on_taking, go_on_trying,
 };
 use lock_floor::{Floor, Pass};
-use lock_model::{LockNo, Mode};
+use lock_model::{ChanNo, LockNo, Mode};
 
 // Begins a take.
 pub(crate) fn take(floor: &Floor, pass: &mut Pass, l: LockNo, mode: Mode) -> (Next, Stage)
@@ -54,6 +56,19 @@ pub(crate) fn release(floor: &Floor, pass: &mut Pass, l: LockNo, mode: Mode) -> 
     behind(Stage::Releases, told(part))
 }
 
+// Begins a wake, or begins it again where another thread had the channel's chain.
+pub(crate) fn wake_up(floor: &Floor, pass: &mut Pass, c: ChanNo, all: bool) -> (Next, Stage)
+    requires ready { IsReady floor.now pass.old }
+    requires may { MayWakeUp floor.now.description c.0 pass.old.view }
+    ensures at { IsAt floor.now result.1 pass.new }
+    ensures did { MakesWakePart floor.now.description c all result.0 result.1 pass.old pass.new }
+{
+    match begin_wakeup(floor, pass, c, all) {
+        None => (Next::Again, Stage::ComesToWake { c, all }),
+        Some(_) => (Next::Again, Stage::Wakes),
+    }
+}
+
 // Goes on with the end of a thread that stands there, and finishes its pass where that is done.
 pub(crate) fn end(floor: &Floor, pass: &mut Pass, at: EndAt) -> (Next, Stage)
     requires there { IsEndingAt floor.now at pass.old }
@@ -82,6 +97,8 @@ pub(crate) fn go_on(floor: &Floor, pass: &mut Pass, stage: Stage) -> (Next, Stag
         Stage::Takes => go_on_in_take(floor, pass),
         Stage::Tries => go_on_in_try(floor, pass),
         Stage::Releases => go_on_in_release(floor, pass),
+        Stage::ComesToWake { c, all } => wake_up(floor, pass, c, all),
+        Stage::Wakes => go_on_in_wake(floor, pass),
         Stage::Ends(at) => end(floor, pass, at),
         Stage::AtRest | Stage::Ended => unreachable!(),
     }
@@ -116,6 +133,19 @@ fn go_on_in_release(floor: &Floor, pass: &mut Pass) -> (Next, Stage)
 {
     let part = go_on_releasing(floor, pass);
     behind(Stage::Releases, told(part))
+}
+
+// Goes on with a wake that has taken sleepers off.
+fn go_on_in_wake(floor: &Floor, pass: &mut Pass) -> (Next, Stage)
+    requires there { IsAt floor.now Wakes pass.old }
+    ensures at { IsAt floor.now result.1 pass.new }
+    ensures did { GoesOn floor.now.description Wakes result.0 result.1 pass.old pass.new }
+{
+    match go_on_waking(floor, pass) {
+        WakeNext::Done => (Next::Done, Stage::AtRest),
+        WakeNext::Again => (Next::Again, Stage::Wakes),
+        WakeNext::Wake(t) => (Next::Wake(t), Stage::Wakes),
+    }
 }
 
 // What a part of a lock's call answered, and the stage behind it.

@@ -1,6 +1,6 @@
 //! What a caller can ask of a thread, and what may stand against it.
 
-use lock_model::{LockNo, Mode};
+use lock_model::{ChanNo, LockNo, Mode};
 
 /// What a caller asks of a thread.
 #[derive(Clone, Copy, Debug, PartialEq, Eq)]
@@ -11,6 +11,8 @@ pub enum Request {
     Try { l: LockNo, mode: Mode },
     /// To begin a release of a lock that is held in a mode.
     Release { l: LockNo, mode: Mode },
+    /// To begin a wake of a condition variable or channel: of its most important sleeper, or of all.
+    WakeUp { c: ChanNo, all: bool },
     /// To begin the thread's end.
     End,
     /// To go on with the call that it is in the middle of.
@@ -30,6 +32,8 @@ pub enum Cause {
     NoLock(LockNo),
     /// The lock has no such mode: it is a mutex, which is never shared.
     NoMode(LockNo, Mode),
+    /// The floor has no such condition variable or channel.
+    NoChan(ChanNo),
     /// The thread holds the lock already.
     Held(LockNo),
     /// The lock is an sx lock, and the thread holds a mutex or a reader-writer lock, over which it may not sleep.

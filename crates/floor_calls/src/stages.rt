@@ -4,7 +4,7 @@ ghost use Rattle.floor_calls.specs.Stages.{IsInCall, stage_behind, told, told_of
 
 use halting::EndAt;
 use lock_calls::TryNext;
-use lock_model::{Reversal, ThreadNo};
+use lock_model::{ChanNo, Reversal, ThreadNo};
 
 /// At which stage a thread is between two calls.
 #[derive(Clone, Copy, Debug, PartialEq, Eq)]
@@ -17,6 +17,10 @@ pub enum Stage {
     Tries,
     /// It is in the middle of a release.
     Releases,
+    /// It has begun a wake of a condition variable or channel, whose chain it is yet to take.
+    ComesToWake { c: ChanNo, all: bool },
+    /// It has taken sleepers off a condition variable or channel, and wakes one after the other.
+    Wakes,
     /// It is in the middle of its end, and stands there.
     Ends(EndAt),
     /// It has ended.
@@ -48,7 +52,12 @@ pub(crate) fn is_in_call(stage: Stage) -> bool
 {
     match stage {
         Stage::AtRest | Stage::Ended => false,
-        Stage::Takes | Stage::Tries | Stage::Releases | Stage::Ends(_) => true,
+        Stage::Takes
+        | Stage::Tries
+        | Stage::Releases
+        | Stage::ComesToWake { .. }
+        | Stage::Wakes
+        | Stage::Ends(_) => true,
     }
 }
 

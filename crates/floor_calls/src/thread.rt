@@ -94,7 +94,13 @@ impl Thread {
     {
         match self.stage {
             Stage::Ended => true,
-            Stage::AtRest | Stage::Takes | Stage::Tries | Stage::Releases | Stage::Ends(_) => false,
+            Stage::AtRest
+            | Stage::Takes
+            | Stage::Tries
+            | Stage::Releases
+            | Stage::ComesToWake { .. }
+            | Stage::Wakes
+            | Stage::Ends(_) => false,
         }
     }
 
@@ -118,6 +124,12 @@ impl Thread {
                 Cause::NoLock(l),
                 Cause::NoMode(l, mode),
                 Cause::NotHeld(l, mode),
+                Cause::Spent,
+            ]),
+            Request::WakeUp { c, all: _ } => self.first(&[
+                Cause::Ended,
+                Cause::InCall,
+                Cause::NoChan(c),
                 Cause::Spent,
             ]),
             Request::End => self.first(&[Cause::Ended, Cause::InCall, Cause::HoldsSome]),
@@ -166,6 +178,7 @@ impl Thread {
             Cause::AtRest => self.is_at_rest(),
             Cause::NoLock(l) => !self.has_lock(l),
             Cause::NoMode(l, mode) => self.has_no_mode(l, mode),
+            Cause::NoChan(c) => usize::from(c.0) >= self.shared.chans,
             Cause::Held(l) => self.pass.mode(l).is_some(),
             Cause::HoldsUnsleepable(l) => is_sx(self.kind(l)) && self.holds_mutex_or_rw(),
             Cause::NotHeld(l, mode) => !self.holds(l, mode),
@@ -181,7 +194,13 @@ impl Thread {
     {
         match self.stage {
             Stage::AtRest => true,
-            Stage::Takes | Stage::Tries | Stage::Releases | Stage::Ends(_) | Stage::Ended => false,
+            Stage::Takes
+            | Stage::Tries
+            | Stage::Releases
+            | Stage::ComesToWake { .. }
+            | Stage::Wakes
+            | Stage::Ends(_)
+            | Stage::Ended => false,
         }
     }
 

@@ -20,6 +20,11 @@ returns-in-Release c =
     subst (λ (r : Request). IsFirst (λ (q : Cause). Says q c.args.self.now) (causes r) c.first.result)
     (sym c.in-Release.is) c.first.ensures
 
+pub returns-in-WakeUp : goal.returns-in-WakeUp
+returns-in-WakeUp c =
+    subst (λ (r : Request). IsFirst (λ (q : Cause). Says q c.args.self.now) (causes r) c.first-in-WakeUp.result)
+    (sym c.in-WakeUp.is) c.first-in-WakeUp.ensures
+
 pub returns-in-End : goal.returns-in-End
 returns-in-End c =
     subst (λ (r : Request). IsFirst (λ (q : Cause). Says q c.args.self.now) (causes r) c.first-in-End.result)
