@@ -24,8 +24,7 @@ export SCRIPT FORM FROM TO TURNS TITLE BY PREFIX DESTDIR LOCKRUN LOCKPLAN LOCKCH
 # Says what there is to type.
 help:
 	@echo 'make step SCRIPT=PATH     makes the scheduled run of a script, as TURNS=N says; without SCRIPT, $(SCRIPT)'
-	@echo 'make run SCRIPT=PATH      runs it with a thread of its own for each thread of the script: without conditions'
-	@echo '                          and channels so far'
+	@echo 'make run SCRIPT=PATH      runs it with a thread of its own for each thread of the script'
 	@echo 'make plan SCRIPT=PATH     writes it with turns by priority behind its schedule; BY="chance SEED": by chance;'
 	@echo '                          BY="priority --without-loans": by base priorities'
 	@echo 'make chart SCRIPT=PATH    draws its scheduled run into a file of out/; FORM=html, trace, text, json for another;'

@@ -19,12 +19,12 @@ use std::sync::Wait;
 const FREE: u64 = 0;
 
 /// Takes a mutex. Where the thread holds nothing it makes one exchange first. Then it has the mutex's order checked
-/// behind the locks that the thread holds, and looks and tries in a round, at most 100 times in all, and only while the
-/// mutex's owner isn't queued. Then it takes the lock's chain, and gains the mutex there, or stands on its turnstile,
-/// sleeps until it is woken, and begins another round. `Err` comes exactly where, by the class graph as this call's
-/// check found it, the class of a lock that the thread holds forbids that of the mutex: it has the first such class in
-/// order of acquisition, the refusal is noted, and nothing else of the thread is new. A thread that holds nothing is
-/// never refused. The floor has one chain of turnstiles.
+/// behind the locks that the thread holds, and looks and tries in a round, at most 100 times in all; behind a look it
+/// looks again only where the mutex's owner isn't queued. Then it takes the lock's chain, and gains the mutex there, or
+/// stands on its turnstile, sleeps until it is woken, and begins another round. `Err` comes exactly where, by the class
+/// graph as this call's check found it, the class of a lock that the thread holds forbids that of the mutex: it has the
+/// first such class in order of acquisition, the refusal is noted, and nothing else of the thread is new. A thread that
+/// holds nothing is never refused. The floor has one chain of turnstiles.
 pub fn lock<R: Wait>(floor: &Floor, rt: &R, pass: &mut Pass, l: LockNo) -> Result<(), Reversal>
     requires ready { IsReady floor.now pass.old }
     requires may { MayAcquire floor.now.description l.0 pass.old.view }

@@ -1,21 +1,25 @@
 -- What steps change: a look, and the columns of who holds a lock and whether its section began. Behind each change who
 -- had a lock still has it.
-use Rattle.std.proofs.Common.{◌≡◌, ℕ, zero, suc, Bool, true, false, not, cond, eqb, ◌&&◌, ◌||◌, List, ◌∷◌, Some, None, refl, sym, ap, inl, inr, arith, eq-eqb, subst, ◌∙◌}
+use Rattle.std.proofs.Common.{◌≡◌, ℕ, zero, suc, Bool, true, false, not, cond, eqb, ◌&&◌, ◌||◌, List, [], ◌∷◌, Some, None, refl, sym, ap, inl, inr, arith, eq-eqb, subst, ◌∙◌}
 use Rattle.std.proofs.lemmas.Bool.{eqb-true, lt-ltb, or_cases, or_left, or_right, and_from, and_parts}
 use Rattle.std.proofs.lemmas.Option.{same_Some}
 use Rattle.lock_model.specs.Config.{Config}
 use Rattle.lock_model.specs.Events.{facets}
 use Rattle.lock_model.specs.History.{begun_by, left_in}
 use Rattle.lock_model.specs.Holds.{Hold, NotHeld, Holds}
+use Rattle.lock_model.specs.Queues.{Waiter}
 use Rattle.lock_model.specs.Words.{holder_of, is_free, word_of}
 use Rattle.lock_model.specs.declared.plan.Mode.{Mode}
+use Rattle.lock_model.specs.declared.plan.QueueName.{QueueName}
+use Rattle.lock_model.specs.declared.plan.QueueName.TheVariants.{Lock, Chan}
 use Rattle.lock_model.specs.declared.event.Event.{Event}
 use Rattle.lock_model.specs.declared.event.Event.TheVariants.{Locked, Tried, Busy, Woke, HaltedChan}
 use Rattle.lock_model.specs.declared.event.Entry.{Entry}
 use Rattle.lock_state.specs.State.{State, Look, put, put_at}
 use Rattle.lock_state.specs.Facts.{Lawful}
 use Rattle.lock_state.specs.Steps.LockWords.{MayStamp, begun_after, entry_of}
-use Rattle.lock_laws.proofs.Kit.{at_put}
+use Rattle.lock_state.specs.Steps.SleepQueues.{look_leaving}
+use Rattle.lock_laws.proofs.Kit.{at_put, put_back}
 use Rattle.lock_laws.proofs.Words.{refused_held}
 use Rattle.lock_model.specs.BusyWords.{is_in_mode, has_section, is_had_by_another, WordHasHolder, BusyWordsHaveHolders}
 use Rattle.busy_laws.specs.Holders.{BusyWordsFit, BegunAreNoted, LooksHaveHolders, has_another, has_or_begins}
@@ -75,6 +79,17 @@ module _ (c : Config) (s : State) (x : BusyWordsFit c s) (t : ℕ) where
       still_had c had (has_or_begins c held has_begun history) more u look.lock look.word.holder
       (x.looks_have_holders u look e
       (ap (λ h. has_another h look.word.holder) (sym (others u look.lock ne)) ∙ a)))
+
+  -- an abort leaves its thread's last look, or none
+  looks_same : LooksHaveHolders c s.held s.has_begun (put s.last_look t (s.last_look t)) s.history
+  looks_same = subst (λ looks. LooksHaveHolders c s.held s.has_begun looks s.history)
+      (sym (put_back s.last_look t (s.last_look t) refl)) x.looks_have_holders
+
+  pub looks_left : (q : QueueName) (left : List Waiter)
+      → LooksHaveHolders c s.held s.has_begun (put s.last_look t (look_leaving q left (s.last_look t))) s.history
+  looks_left (Lock l) [] = looks_less s.held s.has_begun s.history (λ u k m e. e) (λ u k ne. refl)
+  looks_left (Lock l) (w ∷ ws) = looks_same
+  looks_left (Chan d) left = looks_same
 
   -- a look sees the word as it is
   pub looks_more : Lawful c s → (l : ℕ)

@@ -6,13 +6,14 @@ use Rattle.std.proofs.lemmas.Bool.{or_cases, and_parts}
 use Rattle.lock_model.specs.Config.{Config}
 use Rattle.lock_model.specs.Events.{OfTake, NoTake, GainedBy, FoundBusy, HaltedFor, RefusedBy}
 use Rattle.lock_model.specs.Holds.{NotHeld, Holds, is_unheld}
+use Rattle.lock_model.specs.Queues.{list_of, without}
 use Rattle.lock_model.specs.declared.plan.Mode.{Mode}
 use Rattle.lock_model.specs.declared.plan.Mode.TheVariants.{Excl}
 use Rattle.lock_model.specs.declared.event.Entry.{Entry}
 use Rattle.lock_state.specs.State.{State, start_state, put, put_at}
 use Rattle.lock_state.specs.Facts.{Lawful, HeldAreListed, OnlyThreadsHold}
 use Rattle.lock_state.specs.Facts.Words.{is_listed}
-use Rattle.lock_state.specs.Steps.{Step, Looks, Gains, Drops, Stamps, Enters, Opens, EntersSleepQueue, OpensSleepQueue, Claims, May, MayAll, after, after_all}
+use Rattle.lock_state.specs.Steps.{Step, Looks, Gains, Drops, Stamps, Enters, Opens, EntersSleepQueue, OpensSleepQueue, Claims, Aborts, May, MayAll, after, after_all}
 use Rattle.lock_state.specs.Steps.LockWords.{after_seek, after_look, after_gain, after_drop, after_stamp, after_ready, after_unready}
 use Rattle.lock_state.specs.Steps.Turnstiles.{after_enter, after_open, after_mark, after_resume}
 use Rattle.lock_state.specs.Steps.SleepQueues.{after_enter_sleep, after_open_sleep, after_add, after_wake, after_abort}
@@ -25,7 +26,7 @@ use Rattle.lock_laws.proofs.Steps as lawful
 use Rattle.lock_model.specs.BusyWords.{is_in_mode, has_section, WordHasHolder, BusyWordsHaveHolders, BusyIsExplained}
 use Rattle.busy_laws.specs.Holders.{BusyWordsFit, BegunAreNoted, LooksHaveHolders, NobodyHasToBegin, has_or_begins}
 use Rattle.busy_laws.proofs.Had.{still_have, mode_is}
-use Rattle.busy_laws.proofs.Changes.{looks_less, looks_more, gain_noted, gain_more, left_noted, left_more, stamp_noted, stamp_more, stamp_words}
+use Rattle.busy_laws.proofs.Changes.{looks_less, looks_left, looks_more, gain_noted, gain_more, left_noted, left_more, stamp_noted, stamp_more, stamp_words}
 
 -- 1. Steps
 
@@ -103,6 +104,11 @@ module _ (c : Config) (s : State) (l : Lawful c s) (x : BusyWordsFit c s) where
   keeps (EntersSleepQueue t j mode y) g = record {
     begun_are_noted = x.begun_are_noted;
     looks_have_holders = entered t;
+    busy_words_have_holders = x.busy_words_have_holders;
+  }
+  keeps (Aborts t q side u) g = record {
+    begun_are_noted = x.begun_are_noted;
+    looks_have_holders = looks_left c s x t q (without u (list_of side (s.lists q)));
     busy_words_have_holders = x.busy_words_have_holders;
   }
   keeps other g = record {

@@ -1,16 +1,14 @@
 //! Wrong calls are answered, and right ones go on: each row is a thread, what is asked of it, and what the rules of the
 //! calls say that it answers. A row that goes on does so until that answers something else than to go on.
+use crate::asking::ask;
 use crate::floors::{Parts, describe};
-use floor_calls::{Cause, Next, OpenFloor, Request, Thread};
+use floor_calls::{Cause, Next, OpenFloor, Request};
 use lock_model::{ChanNo, ClassNo, LockNo, Mode, Reversal, ThreadNo};
 use std::test::Fail;
 
-// How many parts of a call are made in a row at most: a take looks 100 times, and has a few other parts.
-const PARTS: u32 = 1_000;
-
 // The threads have room for so many entries; locks 2 to 9 are sx locks.
 const FLOOR: Parts = Parts {
-    rooms: &[4, 1, 2, 9, 7],
+    rooms: &[4, 1, 2, 9, 7, 4, 3, 2, 10],
     locks: 10,
     class: 9,
     channels: 1,
@@ -94,15 +92,16 @@ const TAKE_NONE: Request = Request::Take {
     mode: Mode::Excl,
 };
 
-const WAKE_ALL: Request = Request::WakeUp {
-    c: ChanNo(0),
-    all: true,
-};
+// The condition variable of the mutex.
+const C: ChanNo = ChanNo(0);
 
-const WAKE_ONE: Request = Request::WakeUp {
-    c: ChanNo(0),
-    all: false,
-};
+const WAIT: Request = Request::Wait { c: C };
+
+const WAIT_NONE: Request = Request::Wait { c: ChanNo(1) };
+
+const WAKE_ALL: Request = Request::WakeUp { c: C, all: true };
+
+const WAKE_ONE: Request = Request::WakeUp { c: C, all: false };
 
 const WAKE_NONE: Request = Request::WakeUp {
     c: ChanNo(1),
@@ -164,6 +163,45 @@ const ROWS: &[(usize, Request, Result<Next, Cause>)] = &[
     (4, WAKE_ONE, Ok(Next::Again)),
     (4, Request::GoOn, Ok(Next::Done)),
     (4, WAKE_ONE, Err(Cause::Spent)),
+    // Who waits gives the mutex up and sleeps, until a wake.
+    (5, WAIT_NONE, Err(Cause::NoChan(ChanNo(1)))),
+    (5, WAIT, Err(Cause::NotLast(C))),
+    (5, TAKE_M, Ok(Next::Done)),
+    (5, WAIT, Ok(Next::Again)),
+    (5, WAIT, Err(Cause::InCall)),
+    (5, Request::GoOn, Ok(Next::Sleep)),
+    (5, Request::GoOn, Ok(Next::Sleep)),
+    (6, TAKE_M, Ok(Next::Done)),
+    (6, WAKE_ONE, Ok(Next::Again)),
+    (6, Request::GoOn, Ok(Next::Wake(ThreadNo(5)))),
+    (6, Request::GoOn, Ok(Next::Done)),
+    // The mutex is held by thread 6: to take it back it sleeps once more, until the release.
+    (5, Request::GoOn, Ok(Next::Sleep)),
+    (6, RELEASE_M, Ok(Next::Again)),
+    (6, Request::GoOn, Ok(Next::Wake(ThreadNo(5)))),
+    (6, Request::GoOn, Ok(Next::Done)),
+    (5, Request::GoOn, Ok(Next::Done)),
+    (5, TAKE_M, Err(Cause::Held(M))),
+    (5, RELEASE_M, Ok(Next::Done)),
+    // Thread 7 has room for one entry more, and a wait makes two.
+    (7, TAKE_M, Ok(Next::Done)),
+    (7, WAIT, Err(Cause::Short)),
+    (7, RELEASE_M, Ok(Next::Done)),
+    // A reader-writer lock isn't held over the sleep, and the mutex is that which was gained last, and not by a try.
+    (8, TAKE_RW, Ok(Next::Done)),
+    (8, TAKE_M, Ok(Next::Again)),
+    (8, Request::GoOn, Ok(Next::Done)),
+    (8, WAIT, Err(Cause::HoldsOthers(C))),
+    (8, RELEASE_M, Ok(Next::Done)),
+    (8, RELEASE_RW, Ok(Next::Done)),
+    (8, TRY_M, Ok(Next::Done)),
+    (8, WAIT, Err(Cause::NotLast(C))),
+    (8, RELEASE_M, Ok(Next::Done)),
+    (8, TAKE_M, Ok(Next::Done)),
+    (8, TRY_RW_SHARED, Ok(Next::Done)),
+    (8, WAIT, Err(Cause::NotLast(C))),
+    (8, RELEASE_RW_SHARED, Ok(Next::Done)),
+    (8, RELEASE_M, Ok(Next::Done)),
     // Others are awake when thread 0 ends. Once it has, it makes no call.
     (0, Request::End, Ok(Next::Done)),
     (0, Request::End, Err(Cause::Ended)),
@@ -199,27 +237,4 @@ fn a_thread_holds_eight_locks(rt: HostRuntime) -> Result<(), Fail> {
     }
     assert_eq!(rt; thread.begin_take(M, Mode::Excl), Err(Cause::HoldsMost));
     Ok(())
-}
-
-// Asks that of a thread.
-fn ask(thread: &mut Thread, request: Request) -> Result<Next, Cause> {
-    match request {
-        Request::Take { l, mode } => thread.begin_take(l, mode),
-        Request::Try { l, mode } => thread.begin_try(l, mode),
-        Request::Release { l, mode } => thread.begin_release(l, mode),
-        Request::WakeUp { c, all } => thread.begin_wakeup(c, all),
-        Request::End => thread.begin_end(),
-        Request::GoOn => go_on(thread),
-    }
-}
-
-// Goes on with a thread's call, until that answers something else than to go on.
-fn go_on(thread: &mut Thread) -> Result<Next, Cause> {
-    for _ in 0..PARTS {
-        let answer = thread.go_on();
-        if answer != Ok(Next::Again) {
-            return answer;
-        }
-    }
-    Ok(Next::Again)
 }

@@ -5,6 +5,10 @@
 #[cfg(test)]
 mod answers;
 #[cfg(test)]
+mod asking;
+#[cfg(test)]
 mod floors;
 #[cfg(test)]
 mod openings;
+#[cfg(test)]
+mod waits;

@@ -3,7 +3,7 @@
 ghost use Rattle.std.specs.Prelude.{◌≡◌, IfOk};
 
 use crate::floors::{Parts, describe};
-use floor_calls::{Next, NotOpened, OpenFloor, Thread, Unfit};
+use floor_calls::{Next, NotClosed, NotOpened, OpenFloor, Thread, Unfit};
 use std::alloc::Global;
 use std::test::Fail;
 
@@ -103,7 +103,7 @@ fn a_floor_is_closed(rt: HostRuntime) -> Result<(), Fail> {
     };
     assert_eq!(rt; thread.begin_end(), Ok(Next::Again));
     assert_eq!(rt; thread.go_on(), Ok(Next::Done));
-    let Err(mut open) = open.close() else {
+    let Err(NotClosed::NotGathered(mut open)) = open.close() else {
         return Err("the floor was closed before its thread was taken in".into());
     };
     assert!(rt; open.gather(thread).is_ok());

@@ -27,7 +27,7 @@ pub const HELP: &[&str] = &[
 ];
 
 /// The version, which is the date of the newest change in `CHANGELOG.md`.
-pub const VERSION: &str = "2026.11.29";
+pub const VERSION: &str = "2026.11.30";
 
 // What the words may be, but for `--version`.
 const SYNOPSIS: Synopsis<'static> = Synopsis {

@@ -8,7 +8,7 @@ use Rattle.floor_calls.proofs.Tests.{first_is_one, may_none, none_may}
 use Rattle.floor_calls.specs.Calls.{Answers, Does}
 use Rattle.floor_calls.specs.Causes.{MayCall, Says, causes}
 use Rattle.floor_calls.specs.First.{IsFirst}
-use Rattle.floor_calls.specs.Threads.{IsAt, Thread}
+use Rattle.floor_calls.specs.Threads.{IsAt, Thread, thread_at}
 use Rattle.floor_calls.specs.declared.requests.Cause.{Cause}
 use Rattle.floor_calls.specs.declared.requests.Request.{Request}
 use Rattle.floor_calls.specs.declared.stages.Next.{Next}
@@ -42,19 +42,29 @@ is_made request x y next first floor does = record {
 
 -- 2. A thread and its parts: what is so of the thread is so of them, where the floor was found through another path
 
-module _ (x : Thread) (f g : Floor Description) (p : Pass Knowledge) (s : Stage)
-    (is : ◌≡◌ {A = Thread} (record { floor = f; pass = p; stage = s }) x) (same : g ≡ f) where
-  pub may_of_parts : (request : Request) → MayCall request x
-      → MayCall request (record { floor = g; pass = p; stage = s })
+module _ (x : Thread) (f g : Floor Description) (p : Pass Knowledge) (s : Stage) (is : thread_at f s p ≡ x)
+    (same : g ≡ f) where
+  pub may_of_parts : (request : Request) → MayCall request x → MayCall request (thread_at g s p)
   may_of_parts request may =
-      subst (λ (h : Floor Description). MayCall request (record { floor = h; pass = p; stage = s })) (sym same)
+      subst (λ (h : Floor Description). MayCall request (thread_at h s p)) (sym same)
       (subst (λ (y : Thread). MayCall request y) (sym is) may)
 
-  pub of_thread : (P : Floor Description → Pass Knowledge → Stage → Type 0) → P g p s → P x.floor x.pass x.stage
-  of_thread P h =
-      subst (λ (y : Thread). P y.floor y.pass y.stage) is (subst (λ (k : Floor Description). P k p s) same h)
+  pub does_of_thread : (request : Request) (next : Next) (t : Stage) (q : Pass Knowledge)
+      → Does request next (thread_at g s p) (thread_at g t q) → Does request next x (thread_at f t q)
+  does_of_thread request next t q did =
+      subst (λ (y : Thread). Does request next y (thread_at f t q)) is
+      (subst (λ (h : Floor Description). Does request next (thread_at h s p) (thread_at h t q)) same did)
 
-pub ready_of : (f g : Floor Description) (p : Pass Knowledge) (s : Stage) → g ≡ f → IsAt f s p → s ≡ AtRest
-    → IsReady g p
-ready_of f g p s same at rest =
-    subst (λ (h : Floor Description). IsReady h p) (sym same) (subst (λ (z : Stage). IsAt f z p) rest at)
+-- 3. A request and what it is found to be
+
+module _ (f : Floor Description) (s : Stage) (p : Pass Knowledge) (request named : Request) (is : request ≡ named) where
+  pub may_named : MayCall request (thread_at f s p) → MayCall named (thread_at f s p)
+  may_named may = subst (λ (r : Request). MayCall r (thread_at f s p)) is may
+
+  pub does_named : (next : Next) (t : Stage) (q : Pass Knowledge) → Does named next (thread_at f s p) (thread_at f t q)
+      → Does request next (thread_at f s p) (thread_at f t q)
+  does_named next t q did =
+      subst (λ (r : Request). Does r next (thread_at f s p) (thread_at f t q)) (sym is) did
+
+pub ready_there : (f : Floor Description) (s : Stage) (p : Pass Knowledge) → IsAt f s p → s ≡ AtRest → IsReady f p
+ready_there f s p at rest = subst (λ (z : Stage). IsAt f z p) rest at

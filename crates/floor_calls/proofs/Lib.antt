@@ -3,5 +3,6 @@ mod Sleepable
 mod Tests
 mod Fitting
 mod Standing
+mod Waiting
 mod Answered
 mod Opened

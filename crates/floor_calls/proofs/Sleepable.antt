@@ -1,23 +1,22 @@
--- A thread holds no lock over which it may not sleep, told of the list of those that it holds, and lock by lock.
-use Rattle.std.proofs.Common.{◌≡◌, ℕ, zero, suc, ◌<◌, Bool, true, false, List, [], ◌∷◌, length, get_or, refl, sym, subst, arith}
+-- A thread holds no lock of which something is so, as that it may not sleep over it, told of the list of those that it
+-- holds, and lock by lock; and the lock that it gained last, by its place.
+use Rattle.std.proofs.Common.{◌≡◌, ℕ, zero, suc, ◌-◌, ◌<◌, Bool, true, false, not, ◌&&◌, List, [], ◌∷◌, length, get_or, slice_get, Option, Some, None, refl, sym, subst, arith}
 use Rattle.std.proofs.lemmas.Bool.{eq-eqb, eqb-true}
 use Rattle.std.specs.List.{Any}
 use Rattle.std.specs.Prelude.{◌==◌, if◌then◌else◌}
 use Rattle.lock_model.specs.Holds.{NotHeld, Holds}
-use Rattle.lock_model.specs.Operations.{hold_in}
-use Rattle.lock_model.specs.Words.{is_turnstile}
+use Rattle.lock_model.specs.Operations.{hold_in, is_last}
 use Rattle.lock_model.specs.declared.event.Held.{Held as HeldLock}
-use Rattle.lock_model.specs.declared.plan.Kind.{Kind}
 
-module _ (kind : ℕ → Kind) where
-  -- one of these is a mutex or a reader-writer lock
+module _ (Is : ℕ → Type 0) where
+  -- of one of these it is so
   abbrev pub HasOne : List HeldLock → Type 0
-  HasOne hs = Any (λ (h : HeldLock). is_turnstile (kind h.l.0) ≡ true) hs
+  HasOne hs = Any (λ (h : HeldLock). Is h.l.0) hs
 
   later_one : (h : HeldLock) (hs : List HeldLock) → HasOne hs → HasOne (h ∷ hs)
   later_one h hs (i, x, lt, at, is) = (suc i, x, omega (arith, lt), at, is)
 
-  pub none_of : (hs : List HeldLock) (k : ℕ) → (HasOne hs → ⊥) → is_turnstile (kind k) ≡ true → hold_in hs k ≡ NotHeld
+  pub none_of : (hs : List HeldLock) (k : ℕ) → (HasOne hs → ⊥) → Is k → hold_in hs k ≡ NotHeld
   none_of [] k n is = refl
   none_of (h ∷ hs) k n is =
       elim (h.l.0 == k) as (λ b. (h.l.0 == k) ≡ b → (if b then Holds h.mode else hold_in hs k) ≡ NotHeld) [
@@ -26,7 +25,7 @@ module _ (kind : ℕ → Kind) where
           h,
           omega arith,
           refl,
-          subst (λ (j : ℕ). is_turnstile (kind j) ≡ true) (sym (eqb-true h.l.0 k e)) is,
+          subst Is (sym (eqb-true h.l.0 k e)) is,
         ))
         | false ↦ λ e. none_of hs k (λ one. n (later_one h hs one)) is
       ] refl
@@ -47,7 +46,19 @@ module _ (kind : ℕ → Kind) where
       ] e
 
   pub none_by_lock : (hs : List HeldLock)
-      → ((k : ℕ) → is_turnstile (kind k) ≡ true → hold_in hs k ≡ NotHeld) → HasOne hs → ⊥
+      → ((k : ℕ) → Is k → hold_in hs k ≡ NotHeld) → HasOne hs → ⊥
   none_by_lock hs n (i, x, lt, at, is) =
       holds_each hs i x lt
       (subst (λ (h : HeldLock). hold_in hs h.l.0 ≡ NotHeld) (sym at) (n x.l.0 is))
+
+-- gained in its turn, and not by a try
+abbrev pub is_taken : ℕ → Option HeldLock → Bool
+is_taken l None = false
+is_taken l (Some h) = h.l.0 == l && not h.by_try
+
+pub last_place : (l : ℕ) (hs : List HeldLock) → is_last l hs ≡ is_taken l (slice_get hs (length hs - 1))
+last_place l [] = refl
+last_place l (h ∷ []) = refl
+last_place l (h ∷ g ∷ hs) =
+    let place : length (h ∷ g ∷ hs) - 1 ≡ suc (length (g ∷ hs) - 1) = omega arith in
+    rw place (last_place l (g ∷ hs))

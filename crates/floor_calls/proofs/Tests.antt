@@ -1,20 +1,22 @@
 -- Nothing stands against a call exactly where it may be made.
-use Rattle.std.proofs.Common.{◌≡◌, ◌≢◌, List, [], ◌∷◌, Option, None, refl, sym, subst, ◌∙◌, arith}
+use Rattle.std.proofs.Common.{◌≡◌, ◌≢◌, ℕ, Bool, true, false, List, [], ◌∷◌, Option, None, refl, sym, subst, ◌∙◌, arith}
+use Rattle.cond_vars.specs.Waits.{lock_of}
 use Rattle.floor_table.specs.Descriptions.{config_in}
 use Rattle.lock_model.specs.Holds.{Hold, NotHeld, Holds}
+use Rattle.lock_model.specs.Words.{is_turnstile}
 use Rattle.lock_model.specs.declared.event.Held.{Held as HeldLock}
 use Rattle.lock_model.specs.declared.plan.Kind.{Kind}
 use Rattle.lock_model.specs.declared.plan.Kind.TheVariants.{Mtx}
 use Rattle.lock_model.specs.declared.plan.Mode.{Mode}
 use Rattle.lock_model.specs.declared.plan.Mode.TheVariants.{Excl, Shared}
-use Rattle.floor_calls.proofs.Numbers.{below, some}
+use Rattle.floor_calls.proofs.Numbers.{at_most, below, some}
 use Rattle.floor_calls.proofs.Sleepable.{none_by_lock, none_of}
 use Rattle.floor_calls.specs.Causes.{Says, causes, held_by, MayCall}
 use Rattle.floor_calls.specs.First.{IsFirst, none, here, later}
 use Rattle.floor_calls.specs.Stages.{IsInCall}
 use Rattle.floor_calls.specs.Threads.{Thread}
 use Rattle.floor_calls.specs.declared.requests.Request.{Request}
-use Rattle.floor_calls.specs.declared.requests.Request.TheVariants.{Take, Try, Release, WakeUp, End, GoOn}
+use Rattle.floor_calls.specs.declared.requests.Request.TheVariants.{Take, Try, Release, WakeUp, Wait, End, GoOn}
 use Rattle.floor_calls.specs.declared.stages.Stage.{Stage}
 use Rattle.floor_calls.specs.declared.stages.Stage.TheVariants as stages
 
@@ -37,6 +39,10 @@ at_rest stages.Tries e c = absurd (c tt)
 at_rest stages.Releases e c = absurd (c tt)
 at_rest (stages.ComesToWake d all) e c = absurd (c tt)
 at_rest stages.Wakes e c = absurd (c tt)
+at_rest (stages.Waits on at) e c = absurd (c tt)
+at_rest (stages.ComesToGiveUp on) e c = absurd (c tt)
+at_rest (stages.GivesUp on at) e c = absurd (c tt)
+at_rest (stages.TakesBack on aborted at) e c = absurd (c tt)
 at_rest (stages.Ends at) e c = absurd (c tt)
 at_rest stages.Ended e c = absurd (e refl)
 
@@ -47,6 +53,10 @@ in_call stages.Tries e r = tt
 in_call stages.Releases e r = tt
 in_call (stages.ComesToWake d all) e r = tt
 in_call stages.Wakes e r = tt
+in_call (stages.Waits on at) e r = tt
+in_call (stages.ComesToGiveUp on) e r = tt
+in_call (stages.GivesUp on at) e r = tt
+in_call (stages.TakesBack on aborted at) e r = tt
 in_call (stages.Ends at) e r = tt
 in_call stages.Ended e r = absurd (e refl)
 
@@ -69,6 +79,18 @@ is_bare : (hs : List HeldLock) → (hs ≢ [] → ⊥) → hs ≡ []
 is_bare [] n = refl
 is_bare (h ∷ hs) n = absurd (n (λ e. cc))
 
+is_true : (b : Bool) → (b ≡ false → ⊥) → b ≡ true
+is_true true n = refl
+is_true false n = absurd (n refl)
+
+-- the lock is a mutex or a reader-writer lock
+abbrev is_mutex_or_rw : Thread → ℕ → Type 0
+is_mutex_or_rw x k = is_turnstile ((config_in x.floor.description).kind k) ≡ true
+
+-- and another than that one
+abbrev is_another : Thread → ℕ → ℕ → Type 0
+is_another x l k = is_mutex_or_rw x k × (k ≢ l)
+
 -- 3. And what isn't, where the call may be made
 
 module _ (x : Thread) (rest : x.stage ≡ stages.AtRest) where
@@ -89,7 +111,7 @@ none_may (Take l mode) x (later e (later c (later nl (later m (later h (later u 
     few = below _ _ f;
     room = some _ s;
   },
-  λ sx k is. none_of (config_in x.floor.description).kind (held_by x) k (λ one. u (sx, one)) is,
+  λ sx k is. none_of (is_mutex_or_rw x) (held_by x) k (λ one. u (sx, one)) is,
 )
 none_may (Try l mode) x (later e (later c (later nl (later m (later h (later u (later f (later s none)))))))) = (
   at_rest x.stage e c,
@@ -99,7 +121,7 @@ none_may (Try l mode) x (later e (later c (later nl (later m (later h (later u (
     few = below _ _ f;
     room = some _ s;
   },
-  λ sx k is. none_of (config_in x.floor.description).kind (held_by x) k (λ one. u (sx, one)) is,
+  λ sx k is. none_of (is_mutex_or_rw x) (held_by x) k (λ one. u (sx, one)) is,
 )
 none_may (Release l mode) x (later e (later c (later nl (later m (later h (later s none)))))) = (
   at_rest x.stage e c,
@@ -111,6 +133,16 @@ none_may (Release l mode) x (later e (later c (later nl (later m (later h (later
 )
 none_may (WakeUp d all) x (later e (later c (later nc (later s none)))) =
     (at_rest x.stage e c, record { chan = below _ _ nc; room = some _ s })
+none_may (Wait d) x (later e (later c (later nc (later nl (later o (later h (later s none))))))) = (
+  at_rest x.stage e c,
+  record {
+    chan = below _ _ nc;
+    last = is_true _ nl;
+    sleepable = λ k other is. none_of (is_another x (lock_of x.floor.description d.0)) (held_by x) k o (is, other);
+    few = at_most _ _ h;
+    room = at_most _ _ s;
+  },
+)
 none_may End x (later e (later c (later h none))) = (at_rest x.stage e c, is_bare (held_by x) h)
 none_may GoOn x (later e (later r none)) = in_call x.stage e r
 
@@ -120,7 +152,7 @@ may_none (Take l mode) x m =
     (later (λ nl. omega (arith, nl, m.1.covered.lock))
     (later (λ s. let e : Excl ≡ Shared = sym (m.1.covered.mutex s.1) ∙ s.2 in cc)
     (later (λ h. let e : NotHeld ≡ Holds h.0 = sym m.1.unheld ∙ h.1 in cc)
-    (later (λ u. none_by_lock (config_in x.floor.description).kind (held_by x) (m.2 u.0) u.1)
+    (later (λ u. none_by_lock (is_mutex_or_rw x) (held_by x) (m.2 u.0) u.1)
     (later (λ f. omega (arith, f, m.1.few))
     (later (λ s. omega (arith, s, m.1.room)) none)))))))
 may_none (Try l mode) x m =
@@ -128,7 +160,7 @@ may_none (Try l mode) x m =
     (later (λ nl. omega (arith, nl, m.1.covered.lock))
     (later (λ s. let e : Excl ≡ Shared = sym (m.1.covered.mutex s.1) ∙ s.2 in cc)
     (later (λ h. let e : NotHeld ≡ Holds h.0 = sym m.1.unheld ∙ h.1 in cc)
-    (later (λ u. none_by_lock (config_in x.floor.description).kind (held_by x) (m.2 u.0) u.1)
+    (later (λ u. none_by_lock (is_mutex_or_rw x) (held_by x) (m.2 u.0) u.1)
     (later (λ f. omega (arith, f, m.1.few))
     (later (λ s. omega (arith, s, m.1.room)) none)))))))
 may_none (Release l mode) x m =
@@ -141,5 +173,13 @@ may_none (WakeUp d all) x m =
     later (unended x m.0) (later (idle x m.0)
     (later (λ nc. omega (arith, nc, m.1.chan))
     (later (λ s. omega (arith, s, m.1.room)) none)))
+may_none (Wait d) x m =
+    later (unended x m.0) (later (idle x m.0)
+    (later (λ nc. omega (arith, nc, m.1.chan))
+    (later (λ nl. let z : true ≡ false = sym m.1.last ∙ nl in cc)
+    (later (λ o. none_by_lock (is_another x (lock_of x.floor.description d.0)) (held_by x)
+    (λ k is. m.1.sleepable k is.1 is.0) o)
+    (later (λ h. omega (arith, h, m.1.few))
+    (later (λ s. omega (arith, s, m.1.room)) none))))))
 may_none End x m = later (unended x m.0) (later (idle x m.0) (later (λ h. h m.1) none))
 may_none GoOn x m = later (λ e. subst IsInCall e m) (later (λ r. subst IsInCall r m) none)

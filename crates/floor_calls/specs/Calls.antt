@@ -1,6 +1,10 @@
 -- What a call of a thread does where it is made, and what each call promises.
 use Rattle.std.specs.Prelude.{◌≡◌, ◌↔◌, ℕ, Bool, Option, Some, None, Result, Ok, Err, IsOk, IfOk, IfErr}
+use Rattle.cond_vars.specs.Parts.{WaitPart}
 use Rattle.cond_vars.specs.Wakes.{GoesOnWaking, HasTakenOff}
+use Rattle.cond_vars.specs.declared.parts.WaitAt.{WaitAt}
+use Rattle.cond_vars.specs.declared.parts.WaitAt.TheVariants as waiting
+use Rattle.cond_vars.specs.declared.parts.WaitNext.{WaitNext}
 use Rattle.cond_vars.specs.declared.waking.WakeNext.{WakeNext}
 use Rattle.floor_table.specs.Views.{Knowledge, seeing}
 use Rattle.floor_table.specs.declared.description.Description.{Description}
@@ -8,10 +12,12 @@ use Rattle.halting.specs.Ends.{GoesOnEnding}
 use Rattle.halting.specs.declared.ending.EndAt.{EndAt}
 use Rattle.halting.specs.declared.ending.EndAt.TheVariants as places
 use Rattle.halting.specs.declared.ending.EndNext.{EndNext}
-use Rattle.lock_calls.specs.Releases.{HasBegunRelease, GoesOnReleasing}
-use Rattle.lock_calls.specs.Takes.{HasBegunTake, GoesOnTaking}
+use Rattle.lock_calls.specs.Releases.{BeginsGivingUp, HasBegunRelease, GoesOnReleasing, ReleasesPart}
+use Rattle.lock_calls.specs.Takes.{HasBegunTake, GoesOnTaking, TakesPart}
 use Rattle.lock_calls.specs.Tries.{HasBegunTry, GoesOnTrying}
 use Rattle.lock_calls.specs.declared.answers.Next.{Next as PartNext}
+use Rattle.lock_calls.specs.declared.answers.ReleaseNext.{ReleaseNext}
+use Rattle.lock_calls.specs.declared.answers.TakeNext.{TakeNext}
 use Rattle.lock_calls.specs.declared.trying.TryNext.{TryNext}
 use Rattle.lock_floor.specs.Floors.{Pass}
 use Rattle.lock_floor.specs.Latches.{FindsOut}
@@ -26,15 +32,17 @@ use Rattle.lock_model.specs.declared.numbers.LockNo.{LockNo}
 use Rattle.lock_model.specs.declared.plan.Mode.{Mode}
 use Rattle.floor_calls.specs.Causes.{MayCall, Says, causes}
 use Rattle.floor_calls.specs.First.{IsFirst}
-use Rattle.floor_calls.specs.Stages.{stage_behind, stage_of_begun, stage_of_end, stage_of_wake, told, told_of_end, told_of_try, told_of_wake}
+use Rattle.floor_calls.specs.Stages.{stage_behind, stage_of_begun, stage_of_end, stage_of_giving_up, stage_of_taking_back, stage_of_wait, stage_of_wake, told, told_of_end, told_of_giving_up, told_of_taking_back, told_of_try, told_of_wait, told_of_wake}
 use Rattle.floor_calls.specs.Threads.{Thread}
+use Rattle.floor_calls.specs.Waits.{HoldsIts}
 use Rattle.floor_calls.specs.declared.requests.Cause.{Cause}
 use Rattle.floor_calls.specs.declared.requests.Request.{Request}
-use Rattle.floor_calls.specs.declared.requests.Request.TheVariants.{Take, Try, Release, WakeUp, End, GoOn}
+use Rattle.floor_calls.specs.declared.requests.Request.TheVariants.{Take, Try, Release, WakeUp, Wait, End, GoOn}
 use Rattle.floor_calls.specs.declared.stages.Next.{Next}
 use Rattle.floor_calls.specs.declared.stages.Next.TheVariants.{Again}
 use Rattle.floor_calls.specs.declared.stages.Stage.{Stage}
-use Rattle.floor_calls.specs.declared.stages.Stage.TheVariants.{AtRest, Takes, Tries, Releases, ComesToWake, Wakes, Ends, Ended}
+use Rattle.floor_calls.specs.declared.stages.Stage.TheVariants.{AtRest, Takes, Tries, Releases, ComesToWake, Wakes, Waits, ComesToGiveUp, GivesUp, TakesBack, Ends, Ended}
+use Rattle.floor_calls.specs.declared.waits.WaitOn.{WaitOn}
 
 -- 1. A part of a call
 
@@ -75,6 +83,21 @@ MakesWakePart floor c all next stage p q =
     Makes (Option ℕ) (λ part. Again) (stage_of_begun c all) (HasBegunWake floor c all)
     next stage p q
 
+-- a part of a wait on that, from there
+abbrev pub MakesWaitPart : Description → WaitOn → WaitAt → Next → Stage → Pass Knowledge
+    → Pass Knowledge → Type 0
+MakesWaitPart floor on at next stage p q =
+    Makes WaitNext told_of_wait (stage_of_wait on)
+    (λ part r s. WaitPart floor on.c at part r.view s.view) next stage p q
+
+-- a wait began on that channel, with its lock, which the thread holds
+pub record BeginsWait (floor : Description) (c : ChanNo) (next : Next) (stage : Stage)
+    (p q : Pass Knowledge) : Type 0 where
+  pub on : WaitOn
+  pub chan : on.c ≡ c
+  pub its : HoldsIts floor on p.view
+  pub part : MakesWaitPart floor on waiting.ComesTo next stage p q
+
 -- a part of a thread's end, from there
 abbrev pub MakesEndPart : Description → EndAt → Next → Stage → Pass Knowledge → Pass Knowledge
     → Type 0
@@ -110,6 +133,16 @@ GoesOn floor (ComesToWake c all) next stage p q = MakesWakePart floor c all next
 GoesOn floor Wakes next stage p q =
     Makes WakeNext told_of_wake stage_of_wake (λ part r s. GoesOnWaking floor part r.view s.view)
     next stage p q
+GoesOn floor (Waits on at) next stage p q = MakesWaitPart floor on at next stage p q
+GoesOn floor (ComesToGiveUp on) next stage p q =
+    Makes ReleaseAt (λ at. Again) (GivesUp on)
+    (λ at r s. BeginsGivingUp floor on.l on.mode at r.view s.view) next stage p q
+GoesOn floor (GivesUp on at) next stage p q =
+    Makes ReleaseNext told_of_giving_up (stage_of_giving_up on)
+    (λ part r s. ReleasesPart floor on.l on.mode at part r.view s.view) next stage p q
+GoesOn floor (TakesBack on aborted at) next stage p q =
+    Makes TakeNext told_of_taking_back (stage_of_taking_back on aborted)
+    (λ part r s. TakesPart floor on.l on.mode at part r.view s.view) next stage p q
 GoesOn floor (Ends at) next stage p q = MakesEndPart floor at next stage p q
 GoesOn floor Ended next stage p q = ⊥
 
@@ -125,6 +158,7 @@ Does (Release l mode) next x y =
     MakesPart Releases (HasBegunRelease x.floor.description l mode) next y.stage x.pass y.pass
 Does (WakeUp c all) next x y =
     MakesWakePart x.floor.description c all next y.stage x.pass y.pass
+Does (Wait c) next x y = BeginsWait x.floor.description c next y.stage x.pass y.pass
 Does End next x y = MakesEndPart x.floor.description places.Takes next y.stage x.pass y.pass
 Does GoOn next x y = GoesOn x.floor.description x.stage next y.stage x.pass y.pass
 

@@ -1,24 +1,25 @@
 -- What may stand against a call of a thread, and when the call may be made.
-use Rattle.std.specs.Prelude.{◌≡◌, ◌≢◌, ℕ, ◌<◌, ◌≤◌, true, List, [], ◌∷◌, length}
+use Rattle.std.specs.Prelude.{◌≡◌, ◌≢◌, ℕ, ◌<◌, ◌≤◌, true, false, List, [], ◌∷◌, length}
 use Rattle.std.specs.List.{Any}
 use Rattle.lock_model.specs.Holds.{NotHeld, Holds}
 use Rattle.lock_model.specs.Limits.{most_held}
-use Rattle.lock_model.specs.Operations.{hold_in}
+use Rattle.lock_model.specs.Operations.{hold_in, is_last}
 use Rattle.lock_model.specs.Words.{is_turnstile}
 use Rattle.lock_model.specs.declared.event.Held.{Held as HeldLock}
 use Rattle.lock_model.specs.declared.numbers.LockNo.{LockNo}
 use Rattle.lock_model.specs.declared.plan.Kind.TheVariants.{Mtx, Sx}
 use Rattle.lock_model.specs.declared.plan.Mode.{Mode}
 use Rattle.lock_model.specs.declared.plan.Mode.TheVariants.{Shared}
+use Rattle.cond_vars.specs.Waits.{MayWait, lock_of}
 use Rattle.cond_vars.specs.Wakes.{MayWakeUp}
 use Rattle.floor_table.specs.Descriptions.{config_in}
 use Rattle.lock_calls.specs.Steps.{MayTake, MayRelease}
 use Rattle.floor_calls.specs.Stages.{IsInCall}
 use Rattle.floor_calls.specs.Threads.{Thread}
 use Rattle.floor_calls.specs.declared.requests.Cause.{Cause}
-use Rattle.floor_calls.specs.declared.requests.Cause.TheVariants.{Ended, InCall, AtRest, NoLock, NoMode, NoChan, Held, HoldsUnsleepable, NotHeld, HoldsMost, HoldsSome, Spent}
+use Rattle.floor_calls.specs.declared.requests.Cause.TheVariants.{Ended, InCall, AtRest, NoLock, NoMode, NoChan, Held, HoldsUnsleepable, NotLast, HoldsOthers, NotHeld, HoldsMost, HoldsMore, HoldsSome, Spent, Short}
 use Rattle.floor_calls.specs.declared.requests.Request.{Request}
-use Rattle.floor_calls.specs.declared.requests.Request.TheVariants.{Take, Try, Release, WakeUp, End, GoOn}
+use Rattle.floor_calls.specs.declared.requests.Request.TheVariants.{Take, Try, Release, WakeUp, Wait, End, GoOn}
 use Rattle.floor_calls.specs.declared.stages.Stage.TheVariants as stages
 
 -- the locks that a thread holds
@@ -29,6 +30,12 @@ held_by x = x.pass.view.share.held
 abbrev pub HoldsMutexOrRw : Thread → Type 0
 HoldsMutexOrRw x =
     Any (λ h. is_turnstile ((config_in x.floor.description).kind h.l.0) ≡ true) (held_by x)
+
+-- beside that lock it holds one
+abbrev pub HoldsOtherThan : ℕ → Thread → Type 0
+HoldsOtherThan l x =
+    Any (λ h. (is_turnstile ((config_in x.floor.description).kind h.l.0) ≡ true) × (h.l.0 ≢ l))
+    (held_by x)
 
 -- 1. What may stand against a call
 
@@ -45,10 +52,14 @@ Says (NoChan c) x = length x.floor.description.chans ≤ c.0
 Says (Held l) x = (mode : Mode) × (hold_in (held_by x) l.0 ≡ Holds mode)
 Says (HoldsUnsleepable l) x =
     ((config_in x.floor.description).kind l.0 ≡ Sx) × HoldsMutexOrRw x
+Says (NotLast c) x = is_last (lock_of x.floor.description c.0) (held_by x) ≡ false
+Says (HoldsOthers c) x = HoldsOtherThan (lock_of x.floor.description c.0) x
 Says (NotHeld l mode) x = hold_in (held_by x) l.0 ≢ Holds mode
 Says HoldsMost x = most_held ≤ length (held_by x)
+Says HoldsMore x = most_held < length (held_by x)
 Says HoldsSome x = held_by x ≢ []
 Says Spent x = x.pass.view.spare ≡ 0
+Says Short x = x.pass.view.spare < 2
 
 -- what may stand against each call, in the order in which it is tested
 abbrev pub causes : Request → List Cause
@@ -61,6 +72,8 @@ causes (Try l mode) =
 causes (Release l mode) =
     Ended ∷ InCall ∷ NoLock l ∷ NoMode l mode ∷ NotHeld l mode ∷ Spent ∷ []
 causes (WakeUp c all) = Ended ∷ InCall ∷ NoChan c ∷ Spent ∷ []
+causes (Wait c) =
+    Ended ∷ InCall ∷ NoChan c ∷ NotLast c ∷ HoldsOthers c ∷ HoldsMore ∷ Short ∷ []
 causes End = Ended ∷ InCall ∷ HoldsSome ∷ []
 causes GoOn = Ended ∷ AtRest ∷ []
 
@@ -85,5 +98,7 @@ MayCall (Release l mode) x =
     (x.stage ≡ stages.AtRest) × MayRelease x.floor.description l.0 mode x.pass.view
 MayCall (WakeUp c all) x =
     (x.stage ≡ stages.AtRest) × MayWakeUp x.floor.description c.0 x.pass.view
+MayCall (Wait c) x =
+    (x.stage ≡ stages.AtRest) × MayWait x.floor.description c.0 x.pass.view
 MayCall End x = (x.stage ≡ stages.AtRest) × (held_by x ≡ [])
 MayCall GoOn x = IsInCall x.stage

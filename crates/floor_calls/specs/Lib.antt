@@ -1,7 +1,9 @@
 pub mod First
 pub mod Fitting
 pub mod Stages
+pub mod Waits
 pub mod Threads
 pub mod Causes
 pub mod Calls
 pub mod Openings
+pub mod Closings

@@ -4,7 +4,7 @@ use Rattle.floor_table.specs.Views.{Knowledge}
 use Rattle.floor_table.specs.declared.description.Description.{Description}
 use Rattle.lock_floor.specs.Floors.{Floor, Keeper, Pass}
 use Rattle.lock_floor.specs.Passes.{first_pass}
-use Rattle.floor_calls.specs.Threads.{Thread}
+use Rattle.floor_calls.specs.Threads.{Thread, thread_at}
 use Rattle.floor_calls.specs.declared.opening.NotOpened.{NotOpened}
 use Rattle.floor_calls.specs.declared.opening.NotOpened.TheVariants.{NoMemory, Unfit as IsUnfit}
 use Rattle.floor_calls.specs.declared.stages.Stage.TheVariants.{AtRest}
@@ -17,7 +17,7 @@ pub record Open : Type 0 where
 
 -- the thread of a pass, in the middle of no call
 abbrev pub thread_at_rest : Floor Description → Pass Knowledge → Thread
-thread_at_rest floor pass = record { floor = floor; pass = pass; stage = AtRest }
+thread_at_rest floor pass = thread_at floor AtRest pass
 
 -- a thread as the floor is opened: it has made no call
 abbrev pub first_thread : Floor Description → ℕ → Thread

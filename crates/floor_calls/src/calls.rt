@@ -2,14 +2,28 @@
 ghost use Rattle.floor_calls.specs.Calls.{Answers};
 ghost use Rattle.floor_calls.specs.declared.requests.Request.TheVariants as request;
 
-use crate::parts::{attempt, end, go_on, release, take, wake_up};
+use crate::parts::make;
 use crate::requests::{Cause, Request};
 use crate::stages::Next;
 use crate::thread::Thread;
-use halting::EndAt;
 use lock_model::{ChanNo, LockNo, Mode};
 
 impl Thread {
+    /// Makes the call that is asked for: `Ok` comes exactly where nothing stands against it, and says what its caller
+    /// is to do next. Each of the calls below is this one, of one request.
+    pub fn ask(&mut self, request: Request) -> Result<Next, Cause>
+        ensures { Answers request result self.old self.new }
+    {
+        match self.against(request) {
+            Some(cause) => Err(cause),
+            None => {
+                let made = make(&self.shared.floor, &mut self.pass, self.stage, request);
+                self.stage = made.1;
+                Ok(made.0)
+            }
+        }
+    }
+
     /// Begins a take of a lock in a mode, as `begin_take` of `lock_calls`. `Ok` comes exactly where the thread is in
     /// the middle of no call and hasn't ended, the floor has that lock, which may have the mode, the thread doesn't
     /// hold it and holds fewer than 8 locks, none over which it may not sleep where the lock is an sx lock, and its log
@@ -17,28 +31,14 @@ impl Thread {
     pub fn begin_take(&mut self, l: LockNo, mode: Mode) -> Result<Next, Cause>
         ensures { Answers (request.Take l mode) result self.old self.new }
     {
-        match self.against(Request::Take { l, mode }) {
-            Some(cause) => Err(cause),
-            None => {
-                let made = take(&self.shared.floor, &mut self.pass, l, mode);
-                self.stage = made.1;
-                Ok(made.0)
-            }
-        }
+        self.ask(Request::Take { l, mode })
     }
 
     /// Begins a try of a lock in a mode, as `begin_try` of `lock_calls`. `Ok` comes exactly where it does of a take.
     pub fn begin_try(&mut self, l: LockNo, mode: Mode) -> Result<Next, Cause>
         ensures { Answers (request.Try l mode) result self.old self.new }
     {
-        match self.against(Request::Try { l, mode }) {
-            Some(cause) => Err(cause),
-            None => {
-                let made = attempt(&self.shared.floor, &mut self.pass, l, mode);
-                self.stage = made.1;
-                Ok(made.0)
-            }
-        }
+        self.ask(Request::Try { l, mode })
     }
 
     /// Begins a release of a lock that is held in a mode, as `begin_release` of `lock_calls`. `Ok` comes exactly where
@@ -47,14 +47,7 @@ impl Thread {
     pub fn begin_release(&mut self, l: LockNo, mode: Mode) -> Result<Next, Cause>
         ensures { Answers (request.Release l mode) result self.old self.new }
     {
-        match self.against(Request::Release { l, mode }) {
-            Some(cause) => Err(cause),
-            None => {
-                let made = release(&self.shared.floor, &mut self.pass, l, mode);
-                self.stage = made.1;
-                Ok(made.0)
-            }
-        }
+        self.ask(Request::Release { l, mode })
     }
 
     /// Begins a wake of a condition variable or channel, of its most important sleeper or of all, as `begin_wakeup` of
@@ -63,14 +56,19 @@ impl Thread {
     pub fn begin_wakeup(&mut self, c: ChanNo, all: bool) -> Result<Next, Cause>
         ensures { Answers (request.WakeUp c all) result self.old self.new }
     {
-        match self.against(Request::WakeUp { c, all }) {
-            Some(cause) => Err(cause),
-            None => {
-                let made = wake_up(&self.shared.floor, &mut self.pass, c, all);
-                self.stage = made.1;
-                Ok(made.0)
-            }
-        }
+        self.ask(Request::WakeUp { c, all })
+    }
+
+    /// Begins a wait on a condition variable or channel, as `go_on_waiting` of `cond_vars`: it gives its lock up, sleeps
+    /// until another thread wakes it, and takes the lock back in the mode in which it held it. `Halted` comes where an
+    /// abort ended its sleep; the lock is held again then too. `Ok` comes exactly where the thread is in the middle of
+    /// no call and hasn't ended, the floor has that condition variable or channel, whose lock the thread gained last,
+    /// and not by a try, it holds no other mutex or reader-writer lock and at most 8 locks, and its log has room for
+    /// two entries.
+    pub fn begin_wait(&mut self, c: ChanNo) -> Result<Next, Cause>
+        ensures { Answers (request.Wait c) result self.old self.new }
+    {
+        self.ask(Request::Wait { c })
     }
 
     /// Begins the thread's end, as `go_on_ending` of `halting`. Once that is done the thread makes no call any more.
@@ -78,27 +76,13 @@ impl Thread {
     pub fn begin_end(&mut self) -> Result<Next, Cause>
         ensures { Answers request.End result self.old self.new }
     {
-        match self.against(Request::End) {
-            Some(cause) => Err(cause),
-            None => {
-                let made = end(&self.shared.floor, &mut self.pass, EndAt::Takes);
-                self.stage = made.1;
-                Ok(made.0)
-            }
-        }
+        self.ask(Request::End)
     }
 
     /// Goes on with the call that the thread is in the middle of: `Ok` comes exactly where there is one.
     pub fn go_on(&mut self) -> Result<Next, Cause>
         ensures { Answers request.GoOn result self.old self.new }
     {
-        match self.against(Request::GoOn) {
-            Some(cause) => Err(cause),
-            None => {
-                let made = go_on(&self.shared.floor, &mut self.pass, self.stage);
-                self.stage = made.1;
-                Ok(made.0)
-            }
-        }
+        self.ask(Request::GoOn)
     }
 }

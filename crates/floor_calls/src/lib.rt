@@ -13,7 +13,7 @@
 //! - `requests`: what a caller can ask for, and what may stand against it.
 //! - `thread`: a thread, and what stands against a call of it.
 //! - `calls`: its calls, and `parts`: the parts of locks' calls, of wakes and of the thread's end, over which they
-//!   stand.
+//!   stand; and `waits`: those of waits.
 #![tactic(auto)]
 
 mod calls;
@@ -24,9 +24,11 @@ mod shared;
 mod stages;
 mod thread;
 mod unfit;
+mod waits;
 
-pub use opening::{NotOpened, OpenFloor};
+pub use opening::{NotClosed, NotOpened, OpenFloor};
 pub use requests::{Cause, Request};
 pub use stages::{Next, Stage};
 pub use thread::Thread;
 pub use unfit::Unfit;
+pub use waits::WaitOn;

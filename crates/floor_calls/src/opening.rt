@@ -1,6 +1,7 @@
 //! How a floor is opened, with its threads, and closed once they have ended.
 ghost use Rattle.std.specs.Arc.{arc_value};
-ghost use Rattle.std.specs.Prelude.{◌≡◌, ◌↔◌, ◌++◌, ◌<◌, [], ◌∷◌, ℕ, All, length, map, reverse, slice_index_or, IfErr, IfOk, IsOk};
+ghost use Rattle.std.specs.Prelude.{◌≡◌, ◌≢◌, ◌↔◌, ◌++◌, ◌<◌, [], ◌∷◌, ℕ, All, length, map, reverse, slice_index_or, IfErr, IfOk, IsOk};
+ghost use Rattle.floor_calls.specs.Closings.{IsNotGathered, given_back};
 ghost use Rattle.floor_calls.specs.First.{IsFirst};
 ghost use Rattle.floor_calls.specs.Fitting.{Spoils, all_unfit};
 ghost use Rattle.floor_calls.specs.Openings.{first_thread, thread_at_rest, unfit_in};
@@ -25,6 +26,15 @@ pub enum NotOpened {
     NoMemory,
     /// The description doesn't fit.
     Unfit(Unfit),
+}
+
+/// Why a floor isn't closed. It is given back.
+#[derive(Drop)]
+pub enum NotClosed {
+    /// A thread of it wasn't taken in.
+    NotGathered(OpenFloor),
+    /// All were taken in, and yet a share of it is held.
+    StillShared(OpenFloor),
 }
 
 /// A floor that is open, and takes its threads in at their ends.
@@ -96,18 +106,22 @@ impl OpenFloor {
         Ok(())
     }
 
-    /// Closes the floor, once all its threads were taken in. It is given back where one wasn't.
-    pub fn close(self) -> Result<Closing, OpenFloor>
+    /// Closes the floor, once all its threads were taken in: `NotGathered` comes exactly where one wasn't. Each thread
+    /// gives up its share of the floor as it is taken in, so `StillShared` comes of no calls of this crate; that isn't
+    /// proved, since of shares `Arc` promises no number.
+    pub fn close(self) -> Result<Closing, NotClosed>
+        ensures not_gathered { IsNotGathered result
+            ↔ (length self.keeper.view.gathered ≢ length self.floor.description.threads) }
         ensures all { IfOk result (λ _.
             length self.keeper.view.gathered ≡ length self.floor.description.threads) }
         ensures closing { IfOk result (λ closing.
             IsClosing self.floor.description (map (λ g. g.0) self.keeper.view.gathered) closing) }
         ensures logs { IfOk result (λ closing. map (λ b. b.entries) closing.logs.items
             ≡ map (λ g. reverse g.1.log) self.keeper.view.gathered) }
-        ensures given_back { IfErr result (λ back. back ≡ self) }
+        ensures given_back { IfErr result (λ why. given_back why ≡ self) }
     {
         if self.left != 0 {
-            return Err(self);
+            return Err(NotClosed::NotGathered(self));
         }
         let OpenFloor {
             shared,
@@ -116,11 +130,11 @@ impl OpenFloor {
         } = self;
         match Arc::try_unwrap(shared) {
             Ok(shared) => Ok(close(shared, keeper)),
-            Err(shared) => Err(OpenFloor {
+            Err(shared) => Err(NotClosed::StillShared(OpenFloor {
                 shared,
                 keeper,
                 left,
-            }),
+            })),
         }
     }
 }
@@ -137,7 +151,7 @@ fn make(alloc: Global, description: Description) -> Result<(OpenFloor, Vec<Threa
 {
     let left = description.threads.as_slice().len();
     let locks = description.locks.as_slice().len();
-    let chans = description.chans.as_slice().len();
+    let chans = Vec::from_slice(alloc, description.chans.as_slice())?;
     let (floor, keeper, passes) = Floor::of_description(alloc, description)?;
     let shared = share(
         alloc,

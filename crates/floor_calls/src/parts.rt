@@ -1,9 +1,10 @@
 //! The parts of locks' calls and of a thread's end, told in this crate's words, with the thread's stage behind each.
 ghost use Rattle.std.specs.Prelude.{◌≡◌};
 ghost use Rattle.cond_vars.specs.Wakes.{MayWakeUp};
-ghost use Rattle.floor_calls.specs.Calls.{GoesOn, MakesEndPart, MakesPart, MakesTryPart, MakesWakePart};
+ghost use Rattle.floor_calls.specs.Calls.{Does, GoesOn, MakesEndPart, MakesPart, MakesTryPart, MakesWakePart};
+ghost use Rattle.floor_calls.specs.Causes.{MayCall};
 ghost use Rattle.floor_calls.specs.Stages.{IsInCall, stage_behind};
-ghost use Rattle.floor_calls.specs.Threads.{IsAt, IsEndingAt};
+ghost use Rattle.floor_calls.specs.Threads.{IsAt, IsEndingAt, thread_at};
 ghost use Rattle.floor_calls.specs.declared.stages.Stage.TheVariants.{Takes, Tries, Releases, Wakes};
 ghost use Rattle.lock_calls.specs.Releases.{HasBegunRelease};
 ghost use Rattle.lock_calls.specs.Steps.{MayRelease, MayTake};
@@ -11,7 +12,9 @@ ghost use Rattle.lock_calls.specs.Takes.{HasBegunTake};
 ghost use Rattle.lock_calls.specs.Tries.{HasBegunTry};
 ghost use Rattle.lock_floor.specs.Passes.{IsReady};
 
+use crate::requests::Request;
 use crate::stages::{Next, Stage, stage_behind, told, told_of_try};
+use crate::waits::{come_to_give_up, give_up, go_on_in_wait, take_back, wait};
 use cond_vars::{WakeNext, begin_wakeup, go_on_waking};
 use halting::{EndAt, EndNext, go_on_ending};
 use lock_calls::{
@@ -20,8 +23,28 @@ use lock_calls::{
 use lock_floor::{Floor, Pass};
 use lock_model::{ChanNo, LockNo, Mode};
 
+// Makes the call that is asked for, which may be made: begins it, or goes on with it.
+pub(crate) fn make(floor: &Floor, pass: &mut Pass, stage: Stage, request: Request) -> (Next, Stage)
+    requires one_chain { floor.now.description.chains ≡ 1 }
+    requires there { IsAt floor.now stage pass.old }
+    requires may { MayCall request (thread_at floor.now stage pass.old) }
+    ensures at { IsAt floor.now result.1 pass.new }
+    ensures does { Does request result.0 (thread_at floor.now stage pass.old)
+        (thread_at floor.now result.1 pass.new) }
+{
+    match request {
+        Request::Take { l, mode } => take(floor, pass, l, mode),
+        Request::Try { l, mode } => attempt(floor, pass, l, mode),
+        Request::Release { l, mode } => release(floor, pass, l, mode),
+        Request::WakeUp { c, all } => wake_up(floor, pass, c, all),
+        Request::Wait { c } => wait(floor, pass, c),
+        Request::End => end(floor, pass, EndAt::Takes),
+        Request::GoOn => go_on(floor, pass, stage),
+    }
+}
+
 // Begins a take.
-pub(crate) fn take(floor: &Floor, pass: &mut Pass, l: LockNo, mode: Mode) -> (Next, Stage)
+fn take(floor: &Floor, pass: &mut Pass, l: LockNo, mode: Mode) -> (Next, Stage)
     requires ready { IsReady floor.now pass.old }
     requires may { MayTake floor.now.description l.0 mode pass.old.view }
     ensures at { IsAt floor.now result.1 pass.new }
@@ -33,7 +56,7 @@ pub(crate) fn take(floor: &Floor, pass: &mut Pass, l: LockNo, mode: Mode) -> (Ne
 }
 
 // Begins a try.
-pub(crate) fn attempt(floor: &Floor, pass: &mut Pass, l: LockNo, mode: Mode) -> (Next, Stage)
+fn attempt(floor: &Floor, pass: &mut Pass, l: LockNo, mode: Mode) -> (Next, Stage)
     requires ready { IsReady floor.now pass.old }
     requires may { MayTake floor.now.description l.0 mode pass.old.view }
     ensures at { IsAt floor.now result.1 pass.new }
@@ -45,7 +68,7 @@ pub(crate) fn attempt(floor: &Floor, pass: &mut Pass, l: LockNo, mode: Mode) -> 
 }
 
 // Begins a release.
-pub(crate) fn release(floor: &Floor, pass: &mut Pass, l: LockNo, mode: Mode) -> (Next, Stage)
+fn release(floor: &Floor, pass: &mut Pass, l: LockNo, mode: Mode) -> (Next, Stage)
     requires ready { IsReady floor.now pass.old }
     requires may { MayRelease floor.now.description l.0 mode pass.old.view }
     ensures at { IsAt floor.now result.1 pass.new }
@@ -57,7 +80,7 @@ pub(crate) fn release(floor: &Floor, pass: &mut Pass, l: LockNo, mode: Mode) -> 
 }
 
 // Begins a wake, or begins it again where another thread had the channel's chain.
-pub(crate) fn wake_up(floor: &Floor, pass: &mut Pass, c: ChanNo, all: bool) -> (Next, Stage)
+fn wake_up(floor: &Floor, pass: &mut Pass, c: ChanNo, all: bool) -> (Next, Stage)
     requires ready { IsReady floor.now pass.old }
     requires may { MayWakeUp floor.now.description c.0 pass.old.view }
     ensures at { IsAt floor.now result.1 pass.new }
@@ -70,7 +93,7 @@ pub(crate) fn wake_up(floor: &Floor, pass: &mut Pass, c: ChanNo, all: bool) -> (
 }
 
 // Goes on with the end of a thread that stands there, and finishes its pass where that is done.
-pub(crate) fn end(floor: &Floor, pass: &mut Pass, at: EndAt) -> (Next, Stage)
+fn end(floor: &Floor, pass: &mut Pass, at: EndAt) -> (Next, Stage)
     requires there { IsEndingAt floor.now at pass.old }
     ensures at { IsAt floor.now result.1 pass.new }
     ensures did { MakesEndPart floor.now.description at result.0 result.1 pass.old pass.new }
@@ -86,7 +109,7 @@ pub(crate) fn end(floor: &Floor, pass: &mut Pass, at: EndAt) -> (Next, Stage)
 }
 
 // Goes on with the call that a thread at that stage is in the middle of.
-pub(crate) fn go_on(floor: &Floor, pass: &mut Pass, stage: Stage) -> (Next, Stage)
+fn go_on(floor: &Floor, pass: &mut Pass, stage: Stage) -> (Next, Stage)
     requires one_chain { floor.now.description.chains ≡ 1 }
     requires in_call { IsInCall stage }
     requires there { IsAt floor.now stage pass.old }
@@ -99,6 +122,10 @@ pub(crate) fn go_on(floor: &Floor, pass: &mut Pass, stage: Stage) -> (Next, Stag
         Stage::Releases => go_on_in_release(floor, pass),
         Stage::ComesToWake { c, all } => wake_up(floor, pass, c, all),
         Stage::Wakes => go_on_in_wake(floor, pass),
+        Stage::Waits { on, at } => go_on_in_wait(floor, pass, on, at),
+        Stage::ComesToGiveUp(on) => come_to_give_up(floor, pass, on),
+        Stage::GivesUp { on, at } => give_up(floor, pass, on, at),
+        Stage::TakesBack { on, aborted, at } => take_back(floor, pass, on, aborted, at),
         Stage::Ends(at) => end(floor, pass, at),
         Stage::AtRest | Stage::Ended => unreachable!(),
     }

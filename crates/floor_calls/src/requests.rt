@@ -13,6 +13,8 @@ pub enum Request {
     Release { l: LockNo, mode: Mode },
     /// To begin a wake of a condition variable or channel: of its most important sleeper, or of all.
     WakeUp { c: ChanNo, all: bool },
+    /// To begin a wait on a condition variable or channel, with its lock, which the thread gained last.
+    Wait { c: ChanNo },
     /// To begin the thread's end.
     End,
     /// To go on with the call that it is in the middle of.
@@ -38,12 +40,21 @@ pub enum Cause {
     Held(LockNo),
     /// The lock is an sx lock, and the thread holds a mutex or a reader-writer lock, over which it may not sleep.
     HoldsUnsleepable(LockNo),
+    /// The lock of the condition variable or channel isn't the one that it gained last, or it gained that by a try.
+    NotLast(ChanNo),
+    /// Beside the lock of the condition variable or channel it holds a mutex or a reader-writer lock, over which it may
+    /// not sleep.
+    HoldsOthers(ChanNo),
     /// It doesn't hold the lock in that mode.
     NotHeld(LockNo, Mode),
     /// It holds as many locks as a thread may.
     HoldsMost,
+    /// It holds more locks than a thread may. No calls bring that about.
+    HoldsMore,
     /// It holds a lock.
     HoldsSome,
     /// Its log has no room for an entry.
     Spent,
+    /// Its log has no room for two entries.
+    Short,
 }

@@ -2,8 +2,11 @@
 ghost use Rattle.std.specs.Prelude.{◌≡◌, ◌↔◌, IsTrue};
 ghost use Rattle.floor_calls.specs.Stages.{IsInCall, stage_behind, told, told_of_try};
 
+use crate::waits::WaitOn;
+use cond_vars::WaitAt;
 use halting::EndAt;
 use lock_calls::TryNext;
+use lock_floor::{ReleaseAt, TakeAt};
 use lock_model::{ChanNo, Reversal, ThreadNo};
 
 /// At which stage a thread is between two calls.
@@ -18,9 +21,30 @@ pub enum Stage {
     /// It is in the middle of a release.
     Releases,
     /// It has begun a wake of a condition variable or channel, whose chain it is yet to take.
-    ComesToWake { c: ChanNo, all: bool },
+    ComesToWake {
+        c: ChanNo,
+        all: bool,
+    },
     /// It has taken sleepers off a condition variable or channel, and wakes one after the other.
     Wakes,
+    /// It is in the middle of a wait, and stands there.
+    Waits {
+        on: WaitOn,
+        at: WaitAt,
+    },
+    /// Within a wait it has come to stand on the queue, and is yet to begin the release of its lock.
+    ComesToGiveUp(WaitOn),
+    /// Within a wait it releases its lock, and stands there.
+    GivesUp {
+        on: WaitOn,
+        at: ReleaseAt,
+    },
+    /// Within a wait its sleep has ended, by an abort or not: it takes its lock back, and stands there.
+    TakesBack {
+        on: WaitOn,
+        aborted: bool,
+        at: TakeAt,
+    },
     /// It is in the middle of its end, and stands there.
     Ends(EndAt),
     /// It has ended.
@@ -42,7 +66,7 @@ pub enum Next {
     Busy(u64),
     /// Nothing: the order of locks refused the take.
     Reversed(Reversal),
-    /// Nothing: the take's sleep was ended by an abort, and the lock isn't held.
+    /// Nothing: the sleep of the call was ended by an abort. The lock of a take isn't held then; that of a wait is.
     Halted,
 }
 
@@ -57,6 +81,10 @@ pub(crate) fn is_in_call(stage: Stage) -> bool
         | Stage::Releases
         | Stage::ComesToWake { .. }
         | Stage::Wakes
+        | Stage::Waits { .. }
+        | Stage::ComesToGiveUp(_)
+        | Stage::GivesUp { .. }
+        | Stage::TakesBack { .. }
         | Stage::Ends(_) => true,
     }
 }

@@ -3,14 +3,15 @@ ghost use Rattle.std.specs.Prelude.{◌≡◌, ◌↔◌, ◌<◌, true, IsTrue,
 ghost use Rattle.std.specs.Arc.{arc_value};
 ghost use Rattle.lock_floor.specs.Passes.{IsFinished, IsReady};
 ghost use Rattle.lock_model.specs.Holds.{Holds};
-ghost use Rattle.lock_model.specs.Operations.{hold_in};
+ghost use Rattle.lock_model.specs.Operations.{hold_in, is_last};
 ghost use Rattle.lock_model.specs.Words.{is_turnstile};
+ghost use Rattle.cond_vars.specs.Waits.{lock_of};
 ghost use Rattle.floor_table.specs.Descriptions.{config_in};
 ghost use Rattle.lock_model.specs.declared.plan.Kind.TheVariants.{Mtx, Sx};
 ghost use Rattle.floor_calls.specs.declared.requests.Cause.TheVariants.{NoMode};
 ghost use Rattle.floor_calls.specs.declared.requests.Request.TheVariants.{Take};
 ghost use Rattle.floor_calls.specs.declared.stages.Stage.TheVariants as stages;
-ghost use Rattle.floor_calls.specs.Causes.{HoldsMutexOrRw, Says, causes};
+ghost use Rattle.floor_calls.specs.Causes.{HoldsMutexOrRw, HoldsOtherThan, Says, causes};
 ghost use Rattle.floor_calls.specs.First.{IsFirst};
 ghost use Rattle.floor_calls.specs.Openings.{thread_at_rest};
 
@@ -19,7 +20,7 @@ use crate::shared::Shared;
 use crate::stages::{Stage, is_in_call};
 use lock_floor::Pass;
 use lock_model::limits::HELD;
-use lock_model::{Kind, LockNo, Mode, ThreadNo};
+use lock_model::{ChanNo, Held, Kind, LockNo, Mode, ThreadNo};
 use std::alloc::Global;
 use std::marker::Model;
 use std::sync::Arc;
@@ -100,6 +101,10 @@ impl Thread {
             | Stage::Releases
             | Stage::ComesToWake { .. }
             | Stage::Wakes
+            | Stage::Waits { .. }
+            | Stage::ComesToGiveUp(_)
+            | Stage::GivesUp { .. }
+            | Stage::TakesBack { .. }
             | Stage::Ends(_) => false,
         }
     }
@@ -131,6 +136,15 @@ impl Thread {
                 Cause::InCall,
                 Cause::NoChan(c),
                 Cause::Spent,
+            ]),
+            Request::Wait { c } => self.first(&[
+                Cause::Ended,
+                Cause::InCall,
+                Cause::NoChan(c),
+                Cause::NotLast(c),
+                Cause::HoldsOthers(c),
+                Cause::HoldsMore,
+                Cause::Short,
             ]),
             Request::End => self.first(&[Cause::Ended, Cause::InCall, Cause::HoldsSome]),
             Request::GoOn => self.first(&[Cause::Ended, Cause::AtRest]),
@@ -178,13 +192,17 @@ impl Thread {
             Cause::AtRest => self.is_at_rest(),
             Cause::NoLock(l) => !self.has_lock(l),
             Cause::NoMode(l, mode) => self.has_no_mode(l, mode),
-            Cause::NoChan(c) => usize::from(c.0) >= self.shared.chans,
+            Cause::NoChan(c) => usize::from(c.0) >= self.shared.chans.len(),
             Cause::Held(l) => self.pass.mode(l).is_some(),
             Cause::HoldsUnsleepable(l) => is_sx(self.kind(l)) && self.holds_mutex_or_rw(),
+            Cause::NotLast(c) => !is_last(self.pass.held(), self.lock_of(c)),
+            Cause::HoldsOthers(c) => self.holds_others(self.lock_of(c)),
             Cause::NotHeld(l, mode) => !self.holds(l, mode),
             Cause::HoldsMost => self.pass.held().len() >= HELD,
+            Cause::HoldsMore => self.pass.held().len() > HELD,
             Cause::HoldsSome => !self.pass.held().is_empty(),
             Cause::Spent => self.pass.spare() == 0,
+            Cause::Short => self.pass.spare() < 2,
         }
     }
 
@@ -199,6 +217,10 @@ impl Thread {
             | Stage::Releases
             | Stage::ComesToWake { .. }
             | Stage::Wakes
+            | Stage::Waits { .. }
+            | Stage::ComesToGiveUp(_)
+            | Stage::GivesUp { .. }
+            | Stage::TakesBack { .. }
             | Stage::Ends(_)
             | Stage::Ended => false,
         }
@@ -242,6 +264,26 @@ impl Thread {
             .any(|held| is_mutex_or_rw(self.kind(held.l)))
     }
 
+    // The lock of a condition variable or channel, which is lock 0 where the floor has no such one.
+    fn lock_of(&self, c: ChanNo) -> LockNo
+        ensures { result.0 ≡ lock_of self.now.floor.description c.0 }
+    {
+        match self.shared.chans.get(usize::from(c.0)) {
+            Some(l) => *l,
+            None => LockNo(0),
+        }
+    }
+
+    // Whether the thread holds a mutex or a reader-writer lock beside that lock.
+    fn holds_others(&self, l: LockNo) -> bool
+        ensures { IsTrue result ↔ HoldsOtherThan l.0 self.now }
+    {
+        self.pass
+            .held()
+            .iter()
+            .any(|held| held.l != l && is_mutex_or_rw(self.kind(held.l)))
+    }
+
     // Whether the thread holds the lock in that mode.
     fn holds(&self, l: LockNo, mode: Mode) -> bool
         ensures { IsTrue result ↔ (hold_in self.now.pass.view.share.held l.0 ≡ Holds mode) }
@@ -252,6 +294,14 @@ impl Thread {
                 false,
         }
     }
+}
+
+// Whether a lock was gained last, and not by a try.
+#[tactic(auto, using(crate::proofs::Sleepable::last_place))]
+fn is_last(held: &[Held], l: LockNo) -> bool
+    ensures { result ≡ is_last l.0 held.now }
+{
+    held.last().is_some_and(|h| h.l == l && !h.by_try)
 }
 
 // Whether it is the kind of an sx lock.

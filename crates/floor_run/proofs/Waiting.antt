@@ -1,5 +1,5 @@
--- A wait of a script is made under no other lock that blocks on a turnstile; and what a worker has of the calls of a wait
--- and of a waking.
+-- A wait of a script is made under no other lock that blocks on a turnstile; and what a worker has of the calls of a
+-- wait and of a waking.
 use Rattle.std.proofs.Common.{◌≡◌, ℕ, zero, suc, ◌≤◌, Bool, true, false, ◌||◌, cond, eqb, arith, List, [], ◌∷◌, length, slice_get, Option, Some, None, option_map, refl, sym, ap, ◌∙◌}
 use Rattle.std.specs.Prelude.{unwrap_or, ◌==◌}
 use Rattle.std.specs.List.{list_all}

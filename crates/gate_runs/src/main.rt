@@ -1,7 +1,7 @@
-//! `gate_runs SEED WORDS < SCRIPT` does what `lockrun WORDS < SCRIPT` does, with the threads of `run` behind a gate that
-//! holds them where the seed says, so that they meet as they seldom do by themselves: one is held while it has a lock,
-//! and others come to it and fall asleep. The last line of standard error says how often a thread was held, and how
-//! often in vain. It is there to try the locks by (`tools/try_runs.py --gated`).
+//! `gate_runs SEED WORDS < SCRIPT` does what `lockrun WORDS < SCRIPT` does, with the threads of `run` behind a gate
+//! that holds them where the seed says, so that they meet as they seldom do by themselves: one is held while it has a
+//! lock, and others come to it and fall asleep. The last line of standard error says how often a thread was held, and
+//! how often in vain. It is there to try the locks by (`tools/try_runs.py --gated`).
 #![tactic(auto)]
 
 mod gate;

@@ -1,5 +1,5 @@
 -- One sleeper is taken off a queue: it is alone in the marked list then.
-use Rattle.std.proofs.Common.{◌≡◌, ℕ, ◌+◌, ◌<◌, ◌≤◌, Bool, true, Option, Some, None, List, [], ◌∷◌, length, refl, sym, ap, ◌∙◌, subst, arith}
+use Rattle.std.proofs.Common.{◌≡◌, ℕ, ◌+◌, ◌<◌, ◌≤◌, Bool, true, Option, Some, None, List, [], ◌∷◌, length, refl, sym, ap, ◌∙◌, subst, inl, inr, arith}
 use Rattle.std.proofs.lemmas.List.Elements.{All-head}
 use Rattle.std.specs.List.{All}
 use Rattle.std.proofs.lemmas.Option.{same_Some}
@@ -41,7 +41,7 @@ use Rattle.lock_floor.proofs.MayHalt.{halt_seen, may_abort_last}
 use Rattle.lock_floor.proofs.OpenStep.{marked_low}
 use Rattle.halting.specs.Halts.{FindsFirst, HaltsOn, HasQueueOut, HasTakenOff, IsAside, IsFirstOf, IsHalter, Kept, TakesOff, aborts, kept_of}
 use Rattle.halting.proofs.Coming.{goes_on, may_go_on}
-use Rattle.halting.proofs.Finding.{off_the_way}
+use Rattle.halting.proofs.Finding.{look_of, off_the_way}
 
 -- 1. It may take it off
 
@@ -72,6 +72,7 @@ module _ (floor : Description) (q : QueueName) (u : ℕ) (old new : Knowledge) (
   took_off = record {
     side = a.side;
     kept = ap kept_of a.view;
+    look = inl (ap look_of a.view);
     uncounted = ap (λ (k : Knowledge). k.share.doing.counting) a.view;
     phase = ap (λ (k : Knowledge). k.share.doing.phase) a.view;
     chain = chain_aborted q u a.sleeps.head a.sleepers.chain;
@@ -88,6 +89,7 @@ module _ (floor : Description) (l : ℕ) (side : Side) (u : ℕ) (old new : Know
   took_last = record {
     side = side;
     kept = ap kept_of a.view;
+    look = inr (ap look_of a.view);
     uncounted = ap (λ (k : Knowledge). k.share.doing.counting) a.view;
     phase = ap (λ (k : Knowledge). k.share.doing.phase) a.view;
     chain = chain_aborted (lock_queue l) u a.sleeps.head a.sleepers.chain;
@@ -210,6 +212,7 @@ module _ (floor : Description) (over : ℕ) (itself : Bool) (v new : Knowledge) 
       ),
     );
     kept = off.kept;
+    look = off.look;
     leg = aborts over itself has.queue off.side taken.mark has.there
         (subst (λ n. IsFirstOf floor has.queue n v) (sym (taken_off floor has.queue off.side u v new off.step).1) first)
         taken.marked

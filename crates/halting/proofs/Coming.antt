@@ -34,7 +34,7 @@ use Rattle.lock_floor.proofs.MayHalt.{StandsOrEnded, halt_seen, may_count_out_ag
 use Rattle.lock_floor.proofs.MayWake.{HasLeft, halting_unparked}
 use Rattle.lock_floor.specs.Aborts.{HasSeenHalt}
 use Rattle.halting.specs.Halts.{EndsHalting, HaltEnd, HaltLeg, HaltsOn, HasLetGo, HasQueueOut, IsAside, IsAt, IsHalter, IsOut, Kept, WakesNoOther, WakesOther, aborted_itself, all_ended, finds_out, gives_chain, is_last, kept_of, others_awake, passes, takes_chain}
-use Rattle.halting.proofs.Finding.{off_the_way}
+use Rattle.halting.proofs.Finding.{look_of, off_the_way}
 
 -- 1. What stays
 
@@ -138,6 +138,7 @@ module _ (floor : Description) (over : ℕ) (itself : Bool) (v : Knowledge) (h :
   passes_on q is turnstile = record {
     at = (h, empty, unmarked);
     kept = refl;
+    look = inl refl;
     leg = passes over itself q is turnstile refl;
   }
 
@@ -170,6 +171,7 @@ module _ (floor : Description) (over : ℕ) (itself : Bool) (v : Knowledge) (h :
             ap (λ (k : Knowledge). k.share.doing.marked) taken.view ∙ unmarked,
           );
           kept = kept;
+          look = inl (ap look_of taken.view);
           leg = takes_chain over itself q is sleeps taken.step;
         }
 
@@ -182,6 +184,7 @@ module _ (floor : Description) (over : ℕ) (itself : Bool) (v : Knowledge) (h :
         ap (λ (k : Knowledge). k.share.doing.marked) view ∙ unmarked,
       );
       kept = ap kept_of view;
+      look = inl (ap look_of view);
       leg = finds_out (at.Comes over itself) (its_chain floor q) (q, is, sleeps, refl) view finds;
     }
 
@@ -192,6 +195,7 @@ module _ (floor : Description) (over : ℕ) (itself : Bool) (v : Knowledge) (h :
     ends_itself own = record {
       halted = record {
         kept = refl;
+        look = inl refl;
         uncounted = h.uncounted;
         nothing_out = empty;
         unmarked = unmarked;
@@ -226,6 +230,7 @@ module _ (floor : Description) (over : ℕ) (itself : Bool) (v : Knowledge) (h :
                 last = last;
               };
               kept = ap kept_of view;
+              look = inl (ap look_of view);
               leg = subst (λ b. HaltLeg floor (at.Comes over b) at.Finds v new) (sym others)
                   (is_last over none step last);
             }
@@ -237,6 +242,7 @@ module _ (floor : Description) (over : ℕ) (itself : Bool) (v : Knowledge) (h :
             record {
               halted = record {
                 kept = ap kept_of view;
+                look = inl (ap look_of view);
                 uncounted = ap (λ (k : Knowledge). k.share.doing.counting) view ∙ h.uncounted;
                 nothing_out = ap (λ (k : Knowledge). k.out) view ∙ empty;
                 unmarked = ap (λ (k : Knowledge). k.share.doing.marked) view ∙ unmarked;
@@ -269,6 +275,7 @@ module _ (floor : Description) (over : ℕ) (itself : Bool) (v : Knowledge) (h :
       ap (λ (k : Knowledge). k.share.doing.marked) view ∙ unmarked,
     );
     kept = ap kept_of view;
+    look = inl (ap look_of view);
     leg = gives_chain over itself has.queue has.there (record { chain = has.chain; out = has.out; nobody = nobody })
         step;
   }

@@ -14,6 +14,7 @@ use Rattle.lock_floor.specs.Counts.{counted}
 use Rattle.lock_floor.proofs.MayHalt.{may_count_out_again}
 use Rattle.halting.specs.Halts.{CountsItselfOut, HaltsOthers, HasHalted, IsAside, IsLast, MayCountOut, kept_of, nobody_is_awake, somebody_is_awake}
 use Rattle.halting.proofs.Coming.{stands_or_ended}
+use Rattle.halting.proofs.Finding.{look_of}
 use Rattle.halting.proofs.Whole.{halted_since}
 
 pub may_count : (floor : Description) (v : Knowledge) → MayCountOut floor v
@@ -46,7 +47,7 @@ module _ (floor : Description) (found : ℕ) (v new : Knowledge) (h : MayCountOu
   pub counts_last : (one : found ≡ 1) → Makes floor (CountsOut v.thread ∷ []) v new → (end : Knowledge)
       → HasHalted floor new end → HaltsOthers floor new end → HasHalted floor v end × CountsItselfOut floor v end
   counts_last one step end halted whole = (
-    halted_since floor v new end (ap kept_of view) halted,
+    halted_since floor v new end (ap kept_of view) (inl (ap look_of view)) halted,
     nobody_is_awake step (is_last_of one).1.1 whole,
   )
 
@@ -58,6 +59,7 @@ module _ (floor : Description) (found : ℕ) (v new : Knowledge) (h : MayCountOu
       phase_now ∙ ap (λ b. cond b Last Asleep) (ne_eqb found 1 more) in (
         record {
           kept = ap kept_of view;
+          look = inl (ap look_of view);
           uncounted = ap (λ (k : Knowledge). k.share.doing.counting) view ∙ h.uncounted;
           nothing_out = ap (λ (k : Knowledge). k.out) view ∙ h.nothing_out;
           unmarked = ap (λ (k : Knowledge). k.share.doing.marked) view ∙ h.unmarked;

@@ -34,7 +34,8 @@ use Rattle.lock_floor.proofs.Taking.{record_at}
 use Rattle.halting.specs.declared.ending.EndAt.{EndAt}
 use Rattle.halting.specs.declared.ending.EndAt.TheVariants.{Takes as TakesRecord, Halts}
 use Rattle.halting.specs.Ends.{EndDone, EndLeg, EndsItself, EndsOn, EndsThread, HasEnded, IsHaltingEnded, ends, ends_by, finds_out, halted, halts, leaves_some}
-use Rattle.halting.specs.Halts.{EndsHalting, HaltsOn, HaltsOthers, HasHalted, IsAside, IsAt, IsLast, Kept, kept_of, nobody_is_awake, somebody_is_awake}
+use Rattle.halting.proofs.Finding.{look_of, none_still}
+use Rattle.halting.specs.Halts.{EndsHalting, HaltsOn, HaltsOthers, HasHalted, HasNoNewLook, IsAside, IsAt, IsLast, Kept, kept_of, nobody_is_awake, somebody_is_awake}
 
 -- a thread that isn't parked gives its own record back
 may_give_own : (floor : Description) (v : Knowledge) (y : Slot) → IsOffTheWay v.pose → v.share.doing.unstamped ≡ None
@@ -70,6 +71,7 @@ pub stays : (floor : Description) (v new : Knowledge) → IsAtRest floor v → v
 stays floor v new h bare view finds = record {
   at = (subst (IsAtRest floor) (sym view) (rest_seen h), ap (λ (k : Knowledge). k.share.held) view ∙ bare);
   kept = ap kept_of view;
+  look = inl (ap look_of view);
   leg = finds_out view finds;
 }
   where
@@ -198,6 +200,9 @@ module _ (floor : Description) (v a : Knowledge) (mine : v.description ≡ floor
           kept_now : kept_of new ≡ record (kept_of v) { has_ended = true }
           kept_now = ap kept_of counts ∙ g_kept
 
+          look_now : HasNoNewLook v new
+          look_now = inl (ap look_of counts ∙ ap look_of home ∙ ap look_of view ∙ ap look_of taken.view)
+
           pub ends_last : n ≡ 1 → EndsOn floor TakesRecord (Halts at.Finds) v new
           ends_last one = record {
             at = record {
@@ -213,6 +218,7 @@ module _ (floor : Description) (v a : Knowledge) (mine : v.description ≡ floor
               unheld = ap (λ (k : Kept). k.held) kept_now ∙ bare;
             };
             kept = kept_now;
+            look = look_now;
             leg = ends steps count_step;
           }
 
@@ -231,6 +237,7 @@ module _ (floor : Description) (v a : Knowledge) (mine : v.description ≡ floor
                   unheld = ap (λ (k : Kept). k.held) kept_now ∙ bare;
                 };
                 kept = kept_now;
+                look = look_now;
                 end = leaves_some steps count_step asleep;
               }
 
@@ -251,6 +258,7 @@ module _ (floor : Description) (there : HaltAt) (v : Knowledge) (h : IsHaltingEn
       unheld = ap (λ (k : Kept). k.held) on.kept ∙ h.unheld;
     };
     kept = on.kept ∙ same_kept;
+    look = on.look;
     leg = halts there to on.leg;
   }
 
@@ -277,6 +285,7 @@ module _ (floor : Description) (there : HaltAt) (v : Knowledge) (h : IsHaltingEn
   ends_done new aside done = record {
     ended = has_ended new aside done.halted;
     kept = done.halted.kept ∙ same_kept;
+    look = done.halted.look;
     end = halted there done.end;
   }
 
@@ -391,6 +400,9 @@ module _ (floor : Description) (begun v w : Knowledge) (s : EndsSince floor begu
   pub ends_kept : EndsThread floor TakesRecord v w → kept_of w ≡ when_ended (kept_of begun)
   ends_kept d = d.kept ∙ ap when_ended s.kept
 
+  pub ends_unseen : EndsThread floor TakesRecord v w → w.share.doing.last_look ≡ None
+  ends_unseen d = none_still v w d.look s.at.no_last_look
+
   pub ends_whole : EndsThread floor TakesRecord v w → EndsItself floor begun w
   ends_whole d = s.whole_then w (by TakesRecord refl d.end)
     where
@@ -416,6 +428,9 @@ module _ (floor : Description) (begun v w : Knowledge) (s : EndsSince floor begu
 
     pub halts_kept : (new : Knowledge) → HasHalted floor w new → kept_of new ≡ when_ended (kept_of begun)
     halts_kept new done = done.kept ∙ on.kept ∙ ap when_ended s.kept
+
+    pub halts_unseen : (new : Knowledge) → HasHalted floor w new → new.share.doing.last_look ≡ None
+    halts_unseen new done = none_still w new done.look (none_still v w on.look s.at.no_last_look)
 
     pub halts_whole : (new : Knowledge) → HasHalted floor w new → HaltsOthers floor w new
         → HasEnded floor new × EndsItself floor begun new

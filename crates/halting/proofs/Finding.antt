@@ -1,8 +1,8 @@
 -- A halting begins: where a thread is left that hasn't ended, the last counts itself in and sets the halt word; and
 -- where none is left it is done.
-use Rattle.std.proofs.Common.{◌≡◌, ℕ, true, false, None, [], ◌∷◌, refl, sym, ap, ◌∙◌, subst, inl, inr}
+use Rattle.std.proofs.Common.{◌≡◌, ℕ, true, false, Option, None, [], ◌∷◌, refl, sym, ap, ◌∙◌, subst, inl, inr}
 use Rattle.lock_model.specs.Config.{Config}
-use Rattle.lock_state.specs.State.{Last, Halting, SelfAborted, is_finder, is_parked}
+use Rattle.lock_state.specs.State.{Look, Last, Halting, SelfAborted, is_finder, is_parked}
 use Rattle.lock_state.specs.Steps.{CountsSelfIn, Halts, is_halting}
 use Rattle.floor_table.specs.Descriptions.{config_in}
 use Rattle.floor_table.specs.Past.{LeadsTo}
@@ -17,12 +17,27 @@ use Rattle.lock_floor.specs.Counts.{counted}
 use Rattle.lock_floor.specs.Ends.{FindsWhetherLeft}
 use Rattle.lock_floor.specs.Passes.{IsOffTheWay}
 use Rattle.lock_floor.proofs.MayHalt.{may_count_self_in, may_halt, halt_made_seen}
-use Rattle.halting.specs.Halts.{EndsHalting, HaltsOn, IsAside, IsLast, IsOut, Kept, kept_of, all_ended, halts}
+use Rattle.halting.specs.Halts.{EndsHalting, HaltsOn, HasNoNewLook, IsAside, IsLast, IsOut, Kept, kept_of, all_ended, halts}
 
 -- who counts itself out stands on a queue or runs
 pub off_the_way : (c : Config) (k : Kept) → IsOut c k → IsOffTheWay k.pose
 off_the_way c k (inl (q, stands, left)) = inr (q, stands)
 off_the_way c k (inr (runs, ended)) = inl runs
+
+-- what it saw last of a lock's word
+abbrev pub look_of : Knowledge → Option Look
+look_of v = v.share.doing.last_look
+
+-- through two parts it has no new look where it has none through each
+pub no_new_look : (u v w : Knowledge) → HasNoNewLook u v → HasNoNewLook v w → HasNoNewLook u w
+no_new_look u v w before (inr none) = inr none
+no_new_look u v w (inl same) (inl still) = inl (still ∙ same)
+no_new_look u v w (inr none) (inl still) = inr (still ∙ none)
+
+pub none_still : (v w : Knowledge) → HasNoNewLook v w → v.share.doing.last_look ≡ None
+    → w.share.doing.last_look ≡ None
+none_still v w (inl same) none = same ∙ none
+none_still v w (inr gone) none = gone
 
 -- who found that a thread is left has seen it
 pub left_seen : (floor : Description) (old new : Knowledge) → FindsWhetherLeft floor true old new
@@ -38,6 +53,7 @@ module _ (floor : Description) (v found : Knowledge) (h : IsLast floor v) (view 
   ends_at_once f = record {
     halted = record {
       kept = ap kept_of view;
+      look = inl (ap look_of view);
       uncounted = ap (λ (k : Knowledge). k.share.doing.counting) view ∙ h.uncounted;
       nothing_out = ap (λ (k : Knowledge). k.out) view ∙ h.nothing_out;
       unmarked = ap (λ (k : Knowledge). k.share.doing.marked) view ∙ h.unmarked;
@@ -105,6 +121,7 @@ module _ (floor : Description) (v found : Knowledge) (h : IsLast floor v) (view 
                 ∙ ap (λ (k : Knowledge). k.share.doing.marked) view ∙ h.unmarked,
           );
           kept = all_kept;
+          look = inl (ap look_of same ∙ ap look_of counts ∙ ap look_of view);
           leg = halts f (
             in_now,
             subst (λ t. Makes floor (CountsSelfIn t ∷ []) found in_now) (ap (λ (k : Knowledge). k.thread) view) step,

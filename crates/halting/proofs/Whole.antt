@@ -23,8 +23,9 @@ use Rattle.lock_floor.specs.Marks.{wakes}
 use Rattle.lock_floor.specs.Queues.{queue_at}
 use Rattle.lock_floor.specs.Waits.{its_chain}
 use Rattle.lock_floor.proofs.Marked.{head_or}
-use Rattle.halting.specs.Halts.{AbortsEach, Awaits, EndsHalting, HaltEnd, HaltLeg, HaltsOn, HaltsOthers, HasHalted, IsAt, IsFirstOf, IsLast, Kept, Sweeps, kept_of, wakes_itself}
+use Rattle.halting.specs.Halts.{AbortsEach, Awaits, EndsHalting, HaltEnd, HaltLeg, HaltsOn, HaltsOthers, HasHalted, HasNoNewLook, IsAt, IsFirstOf, IsLast, Kept, Sweeps, kept_of, wakes_itself}
 use Rattle.halting.specs.Halts as whole
+use Rattle.halting.proofs.Finding.{no_new_look}
 
 -- 1. What is left, to that thread
 
@@ -288,10 +289,11 @@ ends floor t v w its there (whole.others_awake over none counts asleep) = record
 }
 
 -- who has halted has since what it knew before, where all was kept
-pub halted_since : (floor : Description) (begun v w : Knowledge) → kept_of v ≡ kept_of begun → HasHalted floor v w
-    → HasHalted floor begun w
-halted_since floor begun v w kept h = record {
+pub halted_since : (floor : Description) (begun v w : Knowledge) → kept_of v ≡ kept_of begun → HasNoNewLook begun v
+    → HasHalted floor v w → HasHalted floor begun w
+halted_since floor begun v w kept look h = record {
   kept = h.kept ∙ kept;
+  look = no_new_look begun v w look h.look;
   uncounted = h.uncounted;
   nothing_out = h.nothing_out;
   unmarked = h.unmarked;
@@ -303,10 +305,11 @@ halted_since floor begun v w kept h = record {
 pub record HaltsSince (floor : Description) (begun : Knowledge) (there : HaltAt) (v : Knowledge) : Type 0 where
   pub at : IsAt floor there v
   pub kept : kept_of v ≡ kept_of begun
+  pub look : HasNoNewLook begun v
   pub whole_then : (new : Knowledge) → RestOf floor begun.thread there v new → HaltsOthers floor begun new
 
 pub begins_whole : (floor : Description) (v : Knowledge) → IsLast floor v → HaltsSince floor v at.Finds v
-begins_whole floor v last = record { at = last; kept = refl; whole_then = λ new rest. rest }
+begins_whole floor v last = record { at = last; kept = refl; look = inl refl; whole_then = λ new rest. rest }
 
 module _ (floor : Description) (begun v w : Knowledge) (there : HaltAt) (s : HaltsSince floor begun there v) where
   its_thread : v.thread ≡ begun.thread
@@ -316,6 +319,7 @@ module _ (floor : Description) (begun v w : Knowledge) (there : HaltAt) (s : Hal
   goes_on to on = record {
     at = on.at;
     kept = on.kept ∙ s.kept;
+    look = no_new_look begun v w s.look on.look;
     whole_then = λ new rest. s.whole_then new
         (back floor begun.thread v w new its_thread (ap (λ (k : Kept). k.thread) on.kept ∙ its_thread) there to on.leg
         rest);
@@ -323,6 +327,6 @@ module _ (floor : Description) (begun v w : Knowledge) (there : HaltAt) (s : Hal
 
   pub is_done : EndsHalting floor there v w → HasHalted floor begun w × HaltsOthers floor begun w
   is_done e = (
-    halted_since floor begun v w s.kept e.halted,
+    halted_since floor begun v w s.kept s.look e.halted,
     s.whole_then w (ends floor begun.thread v w its_thread there e.end),
   )

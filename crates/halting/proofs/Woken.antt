@@ -32,7 +32,7 @@ use Rattle.lock_floor.proofs.MayWake.{may_count_in, may_mark}
 use Rattle.lock_floor.proofs.Waking.{box_is, first_out, first_then}
 use Rattle.halting.specs.Halts.{HaltsOn, HasQueueOut, HasTakenOff, IsAside, IsAt, IsHalter, Kept, WakesNoOther, WakesOther, finds_out, kept_of, wakes_other, wakes_own}
 use Rattle.halting.proofs.Coming.{halter_waits}
-use Rattle.halting.proofs.Finding.{off_the_way}
+use Rattle.halting.proofs.Finding.{look_of, off_the_way}
 
 module _ (floor : Description) (over : ℕ) (itself : Bool) (v : Knowledge) (h : IsHalter floor itself v)
     (has : HasQueueOut floor over v) (off : HasTakenOff floor has.queue v) where
@@ -84,6 +84,7 @@ module _ (floor : Description) (over : ℕ) (itself : Bool) (v : Knowledge) (h :
       ),
     );
     kept = ap kept_of view;
+    look = inl (ap look_of view);
     leg = finds_out (at.Wakes over itself) (RecordOf u) (m, off.marked, refl) view finds;
   }
 
@@ -271,6 +272,7 @@ module _ (floor : Description) (over : ℕ) (itself : Bool) (v : Knowledge) (h :
               itself own h.stood e view gives;
           kept = kept_behind floor over itself v h has off a taken d first_now refl refl d_kept d_out b marks still
               d_seen itself own h.stood e view gives;
+          look = inl (ap look_of view ∙ ap look_of marks.view ∙ ap look_of counts ∙ ap look_of taken.view);
           leg = wakes_other over itself off.mark off.marked other (
             a,
             taken.step,
@@ -354,6 +356,7 @@ module _ (floor : Description) (over : ℕ) (itself : Bool) (v : Knowledge) (h :
             still_own a_seen true is_own stands_there e view gives;
         kept = kept_behind floor over itself v h has off a taken a first_here refl refl (ap kept_of taken.view) a_out b
             marks still_own a_seen true is_own stands_there e view gives;
+        look = inl (ap look_of view ∙ ap look_of marks.view ∙ ap look_of taken.view);
         leg = wakes_own over itself off.mark off.marked its_own (
           a,
           taken.step,

@@ -14,7 +14,7 @@ use Rattle.halting.specs.declared.ending.EndAt.{EndAt}
 use Rattle.halting.specs.declared.ending.EndAt.TheVariants.{Takes, Halts}
 use Rattle.halting.specs.declared.ending.EndNext.{EndNext}
 use Rattle.halting.specs.declared.ending.EndNext.TheVariants.{Done, Again, Wake}
-use Rattle.halting.specs.Halts.{CountsItselfOut, HaltEnd, HaltLeg, IsAside, IsAt, Kept, WakesNoOther, WakesOther, kept_of}
+use Rattle.halting.specs.Halts.{CountsItselfOut, HaltEnd, HaltLeg, HasNoNewLook, IsAside, IsAt, Kept, WakesNoOther, WakesOther, kept_of}
 
 -- its own record is taken, it counts itself among those that have ended, and the record is given back
 abbrev pub ends_by : ℕ → List (List Step)
@@ -66,6 +66,7 @@ pub data EndLeg (floor : Description) : EndAt → EndAt → Knowledge → Knowle
 pub record EndsOn (floor : Description) (there to : EndAt) (old new : Knowledge) : Type 0 where
   pub at : IsEnding floor to new
   pub kept : kept_of new ≡ kept_to to (kept_of old)
+  pub look : HasNoNewLook old new
   pub leg : EndLeg floor there to old new
 
 -- it has ended, and somebody is awake or all have ended
@@ -76,10 +77,11 @@ pub data EndDone (floor : Description) : EndAt → Knowledge → Knowledge → T
   halted : {old new : Knowledge} (there : HaltAt) → HaltEnd floor there old new
       → EndDone floor (Halts there) old new
 
--- it is done, and all stays but that it has ended
+-- it is done, and all stays but that it has ended, and may have lost its last look
 pub record EndsThread (floor : Description) (there : EndAt) (old new : Knowledge) : Type 0 where
   pub ended : HasEnded floor new
   pub kept : kept_of new ≡ record (kept_of old) { has_ended = true }
+  pub look : HasNoNewLook old new
   pub end : EndDone floor there old new
 
 abbrev pub GoesOnEnding : Description → EndAt → EndNext → Knowledge → Knowledge → Type 0

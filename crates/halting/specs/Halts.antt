@@ -10,7 +10,7 @@ use Rattle.lock_model.specs.declared.plan.QueueName.{QueueName}
 use Rattle.lock_model.specs.declared.plan.QueueName.TheVariants.{Lock, Chan}
 use Rattle.lock_model.specs.declared.event.Entry.{Entry}
 use Rattle.lock_model.specs.declared.event.Held.{Held}
-use Rattle.lock_state.specs.State.{Look, Round, Note, Wake, Walk, NoWalk, Awake, Asleep, Last, SelfAborted}
+use Rattle.lock_state.specs.State.{Round, Note, Wake, Walk, NoWalk, Awake, Asleep, Last, SelfAborted}
 use Rattle.lock_state.specs.Steps.{Step, TakesItem, GivesItem, Marks, CountsOut, CountsSelfIn, Halts, Aborts, is_halting, IsAtResume}
 use Rattle.lock_state.specs.Steps.Items.{Item, RecordOf}
 use Rattle.lock_state.specs.Steps.LockWords.{is_taking_back}
@@ -37,7 +37,7 @@ use Rattle.halting.specs.declared.halting.Next.TheVariants as next
 -- 1. What stays
 
 -- what a thread knows that stays through a halting: all but its counting, whom it counted in or has to wake, what is
--- out and what it saw under a chain
+-- out, what it saw under a chain and its last look
 pub record Kept : Type 0 where
   pub role : Role
   pub description : Description
@@ -53,7 +53,6 @@ pub record Kept : Type 0 where
   pub walk : Walk
   pub looks : ℕ
   pub looks_in_all : ℕ
-  pub last_look : Option Look
   pub round : Option Round
   pub noted : Option Note
   pub woken_from : Option ℕ
@@ -76,13 +75,17 @@ kept_of v = record {
   walk = v.share.doing.walk;
   looks = v.share.doing.looks;
   looks_in_all = v.share.doing.looks_in_all;
-  last_look = v.share.doing.last_look;
   round = v.share.doing.round;
   noted = v.share.doing.noted;
   woken_from = v.share.doing.woken_from;
   unstamped = v.share.doing.unstamped;
   has_ended = v.share.doing.has_ended;
 }
+
+-- its last look is as it was, or it has none any more: by an abort a lock's word may have changed
+abbrev pub HasNoNewLook : Knowledge → Knowledge → Type 0
+HasNoNewLook old new =
+    (new.share.doing.last_look ≡ old.share.doing.last_look) ⊎ (new.share.doing.last_look ≡ None)
 
 -- 2. Where the thread is
 
@@ -233,11 +236,12 @@ pub data HaltLeg (floor : Description) : HaltAt → HaltAt → Knowledge → Kno
       → new ≡ seeing new.seen old → FindsOut floor i old new → HaltLeg floor there there old new
 
 -- it took that sleeper off the queue by an abort: in one step it is alone in its marked list, and nothing else is new
--- but the chain and where it is with its counting
+-- but the chain, where it is with its counting, and that it may have lost its last look
 pub record TakesOff (floor : Description) (q : QueueName) (u : ℕ) (old new : Knowledge) : Type 0
   where
     pub side : Side
     pub kept : kept_of new ≡ kept_of old
+    pub look : HasNoNewLook old new
     pub uncounted : new.share.doing.counting ≡ old.share.doing.counting
     pub phase : new.share.doing.phase ≡ phase_aborting old.share.doing.phase
     pub chain : List (QueueName × SleepQueue)
@@ -259,6 +263,7 @@ pub data HaltEnd (floor : Description) : HaltAt → Knowledge → Knowledge → 
 -- behind it the thread is parked, or aborted itself: it runs again where it was woken
 pub record HasHalted (floor : Description) (old new : Knowledge) : Type 0 where
   pub kept : kept_of new ≡ kept_of old
+  pub look : HasNoNewLook old new
   pub uncounted : new.share.doing.counting ≡ None
   pub nothing_out : new.out ≡ []
   pub unmarked : new.share.doing.marked ≡ []
@@ -271,6 +276,7 @@ pub record HasHalted (floor : Description) (old new : Knowledge) : Type 0 where
 pub record HaltsOn (floor : Description) (there to : HaltAt) (old new : Knowledge) : Type 0 where
   pub at : IsAt floor to new
   pub kept : kept_of new ≡ kept_of old
+  pub look : HasNoNewLook old new
   pub leg : HaltLeg floor there to old new
 
 -- it is done

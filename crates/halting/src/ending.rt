@@ -1,5 +1,5 @@
 //! How a thread ends, part by part, and a loop over the parts that waits.
-ghost use Rattle.std.specs.Prelude.{◌≡◌, true, []};
+ghost use Rattle.std.specs.Prelude.{◌≡◌, true, [], None};
 ghost use Rattle.halting.specs.declared.ending.EndAt.TheVariants.{Takes};
 ghost use Rattle.lock_floor.specs.Passes.{IsOf, IsReady};
 ghost use Rattle.halting.specs.Ends.{EndsItself, GoesOnEnding, HasEnded, IsEnding};
@@ -59,6 +59,7 @@ pub fn end_thread<R: Wait>(floor: &Floor, rt: &R, pass: &mut Pass)
     ensures own { IsOf floor.now pass.new }
     ensures ended { HasEnded floor.now.description pass.new.view }
     ensures kept { kept_of pass.new.view ≡ record (kept_of pass.old.view) { has_ended = true } }
+    ensures no_last_look { pass.new.view.share.doing.last_look ≡ None }
     ensures steps { EndsItself floor.now.description pass.old.view pass.new.view }
 {
     let backoff = Backoff::new();

@@ -1,11 +1,11 @@
 //! `lock_bench [time [CASE]]` times the locks of running floors. With `time` it prints lines `name value` as
-//! `bench/mutex_baseline.c`, `bench/rwlock_baseline.c` and `bench/cond_baseline.c` do, whose names and shapes of runs it
-//! shares, of all cases or of one: nanoseconds of an operation, which is a take, an edit, a `get` or a release with its entry, best and median
-//! of 9 runs, and of how many of 100 sections of the median run the one before, of the same lock, was another thread's.
-//! Where threads wait on a condition it is those of a round: of a round trip, or of a broadcast until all sleep again.
-//! Of a chain it is the nanoseconds from a take at its end to the loan that is seen at its head. Of a writer's takes
-//! while others read it is the median and the longest of 1,000. Without a word, it makes a short run of each case, and
-//! prints the names alone.
+//! `bench/mutex_baseline.c`, `bench/rwlock_baseline.c` and `bench/cond_baseline.c` do, whose names and shapes of runs
+//! it shares, of all cases or of one: nanoseconds of an operation, which is a take, an edit, a `get` or a release with
+//! its entry, best and median of 9 runs, and of how many of 100 sections of the median run the one before, of the same
+//! lock, was another thread's. Where threads wait on a condition it is those of a round: of a round trip, or of a
+//! broadcast until all sleep again. Of a chain it is the nanoseconds from a take at its end to the loan that is seen at
+//! its head. Of a writer's takes while others read it is the median and the longest of 1,000. Without a word, it makes
+//! a short run of each case, and prints the names alone.
 #![tactic(auto)]
 
 mod gate;

@@ -26,8 +26,8 @@ use Rattle.lock_calls.specs.Choices.{course}
 use Rattle.lock_calls.specs.declared.courses.Course.{Course}
 use Rattle.lock_calls.specs.declared.courses.Course.TheVariants.{Plainly, ByClaim, MustWait}
 use Rattle.lock_calls.specs.Steps.{IsCovered, FirstMisses, most_missed, as_taken}
-use Rattle.lock_calls.specs.Takes.{LooksOn, looks_alone, tries_too}
-use Rattle.lock_calls.specs.Waiting.{Kept, kept_of, IsCalling, CanAcquire, MayGain, IsChecking, IsSeeking, HasMissed, HasSeen, HasSpun, SpinsThenGains, IsGaining, HasGained, with_looks_counted}
+use Rattle.lock_calls.specs.Rounds.{LooksOn, looks_alone, tries_too, HasSeen}
+use Rattle.lock_calls.specs.Waiting.{Kept, kept_of, IsCalling, CanAcquire, MayGain, IsChecking, IsSeeking, HasMissed, HasSpun, SpinsThenGains, IsGaining, HasGained, with_looks_counted}
 use Rattle.lock_floor.specs.Passes.{IsAtRest}
 use Rattle.lock_calls.proofs.Looks.{each_append, last_step, rest_looks}
 use Rattle.lock_calls.proofs.Words.{other_word}

@@ -157,10 +157,9 @@ module _ (floor : Description) (l : LockNo) (z : Knowledge) (m : IsParked l.0 z)
           log_before = ap (λ (x : Knowledge). x.share.log) ran;
           log_behind = refl;
         };
-        steps = (
-          w,
-          subst (λ (p : QueueName × Cause). Makes floor (Resumes z.thread p.0 p.1 ∷ []) z w)
-              (λ i. (its_queue i, its_cause i)) r.step,
-          (new, noted, refl),
-        );
+        runs = w;
+        resumes = subst (λ (p : QueueName × Cause). Makes floor (Resumes z.thread p.0 p.1 ∷ []) z w)
+            (λ i. (its_queue i, its_cause i)) r.step;
+        notes = noted;
+        halt_word = halt_is_set floor l z.thread w new noted;
       }

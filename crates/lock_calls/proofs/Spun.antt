@@ -19,7 +19,8 @@ use Rattle.lock_floor.specs.Waits.{its_chain, chain_place, readied}
 use Rattle.lock_floor.proofs.FoundQueued.{found_waits}
 use Rattle.lock_floor.proofs.Taking.{HasWaited, waits_none}
 use Rattle.lock_calls.specs.Steps.{IsCovered, as_taken}
-use Rattle.lock_calls.specs.Takes.{HasChainOut, AsksOwner, asks, nobody, looks_left, LeavesLooks, for_claim, of_mutex, of_shared, LooksOn, looks_alone, tries_too, TakesOn, TakeEnd, looks, takes_chain, comes_in, finds_out, in_round}
+use Rattle.lock_calls.specs.Rounds.{AsksOwner, asks, nobody, LooksOn, looks_alone, tries_too, LooksAgain, of_mutex, of_shared}
+use Rattle.lock_calls.specs.Takes.{HasChainOut, LeavesLooks, again, for_claim, owner_queued, TakesOn, TakeEnd, looks, takes_chain, comes_in, finds_out, in_round}
 use Rattle.lock_calls.specs.Waiting.{kept_of, IsSeeking, HasSpun, SpinsThenGains, IsThere}
 use Rattle.lock_calls.proofs.Attempts.{seeking_on, looks_spun}
 use Rattle.lock_calls.proofs.Looks.{each_append}
@@ -28,30 +29,32 @@ use Rattle.lock_calls.proofs.There.{seeking_still, chain_still, has_chain, come_
 -- 1. Looks
 
 -- who asks for the owner has waited
-asking_waits : (floor : Description) (word : Word) (queued : Bool) (old new : Knowledge)
+pub asking_waits : (floor : Description) (word : Word) (queued : Bool) (old new : Knowledge)
     → AsksOwner floor word queued old new → HasWaited old new
 asking_waits floor word queued old new (asks o owner view found) = found_waits floor o queued old new view found
 asking_waits floor word queued old new (nobody none) = waits_none new
+
+-- and who looks again,
+pub again_waits : (floor : Description) (kind : Kind) (mode : Mode) (word : Word) (old new : Knowledge)
+    → LooksAgain floor kind mode word old new → HasWaited old new
+again_waits floor kind mode word old new (of_mutex mutex asked) = asking_waits floor word false old new asked
+again_waits floor kind mode word old new (of_shared no_mutex others) = waits_none new
 
 -- and who finds out how many looks are left
 pub leaving_waits : (floor : Description) (kind : Kind) (mode : Mode) (word : Word) (left rest : ℕ)
     (old new : Knowledge)
     → LeavesLooks floor kind mode word left rest old new → HasWaited old new
+leaving_waits floor kind mode word left rest old new (again x) = again_waits floor kind mode word old new x
 leaving_waits floor kind mode word left rest old new (for_claim by_claim) = waits_none new
-leaving_waits floor kind mode word left rest old new (of_mutex queued mutex asked) =
-    asking_waits floor word queued old new asked
-leaving_waits floor kind mode word left rest old new (of_shared no_mutex others) = waits_none new
+leaving_waits floor kind mode word left rest old new (owner_queued mutex asked) =
+    asking_waits floor word true old new asked
 
 -- fewer looks are left then
-left_asked : (left : ℕ) (queued : Bool) → 1 ≤ left → looks_left left queued < left
-left_asked left true some = some
-left_asked left false some = omega (arith, some)
-
 pub fewer_left : (floor : Description) (kind : Kind) (mode : Mode) (word : Word) (left rest : ℕ) (old new : Knowledge)
     → LeavesLooks floor kind mode word left rest old new → 1 ≤ left → rest < left
+fewer_left floor kind mode word left rest old new (again x) some = omega (arith, some)
 fewer_left floor kind mode word left rest old new (for_claim by_claim) some = some
-fewer_left floor kind mode word left rest old new (of_mutex queued mutex asked) some = left_asked left queued some
-fewer_left floor kind mode word left rest old new (of_shared no_mutex others) some = omega (arith, some)
+fewer_left floor kind mode word left rest old new (owner_queued mutex asked) some = some
 
 -- looks in a round are one or two
 pub looks_in_it : (floor : Description) (l : ℕ) (mode : Mode) (n : ℕ) (word : Word) (old seen : Knowledge)

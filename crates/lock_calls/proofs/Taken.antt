@@ -1,6 +1,6 @@
 -- A take from its begin on: what the thread has made so far where the take stands, and that its parts together are a
 -- take.
-use Rattle.std.proofs.Common.{◌≡◌, ◌⊎◌, ℕ, zero, suc, ◌+◌, ◌<◌, ◌≤◌, Bool, true, false, List, [], ◌∷◌, ◌++◌, length, replicate, None, refl, sym, ap, ◌∙◌, subst, inl, inr, arith}
+use Rattle.std.proofs.Common.{◌≡◌, ◌⊎◌, ℕ, ◌+◌, ◌≤◌, Bool, true, false, List, [], ◌∷◌, ◌++◌, length, replicate, None, refl, sym, ap, ◌∙◌, subst, inl, inr, arith}
 use Rattle.std.proofs.lemmas.List.{replicate-append-replicate}
 use Rattle.lock_model.specs.Queues.{Cause, BySignal, ByAbort, lock_queue}
 use Rattle.lock_model.specs.Words.{Word}
@@ -34,26 +34,27 @@ use Rattle.halting.specs.Halts.{CountsItselfOut, somebody_is_awake, nobody_is_aw
 use Rattle.halting.proofs.Whole as whole
 use Rattle.halting.proofs.Whole.{HaltsSince, begins_whole, is_done}
 use Rattle.lock_calls.specs.Steps as steps
-use Rattle.lock_calls.specs.Steps.{IsGain, HasMissedFirst, MissesFirst, none_missed, one_missed, as_taken, begins_round, enters_by, gains_checked, gains_at_once, refuses, comes_there, gives_both, runs_on, enters_there, gains_there, in_its_round, ComesToRound, Acquires}
-use Rattle.lock_calls.specs.Takes.{IsTaking, IsUnderTake, AwaitsInTake, TakesOn, TakeLeg, TakeEnd, IsRefused, IsHalted, WasHalted, kept_at, admitted, at_check, looks, takes_chain, comes_in, looks_there, enters, takes_turnstiles, hops, counts_out, is_last, halts_on, has_halted, resumes, finds_out, is_queued, in_round, in_section}
+use Rattle.lock_calls.specs.Steps.{IsGain, HasMissedFirst, MissesFirst, none_missed, one_missed, as_taken, begins_round, enters_by, gains_checked, gains_at_once, refuses, comes_there, gives_both, runs_on, enters_there, gains_there, ComesToRound, Acquires, gains_in_round}
+use Rattle.lock_calls.specs.Rounds.{KeepsLooking, LooksOn, LooksSoOften, keeps_looking, looks_again, looks_alone, looks_last, no_look, tries_too}
+use Rattle.lock_calls.specs.Takes.{IsTaking, IsUnderTake, LeavesLooks, again, for_claim, owner_queued, AwaitsInTake, TakesOn, TakeLeg, TakeEnd, IsRefused, IsHalted, WasHalted, kept_at, admitted, at_check, looks, takes_chain, comes_in, looks_there, enters, takes_turnstiles, hops, counts_out, is_last, halts_on, has_halted, resumes, finds_out, is_queued, in_round, in_section}
 use Rattle.lock_calls.specs.Waiting.{Kept, kept_of, IsCalling}
 use Rattle.lock_calls.proofs.Attempts.{misses_bare, misses_few}
 use Rattle.lock_calls.proofs.Halted.{halt_is_set}
-use Rattle.lock_calls.proofs.Looks.{each_append, last_step}
+use Rattle.lock_calls.proofs.Looks.{each_append}
 use Rattle.lock_calls.proofs.Refused.{bare_admitted}
-use Rattle.lock_calls.proofs.Spun.{leaving_waits, fewer_left, looks_in_it}
+use Rattle.lock_calls.proofs.Spun.{asking_waits, looks_in_it}
 use Rattle.lock_calls.proofs.Standing.{walk_still}
 use Rattle.lock_calls.proofs.Waited.{makes_sooner, each_sooner, takes_sooner, before_waiting}
 
 -- 1. So far
 
--- it came to a round with so many looks, and made so many more in it
+-- it came to a round with so many looks, and made so many more in it, behind the last of which it may look no more
 pub record HasLookedInRound (floor : Description) (l : ℕ) (mode : Mode) (back : Bool) (begun now : Knowledge) : Type 0 where
   pub before : ℕ
   pub round : Knowledge
   pub comes : ComesToRound floor l mode back before begun round
   pub n : ℕ
-  pub each : MakesEach floor (replicate n (Looks begun.thread l true ∷ [])) round now
+  pub each : LooksSoOften floor l mode n round now
 
 abbrev pub all_looks : {floor : Description} {l : ℕ} {mode : Mode} {back : Bool} {begun now : Knowledge}
     → HasLookedInRound floor l mode back begun now → ℕ
@@ -115,6 +116,7 @@ HasCome floor l mode back begun Checks now =
     (missed : ℕ) × HasMissedFirst floor l mode missed begun now × (back ≡ false)
 HasCome floor l mode back begun (Spins left) now =
     (r : HasLookedInRound floor l mode back begun now) × (all_looks r + (left + left) ≤ 100)
+    × (1 ≤ left → KeepsLooking floor l mode r.n r.round now)
 HasCome floor l mode back begun ComesIn now = HasTakenChain floor l mode back begun now
 HasCome floor l mode back begun (Contends seen) now = HasComeThere floor l mode back begun now
 HasCome floor l mode back begun (Walks there) now = HasStood floor l mode back begun now
@@ -223,8 +225,9 @@ pub begins_back : (floor : Description) (l : ℕ) (mode : Mode) (left : ℕ) (be
 begins_back floor l mode left begun few = record {
   came = begun;
   has_come = (
-    record { before = 0; round = begun; comes = steps.is_in_one refl; n = 0; each = refl },
+    record { before = 0; round = begun; comes = steps.is_in_one refl; n = 0; each = keeps_looking 0 no_look },
     omega (arith, few),
+    λ some. no_look,
   );
   since = waits_none begun;
 }
@@ -247,22 +250,6 @@ module _ (floor : Description) (l : LockNo) (mode : Mode) (back : Bool) (begun :
   abbrev look_there : List Step
   look_there = Looks begun.thread l.0 false ∷ []
 
-  -- looks behind looks
-  more_looks : (now w : Knowledge) (r : HasLookedInRound floor l.0 mode back begun now) (n : ℕ)
-      → MakesEach floor (replicate n look) now w
-      → (s : HasLookedInRound floor l.0 mode back begun w) × (all_looks s ≡ all_looks r + n)
-  more_looks now w r n each = (
-    record {
-      before = r.before;
-      round = r.round;
-      comes = r.comes;
-      n = r.n + n;
-      each = subst (λ xs. MakesEach floor xs r.round w) (replicate-append-replicate r.n n look)
-          (each_append floor (replicate r.n look) (replicate n look) r.round now w r.each each);
-    },
-    omega arith,
-  )
-
   more_there : (now w : Knowledge) → HasComeThere floor l.0 mode back begun now → Makes floor look_there now w
       → HasComeThere floor l.0 mode back begun w
   more_there now w h step = record {
@@ -276,6 +263,12 @@ module _ (floor : Description) (l : LockNo) (mode : Mode) (back : Bool) (begun :
         (each_append floor (replicate h.m look_there) (replicate 1 look_there) h.there now w h.each (w, step, refl));
   }
 
+  look_sooner : (old mid new : Knowledge) → HasWaited old mid → Makes floor (Looks mid.thread l.0 true ∷ []) mid new
+      → Makes floor (Looks old.thread l.0 true ∷ []) old new
+  look_sooner old mid new h step =
+      makes_sooner floor (Looks old.thread l.0 true ∷ []) old mid new h
+      (subst (λ t. Makes floor (Looks t l.0 true ∷ []) mid new) (ap (λ (k : Knowledge). k.thread) h.view) step)
+
   -- it counts itself out from what it knew before it waited
   out_sooner : (old mid new : Knowledge) → HasWaited old mid → Makes floor (CountsOut mid.thread ∷ []) mid new
       → Makes floor (CountsOut old.thread ∷ []) old new
@@ -283,11 +276,57 @@ module _ (floor : Description) (l : LockNo) (mode : Mode) (back : Bool) (begun :
       makes_sooner floor (CountsOut old.thread ∷ []) old mid new h
       (subst (λ t. Makes floor (CountsOut t ∷ []) mid new) (ap (λ (k : Knowledge). k.thread) h.view) step)
 
-  -- the first look of several is made from what it knew before it waited
-  looks_sooner : (n : ℕ) (old mid new : Knowledge) → 1 ≤ n → HasWaited old mid
-      → MakesEach floor (replicate n look) mid new → MakesEach floor (replicate n look) old new
-  looks_sooner zero old mid new some h each = absurd (omega (arith, some))
-  looks_sooner (suc n) old mid new some h each = each_sooner floor look (replicate n look) old mid new h each
+  -- it looks from what it knew before it waited
+  looks_sooner : (n : ℕ) (word : Word) (old mid new : Knowledge) → HasWaited old mid
+      → LooksOn floor l.0 mode n word mid new → LooksOn floor l.0 mode n word old new
+  looks_sooner n word old mid new h (looks_alone w course step saw) =
+      looks_alone w course (look_sooner old mid new h step) saw
+  looks_sooner n word old mid new h (tries_too tried from found course step saw miss found_it other) =
+      tries_too tried from found course (look_sooner old mid tried h step) saw
+      (subst (λ t. Makes floor (Looks t l.0 true ∷ []) tried new) (ap (λ (k : Knowledge). k.thread) h.view) miss)
+      found_it other
+
+  -- and what it has made then, where so many looks are left
+  module _ (came : Knowledge) (r : HasLookedInRound floor l.0 mode back begun came)
+      (keeps : KeepsLooking floor l.0 mode r.n r.round came) (n : ℕ) (word : Word) (left : ℕ) (some : 1 ≤ left)
+      (few : all_looks r + (left + left) ≤ 100) (two : n ≤ 2) where
+    looks_no_more : (seen : Knowledge) → LooksOn floor l.0 mode n word came seen
+        → HasCome floor l.0 mode back begun (Spins 0) seen
+    looks_no_more seen on = (
+      record {
+        before = r.before;
+        round = r.round;
+        comes = r.comes;
+        n = r.n + n;
+        each = looks_last r.n n word keeps on;
+      },
+      omega (arith, few, two, some),
+      λ none. absurd (omega (arith, none)),
+    )
+
+    looks_lead : (rest : ℕ) (seen new : Knowledge) → LooksOn floor l.0 mode n word came seen
+        → LeavesLooks floor kind mode word left rest seen new → IsAt floor l.0 mode back begun (Spins rest) new
+    looks_lead rest seen new on (again x) =
+        let keeps_on : KeepsLooking floor l.0 mode (r.n + n) r.round new = looks_again r.n n word keeps on x in
+        record {
+          came = new;
+          has_come = (
+            record {
+              before = r.before;
+              round = r.round;
+              comes = r.comes;
+              n = r.n + n;
+              each = keeps_looking (r.n + n) keeps_on;
+            },
+            omega (arith, few, two, some),
+            λ more. keeps_on,
+          );
+          since = waits_none new;
+        }
+    looks_lead rest seen new on (for_claim by_claim) =
+        record { came = seen; has_come = looks_no_more seen on; since = waits_none seen }
+    looks_lead rest seen new on (owner_queued mutex asked) =
+        record { came = seen; has_come = looks_no_more seen on; since = asking_waits floor word true seen new asked }
 
   module _ (now new : Knowledge) (its : now.thread ≡ begun.thread) (its_then : new.thread ≡ begun.thread) where
     -- 4. Each leg
@@ -313,24 +352,17 @@ module _ (floor : Description) (l : LockNo) (mode : Mode) (back : Bool) (begun :
               round = new;
               comes = steps.begins c.0 c.2 c.1 made;
               n = 0;
-              each = refl;
+              each = keeps_looking 0 no_look;
             },
             omega (arith, few, misses_few ((config_in floor).kind l.0) begun.share.held c.0 c.1.first),
+            λ more. no_look,
           );
           since = waits_none new;
         }
     goes_on at to log there h (looks seen left n rest word some on leaves) =
-        let each = looks_in_it floor l.0 mode n word now seen on in
-        let less : rest < left = fewer_left floor kind mode word left rest seen new leaves some in
-        let made : MakesEach floor (replicate n look) h.came seen =
-        looks_sooner n h.came now seen each.0 h.since
-        (subst (λ t. MakesEach floor (replicate n (Looks t l.0 true ∷ [])) now seen) its each.2) in
-        let s = more_looks h.came seen h.has_come.0 n made in
-        record {
-          came = seen;
-          has_come = (s.0, omega (arith, s.1, h.has_come.1, less, each.1));
-          since = leaving_waits floor kind mode word left rest seen new leaves;
-        }
+        looks_lead h.came h.has_come.0 (h.has_come.2 some) n word left some h.has_come.1
+        (looks_in_it floor l.0 mode n word now seen on).1 rest seen new
+        (looks_sooner n word h.came now seen h.since on) leaves
     goes_on at to log there h (takes_chain step) = record {
       came = new;
       has_come = record {
@@ -461,7 +493,7 @@ module _ (floor : Description) (l : LockNo) (mode : Mode) (back : Bool) (begun :
       };
       since = waits_none new;
     }
-    goes_on at to log there h (resumes left cause few again step) =
+    goes_on at to log there h (resumes left cause few back_too step) =
         let o = h.has_come in
         let c = o.stood in
         let r = c.rounds in
@@ -474,10 +506,9 @@ module _ (floor : Description) (l : LockNo) (mode : Mode) (back : Bool) (begun :
             record {
               before = 0;
               round = new;
-              comes = steps.sleeps r.before r.n c.m c.x cause r.comes c.few
-                  (each_append floor (replicate r.n look) (enters_there floor begun.thread l.0 mode c.m c.x) r.round
-                  c.looked c.stands r.each c.each)
-                  (λ taken. only_signals cause (λ e. sym (again e) ∙ log ∙ taken))
+              comes = steps.sleeps r.before r.n c.m c.x cause r.comes r.each c.few
+                  c.each
+                  (λ taken. only_signals cause (λ e. sym (back_too e) ∙ log ∙ taken))
                   (record {
                     walked = o.before;
                     walk = c.walked;
@@ -487,9 +518,10 @@ module _ (floor : Description) (l : LockNo) (mode : Mode) (back : Bool) (begun :
                         (sym c.thread) resume;
                   });
               n = 0;
-              each = refl;
+              each = keeps_looking 0 no_look;
             },
             omega (arith, few),
+            λ more. no_look,
           );
           since = waits_none new;
         }
@@ -520,11 +552,9 @@ module _ (floor : Description) (l : LockNo) (mode : Mode) (back : Bool) (begun :
     ends at h (in_round left some each) =
         let made : MakesEach floor (look ∷ (Gains begun.thread l.0 mode false ∷ []) ∷ []) h.came new =
         each_sooner floor look ((Gains begun.thread l.0 mode false ∷ []) ∷ []) h.came now new h.since
-        (subst (λ t. MakesEach floor (in_its_round t l.0 mode 1) now new) its each) in
-        let s = more_looks h.came made.0 h.has_come.0 1 (made.0, made.1, refl) in
-        steps.in_round s.0.before s.0.n s.0.comes (omega (arith, s.1, h.has_come.1, some))
-        (each_append floor (replicate s.0.n look) ((Gains begun.thread l.0 mode false ∷ []) ∷ []) s.0.round made.0 new
-        s.0.each made.2)
+        (subst (λ t. MakesEach floor (gains_in_round t l.0 mode) now new) its each) in
+        let r = h.has_come.0 in
+        steps.in_round r.before r.n r.comes (h.has_come.2 some) (omega (arith, h.has_come.1, some)) made
     ends at h (in_section seen gain is each) =
         let c = h.has_come in
         let r = c.rounds in
@@ -540,9 +570,8 @@ module _ (floor : Description) (l : LockNo) (mode : Mode) (back : Bool) (begun :
         c.come
         (each_append floor (replicate c.m look_there ++ (gain ∷ []) ∷ []) (runs_on floor begun.thread l.0) c.there
         made.0 new gains made.2) in
-        steps.in_section r.before r.n c.m gain r.comes c.few (subst (λ t. IsGain t l.0 mode false gain) its is)
-        (each_append floor (replicate r.n look) (gains_there floor begun.thread l.0 gain c.m) r.round c.looked new
-        r.each there)
+        steps.in_section r.before r.n c.m gain r.comes r.each c.few (subst (λ t. IsGain t l.0 mode false gain) its is)
+        there
 
 -- or its sleep was ended
 module _ (floor : Description) (l : LockNo) (mode : Mode) (begun now new : Knowledge) (its : now.thread ≡ begun.thread)
@@ -555,12 +584,11 @@ module _ (floor : Description) (l : LockNo) (mode : Mode) (begun now new : Knowl
         let o : HasCountedOut floor l.0 mode false begun s.came = s.has_come in
         let c = o.stood in
         let r = c.rounds in
-        let note : List Step = Stamps begun.thread (Event.HaltedLock l) ∷ [] in
-        let made : MakesEach floor ((Resumes begun.thread (lock_queue l.0) ByAbort ∷ []) ∷ note ∷ []) s.came new =
-        each_sooner floor (Resumes begun.thread (lock_queue l.0) ByAbort ∷ []) (note ∷ []) s.came now new s.since
-        (subst (λ t. MakesEach floor ((Resumes t (lock_queue l.0) ByAbort ∷ [])
-        ∷ (Stamps t (Event.HaltedLock l) ∷ []) ∷ []) now new) its x.steps) in
-        let noted : Makes floor note made.0 new = last_step floor note made.0 new made.2 in
+        let resumed : Makes floor (Resumes begun.thread (lock_queue l.0) ByAbort ∷ []) s.came x.runs =
+        makes_sooner floor (Resumes begun.thread (lock_queue l.0) ByAbort ∷ []) s.came now x.runs s.since
+        (subst (λ t. Makes floor (Resumes t (lock_queue l.0) ByAbort ∷ []) now x.runs) its x.resumes) in
+        let noted : Makes floor (Stamps begun.thread (Event.HaltedLock l) ∷ []) x.runs new =
+        subst (λ t. Makes floor (Stamps t (Event.HaltedLock l) ∷ []) x.runs new) its x.notes in
         record {
           sleeps = x.sleeps;
           rest = x.rest;
@@ -570,23 +598,24 @@ module _ (floor : Description) (l : LockNo) (mode : Mode) (begun now new : Knowl
             u = r.round;
             comes = r.comes;
             n = r.n;
+            looked = c.looked;
+            spins = r.each;
             few = c.few;
             m = c.m;
             x = c.x;
             stands = c.stands;
-            enters = each_append floor (replicate r.n (Looks begun.thread l.0 true ∷ []))
-                (enters_there floor begun.thread l.0 mode c.m c.x) r.round c.looked c.stands r.each c.each;
-            runs = made.0;
+            enters = c.each;
+            runs = x.runs;
             sleeps = record {
               walked = o.before;
               walk = c.walked;
               parked = s.came;
               counts = o.counts;
-              resumes = subst (λ t. Makes floor (Resumes t (lock_queue l.0) ByAbort ∷ []) s.came made.0)
-                  (sym c.thread) made.1;
+              resumes = subst (λ t. Makes floor (Resumes t (lock_queue l.0) ByAbort ∷ []) s.came x.runs)
+                  (sym c.thread) resumed;
             };
             notes = noted;
-            halt_word = halt_is_set floor l begun.thread made.0 new noted;
+            halt_word = halt_is_set floor l begun.thread x.runs new noted;
           };
         }
 

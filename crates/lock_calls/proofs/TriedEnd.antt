@@ -30,7 +30,8 @@ use Rattle.lock_calls.specs.Choices.{course}
 use Rattle.lock_calls.specs.declared.courses.Course.TheVariants.{MustWait}
 use Rattle.lock_calls.specs.Steps.{IsCovered}
 use Rattle.lock_calls.specs.Tries.{About, about_of, nothing_else, as_tried, tried_under, SeeksByTry, IsThereByTry, IsDeciding, IsBusyFor, GainsThere, HasTried, HasFoundBusy}
-use Rattle.lock_calls.specs.Waiting.{Kept, kept_of, IsCalling, HasSeen, HasSpun, SpinsThenGains, with_none_out}
+use Rattle.lock_calls.specs.Rounds.{HasSeen}
+use Rattle.lock_calls.specs.Waiting.{Kept, kept_of, IsCalling, HasSpun, SpinsThenGains, with_none_out}
 use Rattle.lock_calls.proofs.Chosen.{must_wait}
 use Rattle.lock_calls.proofs.TriedRound.{about_nothing}
 

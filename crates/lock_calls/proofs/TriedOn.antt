@@ -26,10 +26,10 @@ use Rattle.lock_calls.specs.declared.courses.Course.{Course}
 use Rattle.lock_calls.specs.declared.courses.Course.TheVariants.{Plainly, ByClaim, MustWait}
 use Rattle.lock_calls.specs.declared.trying.TryNext.TheVariants as next
 use Rattle.lock_calls.specs.Steps.{MayTake, gives_both}
-use Rattle.lock_calls.specs.Takes.{LooksOn}
+use Rattle.lock_calls.specs.Rounds.{LooksOn, HasSeen}
 use Rattle.lock_calls.specs.Tries as tries
 use Rattle.lock_calls.specs.Tries.{tries_left, as_tried, at_once, looks_in_round, SeeksByTry, HasChainInTry, IsThereByTry, IsDeciding, IsUnderTry, IsBusyFor, TriesOn, looks, takes_chain, comes_in, looks_there, finds_out, GainsThere, GainsAt, gains_in_round, gains_there, FindsBusyAt, busy_there, HasTried, HasFoundBusy, HasBegunTry}
-use Rattle.lock_calls.specs.Waiting.{Kept, kept_of, IsCalling, HasSeen, HasSpun, SpinsThenGains, MissesThere}
+use Rattle.lock_calls.specs.Waiting.{Kept, kept_of, IsCalling, HasSpun, SpinsThenGains, MissesThere}
 use Rattle.lock_calls.proofs.Attempts.{looks_spun}
 use Rattle.lock_calls.proofs.Calls.{call_noted, view_noted}
 use Rattle.lock_calls.proofs.Looks.{each_append}

@@ -25,10 +25,10 @@ use Rattle.lock_calls.specs.Choices.{course}
 use Rattle.lock_calls.specs.declared.trying.TryNext.{TryNext}
 use Rattle.lock_calls.specs.declared.trying.TryNext.TheVariants as next
 use Rattle.lock_calls.specs.Steps.{IsGain, gives_both}
-use Rattle.lock_calls.specs.Takes.{LooksOn, looks_alone, tries_too}
+use Rattle.lock_calls.specs.Rounds.{LooksOn, looks_alone, tries_too, HasSeen}
 use Rattle.lock_calls.specs.Tries as tries
 use Rattle.lock_calls.specs.Tries.{as_tried, seeks_try, tries_there, GainsAndNotes, WasBusyFor, IsUnderTry, TryLeg, looks, takes_chain, comes_in, looks_there, finds_out, TriesOn, GainsAt, gains_in_round, gains_there, FindsBusyAt, busy_in_round, busy_there, HasTried, HasFoundBusy, BeginsTry, StandsInTry, HasBegunTry, GoesOnTrying, EndsBusy}
-use Rattle.lock_calls.specs.Waiting.{Kept, kept_of, IsCalling, HasSeen}
+use Rattle.lock_calls.specs.Waiting.{Kept, kept_of, IsCalling}
 use Rattle.lock_calls.proofs.Looks.{each_append}
 use Rattle.lock_calls.proofs.Spun.{looks_in_it}
 use Rattle.lock_calls.proofs.TriedOn.{fewer_left}

@@ -1,4 +1,5 @@
 pub mod Choices
+pub mod Rounds
 pub mod Steps
 pub mod Sections
 pub mod Waiting

@@ -33,7 +33,8 @@ use Rattle.lock_calls.specs.declared.answers.ReleaseNext.TheVariants as next
 use Rattle.lock_calls.specs.Choices.{by_word, outside}
 use Rattle.lock_calls.specs.Sections.{IsItsChain, HasRecordAndChain}
 use Rattle.lock_calls.specs.Steps.{IsCovered, ByDrop, frees, gives_both, unlocks}
-use Rattle.lock_calls.specs.Waiting.{HasSeen, MayPutDown, IsOwn, with_none_out}
+use Rattle.lock_calls.specs.Rounds.{HasSeen}
+use Rattle.lock_calls.specs.Waiting.{MayPutDown, IsOwn, with_none_out}
 
 -- 1. What the thread knows at each place
 

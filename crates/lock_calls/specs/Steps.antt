@@ -25,6 +25,7 @@ use Rattle.lock_floor.specs.Waits.{its_chain}
 use Rattle.lock_floor.specs.Walks.{Walks}
 use Rattle.halting.specs.Halts.{CountsItselfOut}
 use Rattle.lock_calls.specs.Choices.{course}
+use Rattle.lock_calls.specs.Rounds.{KeepsLooking, LooksSoOften}
 use Rattle.lock_calls.specs.declared.courses.Course.TheVariants.{Plainly}
 
 -- 1. Which locks
@@ -123,9 +124,9 @@ begins_round t l = checks t l None ++ (Seeks t l false ∷ Looks t l true ∷ []
 abbrev pub gains_checked : ℕ → ℕ → Mode → List (List Step)
 gains_checked t l mode = checks t l None ++ gains_at_once t l mode ∷ []
 
--- in the round so many looks come, and then the gain
-abbrev pub in_its_round : ℕ → ℕ → Mode → ℕ → List (List Step)
-in_its_round t l mode n = replicate n (Looks t l true ∷ []) ++ (Gains t l mode false ∷ []) ∷ []
+-- in the round a look comes, and then the gain
+abbrev pub gains_in_round : ℕ → ℕ → Mode → List (List Step)
+gains_in_round t l mode = (Looks t l true ∷ []) ∷ (Gains t l mode false ∷ []) ∷ []
 
 -- What a thread does in the section of the lock's chain.
 
@@ -179,7 +180,7 @@ pub record Sleeps (floor : Description) (l : ℕ) (cause : Cause) (old new : Kno
 -- that takes its lock back is in one from the begin, which its resume from the channel began. And behind a sleep
 -- another begins, once a round has ended with an enter: of a take, where the thread was woken by a signal; of a taking
 -- back by whatever woke it. From the begin or a sleep to the taking of the chain at most 100 looks are made, with the
--- exchanges that missed
+-- exchanges that missed; and behind a look in its round it looks again, of a mutex, only where the owner isn't Queued
 pub data ComesToRound (floor : Description) (l : ℕ) (mode : Mode) (back : Bool) : ℕ → Knowledge
     → Knowledge → Type 0 where
   begins : {old u new : Knowledge} (missed : ℕ) → back ≡ false
@@ -187,11 +188,10 @@ pub data ComesToRound (floor : Description) (l : ℕ) (mode : Mode) (back : Bool
       → MakesEach floor (begins_round old.thread l) u new
       → ComesToRound floor l mode back (missed + 1) old new
   is_in_one : {old : Knowledge} → back ≡ true → ComesToRound floor l mode back 0 old old
-  sleeps : {old u v new : Knowledge} (looks n m x : ℕ) (cause : Cause)
+  sleeps : {old u looked v new : Knowledge} (looks n m x : ℕ) (cause : Cause)
       → ComesToRound floor l mode back looks old u
-      → looks + n ≤ 100
-      → MakesEach floor
-      (replicate n (Looks old.thread l true ∷ []) ++ enters_there floor old.thread l mode m x) u v
+      → LooksSoOften floor l mode n u looked → looks + n ≤ 100
+      → MakesEach floor (enters_there floor old.thread l mode m x) looked v
       → (back ≡ false → cause ≡ BySignal)
       → Sleeps floor l cause v new → ComesToRound floor l mode back 0 old new
 
@@ -207,14 +207,16 @@ pub data Acquires (floor : Description) (l : ℕ) (mode : Mode) (back : Bool) : 
       → HasMissedFirst floor l mode missed old u
       → MakesEach floor (gains_checked old.thread l mode) u new
       → Acquires floor l mode back old new
-  in_round : {old u new : Knowledge} (looks n : ℕ) → ComesToRound floor l mode back looks old u
-      → looks + n ≤ 100 → MakesEach floor (in_its_round old.thread l mode n) u new
+  in_round : {old u looked new : Knowledge} (looks n : ℕ)
+      → ComesToRound floor l mode back looks old u
+      → KeepsLooking floor l mode n u looked → looks + n < 100
+      → MakesEach floor (gains_in_round old.thread l mode) looked new
       → Acquires floor l mode back old new
-  in_section : {old u new : Knowledge} (looks n m : ℕ) (gain : Step)
-      → ComesToRound floor l mode back looks old u → looks + n ≤ 100
+  in_section : {old u looked new : Knowledge} (looks n m : ℕ) (gain : Step)
+      → ComesToRound floor l mode back looks old u
+      → LooksSoOften floor l mode n u looked → looks + n ≤ 100
       → IsGain old.thread l mode false gain
-      → MakesEach floor
-      (replicate n (Looks old.thread l true ∷ []) ++ gains_there floor old.thread l gain m) u new
+      → MakesEach floor (gains_there floor old.thread l gain m) looked new
       → Acquires floor l mode back old new
 
 -- a wait takes its lock back so
@@ -235,13 +237,13 @@ pub record EndsAsleep (floor : Description) (l : LockNo) (mode : Mode) (old new 
   pub u : Knowledge
   pub comes : ComesToRound floor l.0 mode false looks old u
   pub n : ℕ
+  pub looked : Knowledge
+  pub spins : LooksSoOften floor l.0 mode n u looked
   pub few : looks + n ≤ 100
   pub m : ℕ
   pub x : ℕ
   pub stands : Knowledge
-  pub enters : MakesEach floor
-      (replicate n (Looks old.thread l.0 true ∷ []) ++ enters_there floor old.thread l.0 mode m x)
-      u stands
+  pub enters : MakesEach floor (enters_there floor old.thread l.0 mode m x) looked stands
   pub runs : Knowledge
   pub sleeps : Sleeps floor l.0 ByAbort stands runs
   pub notes : Makes floor (Stamps old.thread (Event.HaltedLock l) ∷ []) runs new

@@ -1,11 +1,11 @@
 -- A take as a call that stands at places: what the thread knows at each, what it does from one to the next, and how the
 -- take ends.
-use Rattle.std.specs.Prelude.{◌≡◌, ◌≢◌, ℕ, ◌+◌, ◌-◌, ◌<◌, ◌≤◌, Bool, true, false, List, [], ◌∷◌, ◌++◌, length, Option, Some, None, ⊤}
+use Rattle.std.specs.Prelude.{◌≡◌, ◌≢◌, ℕ, ◌+◌, ◌-◌, ◌<◌, ◌≤◌, true, false, List, [], ◌∷◌, ◌++◌, length, Option, Some, None, ⊤}
 use Rattle.lock_model.specs.Holds.{NotHeld}
 use Rattle.lock_model.specs.Limits.{most_held}
 use Rattle.lock_model.specs.Operations.{hold_in}
 use Rattle.lock_model.specs.Queues.{Cause, ByAbort, Mark, lock_queue}
-use Rattle.lock_model.specs.Words.{Word, word_of, owner_of, is_turnstile}
+use Rattle.lock_model.specs.Words.{Word, word_of, is_turnstile}
 use Rattle.lock_model.specs.declared.event.Event.{Event}
 use Rattle.lock_model.specs.declared.numbers.LockNo.{LockNo}
 use Rattle.lock_model.specs.declared.event.Reversal.{Reversal}
@@ -33,7 +33,7 @@ use Rattle.lock_floor.specs.declared.calls.TakeAt.TheVariants.{Checks, Spins, Co
 use Rattle.lock_floor.specs.Floors.{Pass}
 use Rattle.lock_floor.specs.Latches.{FindsOut, Takes}
 use Rattle.lock_floor.specs.Passes.{IsAtRest, MakesEntry}
-use Rattle.lock_floor.specs.Resumes.{FindsQueued, FindsWhetherQueued}
+use Rattle.lock_floor.specs.Resumes.{FindsQueued}
 use Rattle.lock_floor.specs.Waits.{its_chain, chain_place}
 use Rattle.lock_floor.specs.Walks.{CanWalk, NeedsRecord, HasTurnstilesOut, HopsOn, turnstiles, turnstiles_place}
 use Rattle.lock_floor.specs.declared.queues.HaltAt.{HaltAt}
@@ -44,10 +44,11 @@ use Rattle.lock_calls.specs.declared.answers.Next.TheVariants.{Done, Again, Slee
 use Rattle.lock_calls.specs.declared.answers.TakeNext.{TakeNext}
 use Rattle.lock_calls.specs.declared.answers.TakeNext.TheVariants as next
 use Rattle.lock_calls.specs.Choices.{course}
-use Rattle.lock_calls.specs.declared.courses.Course.TheVariants.{Plainly, ByClaim}
-use Rattle.lock_calls.specs.Steps.{IsCovered, IsGain, HasMissedFirst, GainsFirst, EndsAsleep, begins_round, as_taken, enters_by, gains_checked, gives_both, in_its_round, refuses, runs_on}
+use Rattle.lock_calls.specs.declared.courses.Course.TheVariants.{ByClaim}
+use Rattle.lock_calls.specs.Steps.{IsCovered, IsGain, HasMissedFirst, GainsFirst, EndsAsleep, begins_round, as_taken, enters_by, gains_checked, gains_in_round, gives_both, refuses, runs_on}
+use Rattle.lock_calls.specs.Rounds.{HasSeen, AsksOwner, LooksAgain, LooksOn}
 use Rattle.lock_calls.specs.Sections.{IsItsChain}
-use Rattle.lock_calls.specs.Waiting.{Kept, kept_of, HasGained, IsCalling, CanAcquire, IsChecking, IsSeeking, IsThere, HasSeen, Saw}
+use Rattle.lock_calls.specs.Waiting.{Kept, kept_of, HasGained, IsCalling, CanAcquire, IsChecking, IsSeeking, IsThere, Saw}
 
 -- 1. What the thread knows at each place
 
@@ -168,32 +169,16 @@ pub record IsInTake (floor : Description) (p : Pass Knowledge) : Type 0 where
 
 -- 2. What it does from one place to the next
 
--- Whether the owner that a lock's word names is Queued at that moment. Where it names none of the floor's threads,
--- nobody is asked for
-pub data AsksOwner (floor : Description) (word : Word) : Bool → Knowledge → Knowledge → Type 0 where
-  asks : {queued : Bool} {old new : Knowledge} (o : ℕ) → owner_of word.holder ≡ Some o
-      → new ≡ seeing new.seen old → FindsWhetherQueued floor o queued old new
-      → AsksOwner floor word queued old new
-  nobody : {v : Knowledge}
-      → ((o : ℕ) → owner_of word.holder ≡ Some o → o < length floor.threads → ⊥)
-      → AsksOwner floor word false v v
-
--- how many looks are left behind one: none, where the owner is Queued
-abbrev pub looks_left : ℕ → Bool → ℕ
-looks_left left true = 0
-looks_left left false = left - 1
-
--- So many looks are left of so many behind one that saw the word: none, where it lets the thread gain the lock by a
--- claim alone; of a mutex none, where the owner is Queued whom the word names; and one less else
+-- So many looks are left of so many behind one that saw the word: one less where it looks again; and none where the
+-- word lets the thread gain the lock by a claim alone, or of a mutex names an owner who is Queued
 pub data LeavesLooks (floor : Description) (kind : Kind) (mode : Mode) (word : Word) (left : ℕ) : ℕ
     → Knowledge → Knowledge → Type 0 where
+  again : {old new : Knowledge} → LooksAgain floor kind mode word old new
+      → LeavesLooks floor kind mode word left (left - 1) old new
   for_claim : {v : Knowledge} → course kind word mode ≡ ByClaim
       → LeavesLooks floor kind mode word left 0 v v
-  of_mutex : {old new : Knowledge} (queued : Bool) → kind ≡ Mtx
-      → AsksOwner floor word queued old new
-      → LeavesLooks floor kind mode word left (looks_left left queued) old new
-  of_shared : {v : Knowledge} → kind ≢ Mtx → course kind word mode ≢ ByClaim
-      → LeavesLooks floor kind mode word left (left - 1) v v
+  owner_queued : {old new : Knowledge} → kind ≡ Mtx → AsksOwner floor word true old new
+      → LeavesLooks floor kind mode word left 0 old new
 
 -- the item that a take needs to go on from there: another thread may have it out. What a halting needs, its own leg
 -- tells
@@ -206,21 +191,6 @@ AwaitsInTake floor v l (Walks there) i = (there ≢ walk.None) × (i ≡ turnsti
 AwaitsInTake floor v l (Hops there) i = (o : ℕ) × NeedsRecord floor o v × (i ≡ RecordOf o)
 AwaitsInTake floor v l (Halts at) i = ⊥
 AwaitsInTake floor v l Sleeps i = ⊥
-
--- Looks at a lock in its round, with the word that was seen last: one alone, which saw a word from which the thread
--- doesn't gain the lock plainly; or one which saw a word from which it does, and the exchange from that word, which
--- missed: it was a look, and saw another
-pub data LooksOn (floor : Description) (l : ℕ) (mode : Mode) : ℕ → Word → Knowledge → Knowledge
-    → Type 0 where
-  looks_alone : {old new : Knowledge} (word : Word)
-      → course ((config_in floor).kind l) word mode ≢ Plainly
-      → Makes floor (Looks old.thread l true ∷ []) old new → HasSeen l word new
-      → LooksOn floor l mode 1 word old new
-  tries_too : {old new : Knowledge} (mid : Knowledge) (from found : Word)
-      → course ((config_in floor).kind l) from mode ≡ Plainly
-      → Makes floor (Looks old.thread l true ∷ []) old mid → HasSeen l from mid
-      → Makes floor (Looks old.thread l true ∷ []) mid new → HasSeen l found new → found ≢ from
-      → LooksOn floor l mode 2 found old new
 
 -- Once its lock's order was checked, its round begins with an exchange from the free word, which missed. There it
 -- looks, tries where it saw that it can, and asks whether the owner is queued whom the word named that it saw last;
@@ -309,7 +279,7 @@ pub data TakeEnd (floor : Description) (l : LockNo) (mode : Mode) : TakeAt → K
   at_check : {old new : Knowledge} → MakesEach floor (gains_checked old.thread l.0 mode) old new
       → TakeEnd floor l mode Checks old new
   in_round : {old new : Knowledge} (left : ℕ) → 1 ≤ left
-      → MakesEach floor (in_its_round old.thread l.0 mode 1) old new
+      → MakesEach floor (gains_in_round old.thread l.0 mode) old new
       → TakeEnd floor l mode (Spins left) old new
   in_section : {old new : Knowledge} (seen : ℕ) (gain : Step)
       → IsGain old.thread l.0 mode false gain
@@ -332,17 +302,18 @@ pub record IsRefused (floor : Description) (l : LockNo) (r : Reversal) (old new 
   pub entry : MakesEntry floor (Event.Reversed l r.held) old.share.held old new
   pub steps : MakesEach floor (refuses old.thread l r.held) old new
 
--- Or its sleep was ended by an abort, as none on a turnstile is: the thread ran again, noted that, holds what it held,
--- and is at rest
+-- Or its sleep was ended by an abort, as none on a turnstile is: the thread ran again, and noted that while the halt
+-- word is 1; it holds what it held, and is at rest
 pub record IsHalted (floor : Description) (l : LockNo) (at : TakeAt) (old new : Knowledge) : Type 0
   where
     pub sleeps : is_turnstile ((config_in floor).kind l.0) ≡ false
     pub slept : at ≡ Sleeps
     pub rest : IsAtRest floor new
     pub entry : MakesEntry floor (Event.HaltedLock l) old.share.held old new
-    pub steps : MakesEach floor
-        ((Resumes old.thread (lock_queue l.0) ByAbort ∷ [])
-        ∷ (Stamps old.thread (Event.HaltedLock l) ∷ []) ∷ []) old new
+    pub runs : Knowledge
+    pub resumes : Makes floor (Resumes old.thread (lock_queue l.0) ByAbort ∷ []) old runs
+    pub notes : Makes floor (Stamps old.thread (Event.HaltedLock l) ∷ []) runs new
+    pub halt_word : notes.state.halted ≡ true
 
 -- so a take that stood there wasn't granted
 abbrev pub IsNotTaken : Description → LockNo → TakeAt → Refused → Knowledge → Knowledge → Type 0

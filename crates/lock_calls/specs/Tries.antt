@@ -37,8 +37,8 @@ use Rattle.lock_calls.specs.declared.trying.TryNext.{TryNext}
 use Rattle.lock_calls.specs.declared.trying.TryNext.TheVariants.{Gained, Busy, Again}
 use Rattle.lock_calls.specs.Sections.{IsItsChain, HasRecordAndChain}
 use Rattle.lock_calls.specs.Steps.{IsCovered, IsGain, gives_both}
-use Rattle.lock_calls.specs.Takes.{LooksOn}
-use Rattle.lock_calls.specs.Waiting.{kept_of, IsCalling, HasSeen, Saw}
+use Rattle.lock_calls.specs.Rounds.{LooksOn, HasSeen}
+use Rattle.lock_calls.specs.Waiting.{kept_of, IsCalling, Saw}
 
 -- 1. The steps of a try
 

@@ -33,6 +33,7 @@ use Rattle.lock_laws.specs.Words.{CanBeSeen}
 use Rattle.lock_objects.specs.Represents.{mark_of}
 use Rattle.lock_words.specs.Views.{IsHeldIn}
 use Rattle.turnstile_core.specs.Seen.{Place}
+use Rattle.lock_calls.specs.Rounds.{HasSeen}
 use Rattle.lock_calls.specs.Steps.{IsGain, HasMissedFirst, GainsFirst, as_taken, gains_at_once, enters_by, frees}
 use Rattle.lock_calls.specs.Sections.{HasRecordAndChain}
 
@@ -261,10 +262,6 @@ pub record HasSpun (floor : Description) (l n : ℕ) (old new : Knowledge) : Typ
   pub seen : Option Look
   pub knows : new ≡ seeing new.seen (with_looks_counted old looks all last seen)
   pub steps : MakesEach floor (replicate n (Looks old.thread l true ∷ [])) old new
-
--- it saw that word of the lock last
-abbrev pub HasSeen : ℕ → Word → Knowledge → Type 0
-HasSeen l word v = v.share.doing.last_look ≡ Some (record { lock = l; word = word })
 
 -- it gained the lock behind so many looks
 pub record SpinsThenGains (floor : Description) (h : Held) (n : ℕ) (old new : Knowledge) :

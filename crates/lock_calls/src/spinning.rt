@@ -17,7 +17,8 @@ ghost use Rattle.lock_floor.specs.Views.{entry_by, stamped};
 ghost use Rattle.lock_calls.specs.Choices.{course};
 ghost use Rattle.lock_calls.specs.declared.courses.Course.TheVariants.{Plainly};
 ghost use Rattle.lock_calls.specs.Steps.{IsCovered, as_taken};
-ghost use Rattle.lock_calls.specs.Takes.{IsUnderAcquiring, AsksOwner, LeavesLooks, LooksOn, TakeEnd, TakesOn};
+ghost use Rattle.lock_calls.specs.Rounds.{AsksOwner, LooksOn};
+ghost use Rattle.lock_calls.specs.Takes.{IsUnderAcquiring, LeavesLooks, TakeEnd, TakesOn};
 ghost use Rattle.lock_calls.specs.Waiting.{MayGain, IsSeeking, HasGained, HasGainedFirst, HasMissed, HasSpun, SpinsThenGains};
 
 use crate::courses::{Course, course_of};

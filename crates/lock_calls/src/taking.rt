@@ -46,13 +46,13 @@ pub fn begin_take(floor: &Floor, pass: &mut Pass, l: LockNo, mode: Mode) -> Next
 
 /// Goes on with the take that the pass is in the middle of. It has the lock's order checked behind the locks that the
 /// thread holds: `Reversed` comes exactly where the class of one of these forbids that of the lock by the class graph
-/// as the check found it. Then it looks in its round, and tries where it sees that it can gain the lock plainly, of a
-/// mutex only while the owner isn't queued, and at most 100 times in all. Then it takes the lock's chain, and gains the
-/// lock there, or comes to stand on its queue: on a turnstile it makes the hops of its walk, on the sleep queue of an
-/// sx lock there are none. Then it counts itself out. Where that left nobody awake it halts others, part by part, and
-/// `Wake` tells whose sleep is to be ended. Once it was woken it begins another round. `Sleep` comes exactly where the
-/// thread has counted itself out, has nobody left to halt, and hasn't run again. `Halted` comes only of an sx lock,
-/// where an abort ended this take's own sleep.
+/// as the check found it. Then it looks in its round, and tries where it sees that it can gain the lock plainly, at
+/// most 100 times in all; of a mutex it looks again only where the owner isn't queued. Then it takes the lock's chain,
+/// and gains the lock there, or comes to stand on its queue: on a turnstile it makes the hops of its walk, on the sleep
+/// queue of an sx lock there are none. Then it counts itself out. Where that left nobody awake it halts others, part by
+/// part, and `Wake` tells whose sleep is to be ended. Once it was woken it begins another round. `Sleep` comes exactly
+/// where the thread has counted itself out, has nobody left to halt, and hasn't run again. `Halted` comes only of an sx
+/// lock, where an abort ended this take's own sleep.
 pub fn go_on_taking(floor: &Floor, pass: &mut Pass) -> Next
     requires own { IsOf floor.now pass.old }
     requires one_chain { floor.now.description.chains ≡ 1 }

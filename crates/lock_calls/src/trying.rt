@@ -15,9 +15,9 @@ ghost use Rattle.lock_floor.specs.declared.calls.TryAt.{TryAt as Place};
 ghost use Rattle.lock_floor.specs.Passes.{IsOf, IsReady};
 ghost use Rattle.lock_calls.specs.Choices.{course};
 ghost use Rattle.lock_calls.specs.Steps.{IsCovered, MayTake};
-ghost use Rattle.lock_calls.specs.Takes.{LooksOn};
+ghost use Rattle.lock_calls.specs.Rounds.{LooksOn, HasSeen};
 ghost use Rattle.lock_calls.specs.Tries.{as_tried, tries_left, SeeksByTry, IsDeciding, IsUnderTry, IsInTry, HasTried, HasFoundBusy, GainsAt, FindsBusyAt, GainsThere, TriesOn, HasBegunTry, GoesOnTrying};
-ghost use Rattle.lock_calls.specs.Waiting.{kept_of, IsCalling, HasSeen, HasSpun, SpinsThenGains, MissesThere};
+ghost use Rattle.lock_calls.specs.Waiting.{kept_of, IsCalling, HasSpun, SpinsThenGains, MissesThere};
 
 use crate::blocking::give_both;
 use crate::courses::{Course, course_of};

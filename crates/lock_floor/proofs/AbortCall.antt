@@ -1,5 +1,5 @@
 -- What a call that takes a sleeper off a queue by an abort leaves of the pass, and tells of it.
-use Rattle.std.proofs.Common.{◌≡◌, ℕ, Bool, true, false, Some, IsSomeAnd, List, [], ◌∷◌, map, refl, sym, ap, ◌∙◌, subst}
+use Rattle.std.proofs.Common.{◌≡◌, ℕ, Bool, true, false, Option, Some, IsSomeAnd, List, [], ◌∷◌, map, refl, sym, ap, ◌∙◌, subst}
 use Rattle.std.specs.Global.{Vec}
 use Rattle.atomic_table.specs.Table.{Me, rest}
 use Rattle.chain_table.specs.Chains.{head_of}
@@ -12,6 +12,7 @@ use Rattle.lock_objects.specs.Aborts.{aborted_from, chain_aborted}
 use Rattle.lock_objects.specs.Represents.{mark_by}
 use Rattle.lock_objects.specs.declared.marked.Marked.{Marked}
 use Rattle.lock_objects.specs.declared.marked.Marked.TheVariants.{AbortedSleepers}
+use Rattle.lock_state.specs.State.{Look}
 use Rattle.lock_state.specs.Steps.{Aborts}
 use Rattle.sleep_queues.specs.Changes.{waiters, waits}
 use Rattle.sleep_queues.specs.Seen.{SleepQueue, Place}
@@ -28,7 +29,8 @@ use Rattle.lock_floor.proofs.AbortStep.{TakenOff}
 use Rattle.lock_floor.proofs.Tied.{tied_then}
 
 module _ (floor : Description) (me behind : Me Slot Knowledge) (q : QueueName) (side : Side) (u : ℕ)
-    (told : TakenOff floor q side u me behind) (at : ℕ) (at_is : at ≡ chain_place floor q) (out : me.1 ≡ me.0.out) where
+    {look : Option Look} (told : TakenOff floor q side u look me behind) (at : ℕ) (at_is : at ≡ chain_place floor q)
+    (out : me.1 ≡ me.0.out) where
   abbrev chain : List (QueueName × SleepQueue)
   chain = told.sleepers.chain
 
@@ -62,7 +64,7 @@ module _ (floor : Description) (me behind : Me Slot Knowledge) (q : QueueName) (
     woken_are = (outs chain head told.there last).1
 
     abbrev then : Knowledge
-    then = aborted_off me.0 q ps (out_aborted floor q u head chain me.0.out)
+    then = aborted_off me.0 q ps look (out_aborted floor q u head chain me.0.out)
 
     pub call_view : new.0 ≡ seeing new.0.seen then
     call_view = view ∙ ap (λ (m : Me Slot Knowledge). m.0) told.is
@@ -94,12 +96,19 @@ module _ (floor : Description) (me behind : Me Slot Knowledge) (q : QueueName) (
     pub call_step : Makes floor (Aborts me.0.thread q side u ∷ []) me.0 new.0
     call_step = subst (λ (k : Knowledge). Makes floor (Aborts me.0.thread q side u ∷ []) me.0 k) (sym view) told.step
 
-    -- where another stays on the side, if that is an sx lock's
-    pub call_aborts : KeepsWord q (without u (waiters side head.contents)) → AbortsSleeper floor q u me.0 new.0
-    call_aborts stays = record {
-      sleepers = told.sleepers;
-      side = side;
-      sleeps = record { head = head; there = told.there; stands = told.stands; keeps_word = stays };
-      view = call_view;
-      step = call_step;
-    }
+-- where another stays on the side, if that is an sx lock's
+module _ (floor : Description) (me behind : Me Slot Knowledge) (q : QueueName) (side : Side) (u : ℕ)
+    (told : TakenOff floor q side u me.0.share.doing.last_look me behind) (at : ℕ) (at_is : at ≡ chain_place floor q)
+    (out : me.1 ≡ me.0.out) (new : Me Slot Knowledge) (woken : List Place) (view : new.0 ≡ behind.0)
+    (outs : (c : List (QueueName × SleepQueue)) (h : SleepQueue) → head_of q c ≡ Some h
+    → behind.1 ≡ (at, SleepQueues c) ∷ rest behind.1
+    → (new.1 ≡ (at, SleepQueues (chain_aborted q u h c)) ∷ rest behind.1)
+    × (woken ≡ aborted_from u h.contents)) where
+  pub call_aborts : KeepsWord q (without u (waiters side told.head.contents)) → AbortsSleeper floor q u me.0 new.0
+  call_aborts stays = record {
+    sleepers = told.sleepers;
+    side = side;
+    sleeps = record { head = told.head; there = told.there; stands = told.stands; keeps_word = stays };
+    view = call_view floor me behind q side u told at at_is out new woken view outs;
+    step = call_step floor me behind q side u told at at_is out new woken view outs;
+  }

@@ -1,17 +1,17 @@
 -- An abort: a load of the latch of a queue's chain, by which one sleeper is taken off the queue. The chain, which the
 -- thread has out, is then what the work on it will make of it. The word of an sx lock stays, since another sleeper
 -- stays on that side.
-use Rattle.std.proofs.Common.{◌≡◌, ◌≢◌, ℕ, ◌<◌, ◌%◌, Bool, true, false, not, cond, lt-ltb, Some, IsSome, List, [], ◌∷◌, map, length, refl, sym, ap, ◌∙◌, subst, arith}
+use Rattle.std.proofs.Common.{◌≡◌, ◌≢◌, ℕ, ◌<◌, ◌%◌, Bool, true, false, cond, lt-ltb, Option, Some, IsSome, List, [], ◌∷◌, map, length, refl, sym, ap, ◌∙◌, subst, arith}
 use Rattle.std.specs.List.{All}
 use Rattle.atomic_table.specs.Table.{Me, keeps, rest, Allows}
 use Rattle.chain_table.specs.Chains.{head_of, without}
 use Rattle.chain_table.proofs.Lookups.{head_of-without_itself}
+use Rattle.lock_laws.proofs.ChangedWords.{some_there, word_stays}
 use Rattle.lock_laws.proofs.Derived.{once}
-use Rattle.lock_laws.proofs.Kit.{put_same, put_other, put_back}
+use Rattle.lock_laws.proofs.Kit.{put_same, put_other}
 use Rattle.lock_model.specs.Config.{Config}
 use Rattle.lock_model.specs.Counts.{is_empty}
-use Rattle.lock_model.specs.Queues.{Waiter, Lists, ByAbort, is_turnstile_queue, list_of, times_waiting, without as without_waiter}
-use Rattle.lock_model.specs.Words.{Word, with_bit}
+use Rattle.lock_model.specs.Queues.{Waiter, ByAbort, is_turnstile_queue, list_of, times_waiting, without as without_waiter}
 use Rattle.lock_model.specs.declared.plan.QueueName.{QueueName}
 use Rattle.lock_model.specs.declared.plan.QueueName.TheVariants.{Lock, Chan}
 use Rattle.lock_model.specs.declared.plan.Side.{Side}
@@ -21,11 +21,10 @@ use Rattle.lock_objects.specs.Represents.{SleepColumns, RepresentsSleepQueue, ma
 use Rattle.lock_objects.proofs.Aborts.{shows_aborted, marks_aborted}
 use Rattle.lock_objects.proofs.StepsOfSleepers.{balanced, abort_changes}
 use Rattle.lock_state.specs.Facts.{Lawful, BitsShowWaiters}
-use Rattle.lock_state.specs.Facts.Queues.{ShowsItsWaiters}
-use Rattle.lock_state.specs.State.{State, put}
+use Rattle.lock_state.specs.State.{State, Look, put}
 use Rattle.lock_state.specs.Steps.{Step, Aborts}
 use Rattle.lock_state.specs.Steps.Items.{Item, TurnstileChain, SleepChain, RecordOf, CellOf, ClassGraph}
-use Rattle.lock_state.specs.Steps.SleepQueues.{after_abort, phase_aborting, sleeper, word_showing}
+use Rattle.lock_state.specs.Steps.SleepQueues.{after_abort, look_leaving, phase_aborting, sleeper, word_showing}
 use Rattle.sleep_queues.specs.Changes.{all_waiters, waiters, waits}
 use Rattle.sleep_queues.specs.Seen.{SleepQueue, Place}
 use Rattle.floor_table.specs.Descriptions.{config_in}
@@ -57,16 +56,20 @@ use Rattle.lock_floor.proofs.SleepChanges.{turnstiles_same, sleepers_same, sleep
 -- 1. The shares behind it
 
 pub abort_own : (s : State) (v : Knowledge) → RepresentsShare v.share s v.thread → (q : QueueName) (side : Side) (u : ℕ)
-    (ps : List Place) (out : List (ℕ × Slot))
+    (ps : List Place) (look : Option Look) (out : List (ℕ × Slot))
     → map (mark_by ByAbort q) ps ≡ (after_abort s v.thread q side u).marked v.thread
-    → RepresentsShare (aborted_off v q ps out).share (after_abort s v.thread q side u) v.thread
+    → look ≡ look_leaving q (without_waiter u (list_of side (s.lists q))) v.share.doing.last_look
+    → RepresentsShare (aborted_off v q ps look out).share (after_abort s v.thread q side u) v.thread
 unfolding after_abort
-abort_own s v fit q side u ps out marks =
+abort_own s v fit q side u ps look out marks look_is =
     let its : columns_of v.share ≡ share_in s v.thread = fit.columns in
     record {
       columns = λ i. record (its i) {
         doing = record (its i).doing {
           marked = marks i;
+          last_look = (look_is
+              ∙ ap (λ (x : ShareColumns). look_leaving q (without_waiter u (list_of side (s.lists q)))
+              x.doing.last_look) its ∙ sym (put_same s.last_look v.thread _)) i;
           phase = (ap (λ (x : ShareColumns). phase_aborting x.doing.phase) its ∙ sym (put_same s.phase v.thread _)) i;
         };
       };
@@ -79,37 +82,31 @@ unfolding after_abort
 abort_others s t w other q side u =
     let ne : t ≡ w → ⊥ = λ e. other (sym e) in
     let marked_is : (after_abort s t q side u).marked w ≡ s.marked w = put_other s.marked t _ w ne in
+    let look_is : (after_abort s t q side u).last_look w ≡ s.last_look w = put_other s.last_look t _ w ne in
     let phase_is : (after_abort s t q side u).phase w ≡ s.phase w = put_other s.phase t _ w ne in
     λ i. record (share_in s w) {
-      doing = record (share_in s w).doing { marked = marked_is i; phase = phase_is i };
+      doing = record (share_in s w).doing { marked = marked_is i; last_look = look_is i; phase = phase_is i };
     }
 
--- 2. The word stays
-
-bit_stays : (side : Side) (w : Word) (q : Lists) → ShowsItsWaiters w q → is_empty (list_of side q) ≡ false
-    → with_bit w side true ≡ w
-bit_stays X w q shows some = λ i. record w { exclusive_waiters = (ap not (sym some) ∙ sym shows.exclusive) i }
-bit_stays S w q shows some = λ i. record w { shared_waiters = (ap not (sym some) ∙ sym shows.shared) i }
+-- 2. Where the word stays, the last look does
 
 some_left : (ws : List Waiter) → ws ≢ [] → is_empty ws ≡ false
 some_left [] ne = absurd (ne refl)
 some_left (w ∷ ws) ne = refl
 
-pub some_there : (u : ℕ) (ws : List Waiter) → 0 < times_waiting u ws → is_empty ws ≡ false
-some_there u [] i = absurd (omega arith)
-some_there u (w ∷ ws) i = refl
-
 words_stay : (s : State) (q : QueueName) (side : Side) (u : ℕ) → BitsShowWaiters s.word s.lists
     → 0 < times_waiting u (list_of side (s.lists q)) → KeepsWord q (without_waiter u (list_of side (s.lists q)))
     → word_showing q side (without_waiter u (list_of side (s.lists q))) s.word ≡ s.word
-unfolding BitsShowWaiters
 words_stay s (Lock l) side u bits here stay =
-    let left : List Waiter = without_waiter u (list_of side (s.lists (Lock l))) in
-    let word_is : with_bit (s.word l.0) side (not (is_empty left)) ≡ s.word l.0 =
-    ap (λ b. with_bit (s.word l.0) side (not b)) (some_left left stay)
-    ∙ bit_stays side (s.word l.0) (s.lists (Lock l)) (bits l.0) (some_there u (list_of side (s.lists (Lock l))) here) in
-    put_back s.word l.0 (with_bit (s.word l.0) side (not (is_empty left))) (sym word_is)
+    word_stays s l side bits (some_there u (list_of side (s.lists (Lock l))) here)
+    (without_waiter u (list_of side (s.lists (Lock l)))) (some_left _ stay)
 words_stay s (Chan d) side u bits here stay = refl
+
+look_stays : (q : QueueName) (left : List Waiter) (look : Option Look) → KeepsWord q left
+    → look ≡ look_leaving q left look
+look_stays (Lock l) [] look stay = absurd (stay refl)
+look_stays (Lock l) (w ∷ ws) look stay = refl
+look_stays (Chan d) left look stay = refl
 
 -- 3. What else the columns say
 
@@ -160,26 +157,27 @@ waits_there S u h here = lt-ltb 0 _ (omega (arith, here))
 abbrev pub chain_off : QueueName → ℕ → SleepQueue → List (QueueName × SleepQueue) → Slot
 chain_off q u head chain = SleepQueues (chain_aborted q u head chain)
 
-abbrev pub view_off : Description → Knowledge → QueueName → ℕ → SleepQueue → List (QueueName × SleepQueue) → Knowledge
-view_off floor v q u head chain =
-    aborted_off v q (aborted_from u head.contents) (out_aborted floor q u head chain v.out)
+abbrev pub view_off : Description → Knowledge → QueueName → ℕ → SleepQueue → Option Look
+    → List (QueueName × SleepQueue) → Knowledge
+view_off floor v q u head look chain =
+    aborted_off v q (aborted_from u head.contents) look (out_aborted floor q u head chain v.out)
 
--- what it tells: the thread made it, the chain is such that the work on it can be done, and whom it took has its sleep
--- queue with it
-pub record TakenOff (floor : Description) (q : QueueName) (side : Side) (u : ℕ) (me behind : Me Slot Knowledge)
-    : Type 0 where
+-- what it tells: the thread made it, and has that last look; the chain is such that the work on it can be done, and
+-- whom it took has its sleep queue with it
+pub record TakenOff (floor : Description) (q : QueueName) (side : Side) (u : ℕ) (look : Option Look)
+    (me behind : Me Slot Knowledge) : Type 0 where
   pub sleepers : HasSleepersOut floor q me.0
   pub head : SleepQueue
   pub there : head_of q sleepers.chain ≡ Some head
   pub stands : 0 < times_waiting u (waiters side head.contents)
   pub can : waits u head.contents ≡ true
-  pub is : behind ≡ (seeing behind.0.seen (view_off floor me.0 q u head sleepers.chain), me.1)
+  pub is : behind ≡ (seeing behind.0.seen (view_off floor me.0 q u head look sleepers.chain), me.1)
   pub step : Makes floor (Aborts me.0.thread q side u ∷ []) me.0 behind.0
   pub sleeps_there : is_turnstile_queue (config_in floor) q ≡ false
   pub held : All (λ p. IsSome p.object) (aborted_from u head.contents)
   pub of_floor : All (λ m. m.thread < length floor.threads) (map (mark_by ByAbort q) (aborted_from u head.contents))
 
-module _ (floor : Description) (me : Me Slot Knowledge) (q : QueueName) (side : Side) (u : ℕ)
+module _ (floor : Description) (me : Me Slot Knowledge) (q : QueueName) (side : Side) (u : ℕ) (look : Option Look)
     (sleepers : HasSleepersOut floor q me.0) (head : SleepQueue) (b : Board) (f : Finds floor me.0 b) where
   abbrev step : Step
   step = Aborts me.0.thread q side u
@@ -198,7 +196,7 @@ module _ (floor : Description) (me : Me Slot Knowledge) (q : QueueName) (side : 
   n = after_abort f.state me.0.thread q side u
 
   abbrev w : Knowledge
-  w = seeing (step ∷ f.past) (view_off floor me.0 q u head chain)
+  w = seeing (step ∷ f.past) (view_off floor me.0 q u head look chain)
 
   abbrev content : ℕ → Slot
   content = put f.represents.content j (chain_off q u head chain)
@@ -210,12 +208,14 @@ module _ (floor : Description) (me : Me Slot Knowledge) (q : QueueName) (side : 
     pub shelves : Shelves (slots_for floor) (latch_word b.words) (home_at b.homes)
         (put (λ x. (thread_in b.views x).out) me.0.thread w.out) content
     pub objects : RepresentsObjects floor content (objects_in n)
-    pub told : Makes floor (step ∷ []) me.0 w → (off : TakenOff floor q side u me (w, me.1)) × (off.head ≡ head)
+    pub told : Makes floor (step ∷ []) me.0 w → (off : TakenOff floor q side u look me (w, me.1)) × (off.head ≡ head)
 
   pub loses_sleeper : me.0.role ≡ OfThread → head_of q chain ≡ Some head
-      → 0 < times_waiting u (waiters side head.contents) → FitAll floor f.state (step ∷ []) → LosesSleeper
+      → 0 < times_waiting u (waiters side head.contents)
+      → look ≡ look_leaving q (without_waiter u (waiters side head.contents)) me.0.share.doing.last_look
+      → FitAll floor f.state (step ∷ []) → LosesSleeper
   unfolding after_abort
-  loses_sleeper was there stands allowed =
+  loses_sleeper was there stands look_is allowed =
       let c : Config = config_in floor in
       let s : State = f.state in
       let t : ℕ = me.0.thread in
@@ -240,11 +240,15 @@ module _ (floor : Description) (me : Me Slot Knowledge) (q : QueueName) (side : 
       let marks = marks_aborted (StandsIn floor (SleepChain k)) c s q side (sleeper s u) is in_chain chain shows.queue
       head there refl in
       let marked : map (mark_by ByAbort q) ps ≡ n.marked t = marks.0 ∙ sym (put_same s.marked t _) in
+      let list : list_of side (s.lists q) ≡ waiters side head.contents =
+      ap (λ (a : SleepColumns). list_of side a.lists) old in
+      let looked : look ≡ look_leaving q (without_waiter u (list_of side (s.lists q))) me.0.share.doing.last_look =
+      look_is ∙ ap (λ ws. look_leaving q (without_waiter u ws) me.0.share.doing.last_look) (sym list) in
       let own : OwnSteps me.0 w f.past (step ∷ []) s n = record {
         role = was;
         seen = refl;
         makers = one_own t step refl;
-        seat = record { thread = refl; share = abort_own s me.0 f.fits.share q side u ps w.out marked };
+        seat = record { thread = refl; share = abort_own s me.0 f.fits.share q side u ps look w.out marked looked };
         others = λ x ne. abort_others s t x ne q side u;
         pose = f.fits.pose;
         other_poses = λ x ne p z. z;
@@ -259,7 +263,7 @@ module _ (floor : Description) (me : Me Slot Knowledge) (q : QueueName) (side : 
       record {
         own = own;
         low = place_low floor (SleepChain k) j at;
-        list = ap (λ (a : SleepColumns). list_of side a.lists) old;
+        list = list;
         shelves = shelf_changed (slots_for floor) (latch_word b.words) (home_at b.homes)
             (λ x. (thread_in b.views x).out) r.content r.shelves j t (SleepQueues chain) (chain_off q u head chain)
             (rest me.0.out)
@@ -288,7 +292,7 @@ module _ (floor : Description) (me : Me Slot Knowledge) (q : QueueName) (side : 
 -- the thread took one off a side on which another stays, where that is an sx lock's
 pub record AbortedOff (floor : Description) (q : QueueName) (u : ℕ) (me behind : Me Slot Knowledge) : Type 0 where
   pub side : Side
-  pub off : TakenOff floor q side u me behind
+  pub off : TakenOff floor q side u me.0.share.doing.last_look me behind
   pub keeps_word : KeepsWord q (without_waiter u (waiters side off.head.contents))
 
 abbrev pub ToldAborted : Description → QueueName → ℕ → Me Slot Knowledge → ℕ → Me Slot Knowledge → Type 0
@@ -309,8 +313,11 @@ module _ (floor : Description) (me : Me Slot Knowledge) (was : me.0.role ≡ OfT
   aborts b f allowed =
       let s : State = f.state in
       let head : SleepQueue = sleeps.head in
-      let lost = loses_sleeper floor me q side u sleepers head b f was sleeps.there sleeps.stands allowed in
-      let behind : Knowledge = seeing (Aborts v.thread q side u ∷ f.past) (view_off floor v q u head sleepers.chain) in
+      let look : Option Look = v.share.doing.last_look in
+      let lost = loses_sleeper floor me q side u look sleepers head b f was sleeps.there sleeps.stands
+      (look_stays q (without_waiter u (waiters side head.contents)) look sleeps.keeps_word) allowed in
+      let behind : Knowledge =
+      seeing (Aborts v.thread q side u ∷ f.past) (view_off floor v q u head look sleepers.chain) in
       let words = words_stay s q side u f.sound.facts.lawful.queues.bits_show_waiters allowed.0.fits.may.stands
       (subst (λ ws. KeepsWord q (without_waiter u ws)) (sym lost.list) sleeps.keeps_word) in
       let made = latch_seen_with floor (Aborts v.thread q side u ∷ []) b v behind f was allowed lost.own me.1 place

@@ -1,9 +1,10 @@
 -- An abort of the last sleeper of a side of an sx lock's queue: the lock's word loses the side's bit, so that it shows
 -- nobody there, and by that the sleeper is taken off the queue. The chain, which the thread has out, is then what the
 -- work on it will make of it.
-use Rattle.std.proofs.Common.{◌≡◌, ℕ, ◌+◌, ◌-◌, ◌/◌, ◌%◌, ◌<◌, Bool, eqb, true, not, List, [], ◌∷◌, length, refl, sym, ap, ◌∙◌, subst, arith}
+use Rattle.std.proofs.Common.{◌≡◌, ℕ, ◌+◌, ◌-◌, ◌/◌, ◌%◌, ◌<◌, Bool, eqb, true, not, List, [], ◌∷◌, length, None, refl, sym, ap, ◌∙◌, subst, arith}
 use Rattle.std.proofs.lemmas.Bool.{eqb-true}
 use Rattle.atomic_table.specs.Table.{Me, keeps, Allows}
+use Rattle.lock_laws.proofs.ChangedWords.{some_there}
 use Rattle.lock_model.specs.Counts.{is_empty}
 use Rattle.lock_model.specs.Queues.{Waiter, Lists, lock_queue, list_of, times_waiting, without as without_waiter}
 use Rattle.lock_model.specs.Words.{Word, word_of, holder_of, with_bit, unshown}
@@ -14,7 +15,7 @@ use Rattle.lock_state.specs.Facts.{BitsShowWaiters}
 use Rattle.lock_state.specs.Facts.Queues.{ShowsItsWaiters}
 use Rattle.lock_state.specs.State.{State, put}
 use Rattle.lock_state.specs.Steps.{Aborts}
-use Rattle.lock_state.specs.Steps.SleepQueues.{after_abort}
+use Rattle.lock_state.specs.Steps.SleepQueues.{after_abort, look_leaving}
 use Rattle.sleep_queues.specs.Changes.{waiters}
 use Rattle.sleep_queues.specs.Seen.{SleepQueue}
 use Rattle.floor_table.specs.declared.description.Description.{Description}
@@ -27,7 +28,7 @@ use Rattle.floor_table.specs.Views.{Knowledge, OfThread, seeing}
 use Rattle.floor_table.proofs.Made.{Finds, Steps, allows, lock_made_with}
 use Rattle.lock_floor.specs.Halting.{MayAbortLast, added_off}
 use Rattle.lock_floor.specs.Waits.{chain_place}
-use Rattle.lock_floor.proofs.AbortStep.{TakenOff, chain_off, loses_sleeper, some_there, view_off}
+use Rattle.lock_floor.proofs.AbortStep.{TakenOff, chain_off, loses_sleeper, view_off}
 use Rattle.lock_floor.proofs.Looking.{found_word}
 
 -- 1. The word
@@ -78,9 +79,9 @@ hidden side w ws e = ap (λ xs. with_bit w side (not (is_empty xs))) e
 
 -- 2. The step
 
--- the thread took the last of a side off an sx lock's queue
+-- the thread took the last of a side off an sx lock's queue, and has no last look
 pub record LastOff (floor : Description) (l : ℕ) (side : Side) (u : ℕ) (me behind : Me Slot Knowledge) : Type 0 where
-  pub off : TakenOff floor (lock_queue l) side u me behind
+  pub off : TakenOff floor (lock_queue l) side u None me behind
   pub last : without_waiter u (waiters side off.head.contents) ≡ []
 
 module _ (floor : Description) (me : Me Slot Knowledge) (was : me.0.role ≡ OfThread) (l : ℕ) (side : Side) (u : ℕ)
@@ -106,9 +107,11 @@ module _ (floor : Description) (me : Me Slot Knowledge) (was : me.0.role ≡ OfT
       let new : ℕ = (x + added_off side) % 18446744073709551616 in
       let its_word : word_of x ≡ s.word l = (found_word floor b v f l low).0 in
       let allowed : FitAll floor s (Aborts v.thread q side u ∷ []) = may.may s f.fits tt in
-      let lost = loses_sleeper floor me q side u may.sleepers head b f was may.sleeps.there may.sleeps.stands
-      allowed in
-      let behind : Knowledge = seeing (Aborts v.thread q side u ∷ f.past) (view_off floor v q u head chain) in
+      let forgotten : None ≡ look_leaving q (without_waiter u (waiters side head.contents)) v.share.doing.last_look =
+      ap (λ ws. look_leaving q ws v.share.doing.last_look) (sym may.sleeps.last) in
+      let lost = loses_sleeper floor me q side u None may.sleepers head b f was may.sleeps.there may.sleeps.stands
+      forgotten allowed in
+      let behind : Knowledge = seeing (Aborts v.thread q side u ∷ f.past) (view_off floor v q u head None chain) in
       let left : without_waiter u (list_of side (s.lists q)) ≡ [] = ap (without_waiter u) lost.list ∙ may.sleeps.last in
       let word_then : Word = with_bit (s.word l) side (not (is_empty (without_waiter u (list_of side (s.lists q))))) in
       let shown : shown_on side (word_of x) ≡ true =

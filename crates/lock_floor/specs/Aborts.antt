@@ -1,5 +1,5 @@
 -- How a thread at halting others takes one sleeper off a queue, by an abort.
-use Rattle.std.specs.Prelude.{◌≡◌, ◌≢◌, ℕ, ◌<◌, true, List, [], ◌∷◌, ◌++◌, map, Some, None, ⊤}
+use Rattle.std.specs.Prelude.{◌≡◌, ◌≢◌, ℕ, ◌<◌, true, List, [], ◌∷◌, ◌++◌, map, Option, Some, None, ⊤}
 use Rattle.atomic_table.specs.Table.{rest}
 use Rattle.chain_table.specs.Chains.{head_of}
 use Rattle.lock_model.specs.Queues.{Waiter, ByAbort, times_waiting, without}
@@ -8,6 +8,7 @@ use Rattle.lock_model.specs.declared.plan.QueueName.{QueueName}
 use Rattle.lock_model.specs.declared.plan.QueueName.TheVariants.{Lock, Chan}
 use Rattle.lock_objects.specs.Aborts.{aborted_from, chain_aborted}
 use Rattle.lock_objects.specs.Represents.{mark_by}
+use Rattle.lock_state.specs.State.{Look}
 use Rattle.lock_state.specs.Steps.{Step, Halts, Aborts, is_halting}
 use Rattle.lock_state.specs.Steps.SleepQueues.{phase_aborting}
 use Rattle.sleep_queues.specs.Changes.{waiters}
@@ -63,11 +64,14 @@ abbrev pub out_aborted : Description → QueueName → ℕ → SleepQueue → Li
 out_aborted floor q u h chain out =
     (chain_place floor q, SleepQueues (chain_aborted q u h chain)) ∷ rest out
 
--- after an abort: these are in the marked list, by an abort; a finder is none any more; and these values are out
-abbrev pub aborted_off : Knowledge → QueueName → List Place → List (ℕ × Slot) → Knowledge
-aborted_off v q ps out =
+-- after an abort: these are in the marked list, by an abort; this is the last look; a finder is none any more; and
+-- these values are out
+abbrev pub aborted_off : Knowledge → QueueName → List Place → Option Look → List (ℕ × Slot)
+    → Knowledge
+aborted_off v q ps look out =
     let after : Doing = record v.share.doing {
       marked = map (mark_by ByAbort q) ps;
+      last_look = look;
       phase = phase_aborting v.share.doing.phase;
     } in
     record v { share = record v.share { doing = after }; out = out }
@@ -81,12 +85,12 @@ pub record MayAbortSleeper (floor : Description) (q : QueueName) (u : ℕ) (v : 
     pub may : MayMake floor v (λ s. Unit {0}) (Aborts v.thread q side u ∷ [])
 
 -- The thread took a sleeper off a queue, with the sleep queue that it takes back: in one step it is alone in the marked
--- list, by an abort
+-- list, by an abort. No lock's word changed, and the thread's last look stays
 pub record AbortsSleeper (floor : Description) (q : QueueName) (u : ℕ) (old new : Knowledge) : Type 0
   where
     pub sleepers : HasSleepersOut floor q old
     pub side : Side
     pub sleeps : IsSleeping q side u sleepers.chain
     pub view : new ≡ seeing new.seen (aborted_off old q (aborted_from u sleeps.head.contents)
-        (out_aborted floor q u sleeps.head sleepers.chain old.out))
+        old.share.doing.last_look (out_aborted floor q u sleeps.head sleepers.chain old.out))
     pub step : Makes floor (Aborts old.thread q side u ∷ []) old new

@@ -1,6 +1,6 @@
 -- How a thread at halting others finds the sleepers of a queue, and takes the last of a side of an sx lock's off it, by
 -- an abort: the lock's word then shows nobody on that side.
-use Rattle.std.specs.Prelude.{◌≡◌, ◌<◌, ℕ, List, [], ◌∷◌, IfSome, Some, ⊤}
+use Rattle.std.specs.Prelude.{◌≡◌, ◌<◌, ℕ, List, [], ◌∷◌, IfSome, Some, None, ⊤}
 use Rattle.chain_table.specs.Chains.{head_of}
 use Rattle.lock_model.specs.Counts.{is_empty}
 use Rattle.lock_model.specs.Queues.{Waiter, lock_queue, times_waiting, without}
@@ -66,12 +66,13 @@ pub record MayAbortLast (floor : Description) (l : ℕ) (side : Side) (u : ℕ) 
     pub may : MayMake floor v (λ s. ⊤) (Aborts v.thread (lock_queue l) side u ∷ [])
 
 -- The thread took the last sleeper of a side off an sx lock's queue, with the sleep queue that it takes back: in one
--- step it is alone in the marked list, by an abort, and the lock's word shows nobody on that side
+-- step it is alone in the marked list, by an abort, and the lock's word shows nobody on that side. Since that word
+-- changed, the thread has no last look
 pub record AbortsLast (floor : Description) (l : ℕ) (side : Side) (u : ℕ) (old new : Knowledge) :
     Type 0 where
   pub sleepers : HasSleepersOut floor (lock_queue l) old
   pub sleeps : IsLastAsleep (lock_queue l) side u sleepers.chain
   pub view : new ≡ seeing new.seen (aborted_off old (lock_queue l)
-      (aborted_from u sleeps.head.contents)
+      (aborted_from u sleeps.head.contents) None
       (out_aborted floor (lock_queue l) u sleeps.head sleepers.chain old.out))
   pub step : Makes floor (Aborts old.thread (lock_queue l) side u ∷ []) old new

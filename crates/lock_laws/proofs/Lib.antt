@@ -58,3 +58,4 @@ pub mod Bits
 pub mod Dealt
 pub mod Taken
 pub mod SeenWords
+pub mod ChangedWords

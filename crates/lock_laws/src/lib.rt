@@ -8,7 +8,8 @@
 //! - `priorities`: where no walk is under way and nobody waits in a cycle, each effective priority is the best
 //!   behind it.
 //! - `waits`: a thread stands at most once, on one queue, and a lock's word shows it.
-//! - `seen`: a mutex is never shared, and who doesn't hold a lock may share it beside those who do.
+//! - `seen`: a mutex is never shared, and who doesn't hold a lock may share it beside those who do; and who changes a
+//!   lock's word has no last look then.
 //! - `books`: the table of a lock is what the history leaves, and what a stamp of each class of event keeps.
 //! - `objects`: where turnstiles, loan nodes and waiters are.
 #![tactic(auto)]

@@ -141,9 +141,9 @@ pub fn lockrun_plain<S: Source, K: Sink>(
 
 /// What the program does where the words are a form with the command `run`: it reads a script from the source, runs its
 /// threads, each beside the others, and writes the text of that run to the sink. A take is refused in it only by the
-/// order of locks that earlier takes have taught, and a sleep is halted only behind a moment at which no thread could go
-/// on. The gate is asked before each operation of a thread. It waits until the threads have come to their end. It takes
-/// memory until the text is made, and none from then on.
+/// order of locks that earlier takes have taught, and a sleep is halted only behind a moment at which no thread could
+/// go on. The gate is asked before each operation of a thread. It waits until the threads have come to their end. It
+/// takes memory until the text is made, and none from then on.
 pub fn lockrun_live<R: Threads + Wait + Sync, S: Source, K: Sink, G: Gate>(
     rt: &R,
     alloc: Global,

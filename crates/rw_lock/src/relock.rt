@@ -7,7 +7,8 @@ use lock_floor::{Floor, Pass, Relock};
 use lock_model::{LockNo, Mode};
 use std::sync::Wait;
 
-/// What a call that waits on a condition or a channel is given, where the lock that belongs to it is a reader-writer lock.
+/// What a call that waits on a condition or a channel is given, where the lock that belongs to it is a reader-writer
+/// lock.
 #[derive(Clone, Copy, Debug)]
 pub struct RwRelock;
 

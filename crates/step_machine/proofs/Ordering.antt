@@ -1,6 +1,6 @@
 -- A lock is admitted to a thread behind those that it holds: the graph has their edges, and the thread has the lock to
 -- gain. Or it is refused, of which no object tells before that is noted.
-use Rattle.std.proofs.Common.{◌≡◌, ℕ, true, List, slice_get, Some, is_some, refl, sym, ap, ◌∙◌, subst}
+use Rattle.std.proofs.Common.{◌≡◌, ℕ, true, List, slice_get, Some, is_some, refl, sym, ap, subst}
 use Rattle.std.specs.Vec.{with_item}
 use Rattle.lock_model.specs.Config.{Config}
 use Rattle.lock_model.specs.Orders.{HaveSameEdges, IsAdmitted, edges_behind}

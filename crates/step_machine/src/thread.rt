@@ -1,5 +1,5 @@
 //! What the machine keeps of a thread: its record, its wait word, and what it is in the middle of.
-ghost use Rattle.std.specs.Prelude.{not, false, ◌≡◌, ◌<◌, ◌++◌, [], ◌∷◌, length, None, IfOk};
+ghost use Rattle.std.specs.Prelude.{not, false, ◌≡◌, ◌<◌, ◌++◌, [], ◌∷◌, length, remove, None, IfOk};
 ghost use Rattle.std.specs.Vec.{vec_capacity};
 ghost use Rattle.lock_model.specs.Operations.{hold_in, without_lock};
 ghost use Rattle.lock_state.specs.Run.{mode_held};
@@ -102,7 +102,8 @@ impl Thread {
         ensures others { self.new ≡ record self.old { held = self.new.held; left = self.new.left } }
     {
         if let Some(i) = place_held(l, &self.held) {
-            self.left = self.held.remove(i).mode;
+            self.left = self.held[i].mode;
+            take_out(i, &mut self.held);
         }
     }
 
@@ -115,5 +116,19 @@ impl Thread {
     {
         self.held.push_reserved(held);
         self.wants = false;
+    }
+}
+
+// Takes out what stands at a place. Mostly that is the last.
+#[inline(always)]
+fn take_out(i: usize, held: &mut Vec<Held>)
+    requires { i < length held.old.items }
+    ensures held { held.new.items ≡ remove held.old.items i }
+    ensures room { vec_capacity held.new ≡ vec_capacity held.old }
+{
+    if i + 1 == held.len() {
+        held.take_last();
+    } else {
+        held.remove(i);
     }
 }

@@ -1,13 +1,13 @@
 -- Steps that put a thread on a sleep queue, of an sx lock or of a condition variable or channel, and take sleepers
 -- off again, by a signal or by an abort.
-use Rattle.std.specs.Prelude.{◌≡◌, ℕ, ◌<◌, Bool, true, false, not, List, [], ◌∷◌, map, Some, None}
+use Rattle.std.specs.Prelude.{◌≡◌, ℕ, ◌<◌, Bool, true, false, not, List, [], ◌∷◌, map, Option, Some, None}
 use Rattle.lock_model.specs.Counts.{is_empty}
 use Rattle.lock_model.specs.Words.{Word, is_turnstile, with_bit}
 use Rattle.lock_model.specs.Config.{Config}
 use Rattle.lock_model.specs.Events.{sleeps_on}
 use Rattle.lock_state.specs.Steps.LockWords.{OthersOpen}
 use Rattle.lock_state.specs.Steps.Turnstiles.{MustWait, IsLastHolder, with_waiter, waiting_for, with_marked, after_last_release}
-use Rattle.lock_state.specs.State.{State, Queued, Phase, Awake, Asleep, Last, Halting, Aborting, SelfAborted, is_parked, found_nobody_awake, put, put_queue}
+use Rattle.lock_state.specs.State.{State, Look, Queued, Phase, Awake, Asleep, Last, Halting, Aborting, SelfAborted, is_parked, found_nobody_awake, put, put_queue}
 use Rattle.lock_model.specs.Queues.{Waiter, Mark, ByAbort, lock_queue, chan_queue, is_turnstile_queue, side_of, list_of, with_list, with_last, times_waiting, taken_off, left_on, without, dealt, free_after, head_after}
 use Rattle.lock_model.specs.declared.plan.Mode.{Mode}
 use Rattle.lock_model.specs.declared.plan.Side.{Side}
@@ -130,6 +130,12 @@ word_showing (Lock l) side ws word =
     put word l.0 (with_bit (word l.0) side (not (is_empty ws)))
 word_showing (Chan d) side ws word = word
 
+-- the thread's last look after it left these on that side: none where a lock's bit fell, since the word changed
+abbrev pub look_leaving : QueueName → List Waiter → Option Look → Option Look
+look_leaving (Lock l) [] look = None
+look_leaving (Lock l) (w ∷ ws) look = look
+look_leaving (Chan d) ws look = look
+
 -- a finder that aborts is none any more
 abbrev pub phase_aborting : Phase → Phase
 phase_aborting Awake = Awake
@@ -150,5 +156,6 @@ after_abort s t q side u =
       free_list = put_queue s.free_list q (free_after taken (s.free_list q));
       head = put_queue s.head q (head_after taken (s.free_list q) (s.head q));
       marked = put s.marked t (by_abort (dealt q taken (s.free_list q) (s.head q)));
+      last_look = put s.last_look t (look_leaving q left (s.last_look t));
       phase = put s.phase t (phase_aborting (s.phase t));
     }

@@ -1,5 +1,6 @@
 //! Entries of the history.
 ghost use Rattle.std.specs.Prelude.{◌≡◌, ◌≤◌, ◌<◌, ◌+◌, length};
+ghost use Rattle.lock_history.specs.Books.{HasRoom};
 ghost use Rattle.lock_model.specs.History.{edited};
 ghost use Rattle.lock_model.specs.Takes.{has_reversal};
 ghost use Rattle.lock_state.specs.Steps.{Stamps};
@@ -8,7 +9,8 @@ ghost use Rattle.step_machine.specs.Noted.{IsNoted};
 ghost use Rattle.step_machine.specs.Steps.{May, Makes, KeepsProgress, HasKey};
 
 use super::Machine;
-use lock_model::{Entry, Event, ThreadNo};
+use lock_history::Tables;
+use lock_model::{Entry, Event, OfTable, ThreadNo};
 
 impl Machine {
     /// Makes an entry with the next ticket, and what the entry says of a table, of the thread's base priority, of a
@@ -41,6 +43,7 @@ impl Machine {
     }
 
     // Changes what an event changes beside the history.
+    #[inline(always)]
     fn edit(&mut self, t: ThreadNo, event: Event)
         requires thread { t.0 < length self.old.threads.items }
         requires key { HasKey self.old event }
@@ -50,12 +53,24 @@ impl Machine {
         ensures others { self.new
             ≡ record self.old { threads = self.new.threads; tables = self.new.tables } }
     {
-        self.tables.edit(event).unwrap();
+        edit_tables(&mut self.tables, event);
         let thread = &mut self.threads[usize::from(t.0)];
         thread.waits_on = event.fell_asleep();
         thread.cut = event.is_reversal() || thread.cut;
         if let Some(prio) = event.new_base() {
             thread.record.set_base(prio);
         }
+    }
+}
+
+// Makes the change that an event says of a table. One that changes no table costs a test, and no call.
+#[inline(always)]
+fn edit_tables(tables: &mut Tables, event: Event)
+    requires { HasRoom tables.old.places event }
+    ensures { tables.new ≡ record tables.old { present = edited event tables.old.present } }
+{
+    match event.at_table() {
+        OfTable::SetsTo { .. } | OfTable::AddsTo { .. } => tables.edit(event).unwrap(),
+        OfTable::NoTable | OfTable::Reads { .. } => {}
     }
 }

@@ -1,11 +1,12 @@
-use Rattle.std.proofs.Common.{◌≡◌, ◌≢◌, ◌⊎◌, true, false, sym, ap, ◌∙◌, subst, inl, inr}
+use Rattle.std.proofs.Common.{◌≡◌, ◌≢◌, ◌⊎◌, sym, ap, ◌∙◌, subst, inl, inr}
 use Rattle.lock_model.specs.Words.{word_of}
 use Rattle.lock_model.specs.declared.plan.Kind.{Kind}
 use Rattle.lock_model.specs.declared.plan.Kind.TheVariants.{Mtx, Rw, Sx}
 use Rattle.lock_calls.specs.Choices.{course}
 use Rattle.lock_calls.specs.declared.courses.Course.{Course}
 use Rattle.lock_calls.specs.declared.courses.Course.TheVariants.{Plainly, ByClaim, MustWait}
-use Rattle.lock_calls.specs.Takes.{AsksOwner, for_claim, of_mutex, of_shared}
+use Rattle.lock_calls.specs.Rounds.{AsksOwner, of_mutex, of_shared}
+use Rattle.lock_calls.specs.Takes.{again, for_claim, owner_queued}
 use Rattle.lock_calls.proofs.spinning.looks_left.Goals as goal
 
 others : (course : Course) → (course ≡ Plainly) ⊎ (course ≡ MustWait) → course ≢ ByClaim
@@ -27,19 +28,19 @@ returns-in-ByClaim-clause-leaves c =
 
 pub returns-then-owner_is_queued-clause-leaves : goal.returns-then-owner_is_queued-clause-leaves
 returns-then-owner_is_queued-clause-leaves c =
-    of_mutex true (sym c.kind-kind.ensures ∙ c.in-Mtx.is)
+    owner_queued (sym c.kind-kind.ensures ∙ c.in-Mtx.is)
     (subst (λ b. AsksOwner c.args.floor.now.description (word_of c.args.seen) b c.args.pass.now.view
     c.owner_is_queued.new.pass.view) c.if-owner_is_queued.true c.owner_is_queued.ensures.asks)
 
 pub returns-else-owner_is_queued-clause-leaves : goal.returns-else-owner_is_queued-clause-leaves
 returns-else-owner_is_queued-clause-leaves c =
-    of_mutex false (sym c.kind-kind.ensures ∙ c.in-Mtx.is)
+    again (of_mutex (sym c.kind-kind.ensures ∙ c.in-Mtx.is)
     (subst (λ b. AsksOwner c.args.floor.now.description (word_of c.args.seen) b c.args.pass.now.view
-    c.owner_is_queued.new.pass.view) c.if-owner_is_queued.false c.owner_is_queued.ensures.asks)
+    c.owner_is_queued.new.pass.view) c.if-owner_is_queued.false c.owner_is_queued.ensures.asks))
 
 pub returns-in-Rw-clause-leaves : goal.returns-in-Rw-clause-leaves
 returns-in-Rw-clause-leaves c =
     let said = sym (ap (λ k. course k (word_of c.args.seen) c.args.mode) c.kind-kind.ensures)
     ∙ sym c.course_of.ensures in
-    of_shared (λ e. no_mutex c.kind-kind.result c.in-Rw.is (c.kind-kind.ensures ∙ e))
-    (λ e. others c.course_of.result c.in-Plainly.is (sym said ∙ e))
+    again (of_shared (λ e. no_mutex c.kind-kind.result c.in-Rw.is (c.kind-kind.ensures ∙ e))
+    (λ e. others c.course_of.result c.in-Plainly.is (sym said ∙ e)))

@@ -3,7 +3,7 @@ use Rattle.std.proofs.lemmas.Bool.{cases_lt}
 use Rattle.std.proofs.lemmas.Option.{same_Some}
 use Rattle.lock_model.specs.Words.{word_of}
 use Rattle.floor_table.specs.Views.{Knowledge}
-use Rattle.lock_calls.specs.Takes.{AsksOwner, asks, nobody}
+use Rattle.lock_calls.specs.Rounds.{AsksOwner, asks, nobody}
 use Rattle.lock_calls.proofs.spinning.owner_is_queued.Goals as goal
 
 pub returns-in-Some-clause-asks : goal.returns-in-Some-clause-asks

@@ -34,3 +34,8 @@ pub returns-in-GoOn : goal.returns-in-GoOn
 returns-in-GoOn c =
     subst (λ (r : Request). IsFirst (λ (q : Cause). Says q c.args.self.now) (causes r) c.first-in-GoOn.result)
     (sym c.in-GoOn.is) c.first-in-GoOn.ensures
+
+pub returns-in-Wait : goal.returns-in-Wait
+returns-in-Wait c =
+    subst (λ (r : Request). IsFirst (λ (q : Cause). Says q c.args.self.now) (causes r) c.first-in-Wait.result)
+    (sym c.in-Wait.is) c.first-in-Wait.ensures
