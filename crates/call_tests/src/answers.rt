@@ -13,6 +13,7 @@ const FLOOR: Parts = Parts {
     class: 9,
     channels: 1,
     keys: 0,
+    tables: 0,
     first_once_more: false,
     chains: 1,
 };

@@ -4,9 +4,9 @@ use lock_model::{ClassNo, Kind, LockNo, Prio, Sequence};
 use std::alloc::{AllocError, Global};
 
 /// What a description has: threads with these rooms, so many locks, of which the last is of this class, so many
-/// channels, all of lock 0, so many keys of lock 0, of which the first may stand once more behind the others, and so
-/// many chains. Lock 0 is a mutex, lock 1 a reader-writer lock, and all others are sx locks; a lock is of the class of
-/// its number.
+/// channels, all of lock 0, so many keys of each of so many locks, from 0 on, of which the first of lock 0 may stand
+/// once more behind the others, and so many chains. Lock 0 is a mutex, lock 1 a reader-writer lock, and all others are
+/// sx locks; a lock is of the class of its number.
 #[derive(Clone, Copy)]
 pub struct Parts {
     pub rooms: &'static [u32],
@@ -14,6 +14,7 @@ pub struct Parts {
     pub class: u8,
     pub channels: u8,
     pub keys: u64,
+    pub tables: u8,
     pub first_once_more: bool,
     pub chains: u32,
 }
@@ -71,8 +72,10 @@ fn channels(alloc: Global, parts: &Parts) -> Result<Sequence<LockNo>, AllocError
 
 fn keys(alloc: Global, parts: &Parts) -> Result<Sequence<(u8, u64)>, AllocError> {
     let mut keys = Vec::new(alloc);
-    for key in 0..parts.keys {
-        keys.push((0, key))?;
+    for l in 0..parts.tables {
+        for key in 0..parts.keys {
+            keys.push((l, key))?;
+        }
     }
     if parts.first_once_more {
         keys.push((0, 0))?;

@@ -13,6 +13,7 @@ const ONE: Parts = Parts {
     class: 0,
     channels: 0,
     keys: 0,
+    tables: 0,
     first_once_more: false,
     chains: 1,
 };
@@ -23,6 +24,7 @@ const MOST: Parts = Parts {
     class: 63,
     channels: 64,
     keys: 100,
+    tables: 1,
     first_once_more: false,
     chains: 1,
 };

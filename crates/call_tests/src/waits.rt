@@ -11,6 +11,7 @@ const FLOOR: Parts = Parts {
     class: 0,
     channels: 1,
     keys: 0,
+    tables: 0,
     first_once_more: false,
     chains: 1,
 };

@@ -1,19 +1,17 @@
 -- What a call answers: it was made, or something stands against it.
-use Rattle.std.proofs.Common.{◌≡◌, true, false, Some, None, Ok, Err, refl, sym, subst}
+use Rattle.std.proofs.Common.{◌≡◌, true, false, Option, Some, None, Ok, Err, refl, sym, subst}
 use Rattle.floor_table.specs.Views.{Knowledge}
 use Rattle.floor_table.specs.declared.description.Description.{Description}
 use Rattle.lock_floor.specs.Floors.{Floor, Pass}
-use Rattle.lock_floor.specs.Passes.{IsReady}
 use Rattle.floor_calls.proofs.Tests.{first_is_one, may_none, none_may}
 use Rattle.floor_calls.specs.Calls.{Answers, Does}
 use Rattle.floor_calls.specs.Causes.{MayCall, Says, causes}
 use Rattle.floor_calls.specs.First.{IsFirst}
-use Rattle.floor_calls.specs.Threads.{IsAt, Thread, thread_at}
+use Rattle.floor_calls.specs.Threads.{Thread, thread_at}
 use Rattle.floor_calls.specs.declared.requests.Cause.{Cause}
 use Rattle.floor_calls.specs.declared.requests.Request.{Request}
 use Rattle.floor_calls.specs.declared.stages.Next.{Next}
 use Rattle.floor_calls.specs.declared.stages.Stage.{Stage}
-use Rattle.floor_calls.specs.declared.stages.Stage.TheVariants.{AtRest}
 
 -- 1. What is answered
 
@@ -55,16 +53,9 @@ module _ (x : Thread) (f g : Floor Description) (p : Pass Knowledge) (s : Stage)
       subst (λ (y : Thread). Does request next y (thread_at f t q)) is
       (subst (λ (h : Floor Description). Does request next (thread_at h s p) (thread_at h t q)) same did)
 
--- 3. A request and what it is found to be
+-- 3. What stands against a request is what stands against that which it is found to be
 
-module _ (f : Floor Description) (s : Stage) (p : Pass Knowledge) (request named : Request) (is : request ≡ named) where
-  pub may_named : MayCall request (thread_at f s p) → MayCall named (thread_at f s p)
-  may_named may = subst (λ (r : Request). MayCall r (thread_at f s p)) is may
-
-  pub does_named : (next : Next) (t : Stage) (q : Pass Knowledge) → Does named next (thread_at f s p) (thread_at f t q)
-      → Does request next (thread_at f s p) (thread_at f t q)
-  does_named next t q did =
-      subst (λ (r : Request). Does r next (thread_at f s p) (thread_at f t q)) (sym is) did
-
-pub ready_there : (f : Floor Description) (s : Stage) (p : Pass Knowledge) → IsAt f s p → s ≡ AtRest → IsReady f p
-ready_there f s p at rest = subst (λ (z : Stage). IsAt f z p) rest at
+pub against_named : (x : Thread) {request named : Request} {found : Option Cause} → request ≡ named
+    → IsFirst (λ c. Says c x) (causes named) found → IsFirst (λ c. Says c x) (causes request) found
+against_named x {found = found} is first =
+    subst (λ (r : Request). IsFirst (λ (c : Cause). Says c x) (causes r) found) (sym is) first

@@ -1,5 +1,7 @@
 -- What is so of numbers where its contrary isn't.
-use Rattle.std.proofs.Common.{◌≡◌, ◌≢◌, ℕ, zero, suc, ◌<◌, ◌≤◌, refl, arith}
+use Rattle.std.proofs.Common.{◌≡◌, ◌≢◌, ℕ, zero, suc, ◌<◌, ◌≤◌, true, false, Option, Some, None, refl, sym, ap, ◌∙◌, arith}
+use Rattle.std.proofs.lemmas.Bool.{eq-eqb, eqb-true}
+use Rattle.std.specs.Prelude.{◌==◌}
 
 pub below : (a b : ℕ) → (a ≤ b → ⊥) → b < a
 below a b n = omega (arith, n)
@@ -9,6 +11,17 @@ at_most a b n = omega (arith, n)
 
 pub some : (a : ℕ) → (a ≡ 0 → ⊥) → 1 ≤ a
 some a n = omega (arith, n)
+
+pub is_there : (o : Option ℕ) (a : ℕ) → ((o ≡ Some a → ⊥) → ⊥) → o ≡ Some a
+is_there None a n = absurd (n (λ e. cc))
+is_there (Some b) a n =
+    elim (b == a) as (λ t. (b == a) ≡ t → Some b ≡ Some a) [
+      | true ↦ λ e. ap Some (eqb-true b a e)
+      | false ↦ λ e. absurd (n (λ is.
+          let same : b ≡ a = cc in
+          let z : true ≡ false = sym (eq-eqb b a same) ∙ e in
+          cc))
+    ] refl
 
 pub is_one : (a : ℕ) → (a ≢ 1 → ⊥) → a ≡ 1
 is_one zero n = absurd (n (λ e. cc))

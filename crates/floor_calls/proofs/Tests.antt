@@ -9,14 +9,14 @@ use Rattle.lock_model.specs.declared.plan.Kind.{Kind}
 use Rattle.lock_model.specs.declared.plan.Kind.TheVariants.{Mtx}
 use Rattle.lock_model.specs.declared.plan.Mode.{Mode}
 use Rattle.lock_model.specs.declared.plan.Mode.TheVariants.{Excl, Shared}
-use Rattle.floor_calls.proofs.Numbers.{at_most, below, some}
+use Rattle.floor_calls.proofs.Numbers.{at_most, below, is_there, some}
 use Rattle.floor_calls.proofs.Sleepable.{none_by_lock, none_of}
 use Rattle.floor_calls.specs.Causes.{Says, causes, held_by, MayCall}
 use Rattle.floor_calls.specs.First.{IsFirst, none, here, later}
 use Rattle.floor_calls.specs.Stages.{IsInCall}
 use Rattle.floor_calls.specs.Threads.{Thread}
 use Rattle.floor_calls.specs.declared.requests.Request.{Request}
-use Rattle.floor_calls.specs.declared.requests.Request.TheVariants.{Take, Try, Release, WakeUp, Wait, End, GoOn}
+use Rattle.floor_calls.specs.declared.requests.Request.TheVariants.{Take, Try, Release, Edit, Read, SetBase, Show, WakeUp, Wait, End, GoOn}
 use Rattle.floor_calls.specs.declared.stages.Stage.{Stage}
 use Rattle.floor_calls.specs.declared.stages.Stage.TheVariants as stages
 
@@ -131,6 +131,12 @@ none_may (Release l mode) x (later e (later c (later nl (later m (later h (later
     room = some _ s;
   },
 )
+none_may (Edit cell change) x (later e (later c (later nc (later h (later s none))))) =
+    (at_rest x.stage e c, record { of_floor = is_there _ _ nc; held = is_held _ Excl h; room = some _ s })
+none_may (Read cell) x (later e (later c (later nc (later u (later s none))))) =
+    (at_rest x.stage e c, record { of_floor = is_there _ _ nc; held = u; room = some _ s })
+none_may (SetBase prio) x (later e (later c (later s none))) = (at_rest x.stage e c, some _ s)
+none_may Show x (later e (later c (later s none))) = (at_rest x.stage e c, some _ s)
 none_may (WakeUp d all) x (later e (later c (later nc (later s none)))) =
     (at_rest x.stage e c, record { chan = below _ _ nc; room = some _ s })
 none_may (Wait d) x (later e (later c (later nc (later nl (later o (later h (later s none))))))) = (
@@ -169,6 +175,20 @@ may_none (Release l mode) x m =
     (later (λ s. let e : Excl ≡ Shared = sym (m.1.covered.mutex s.1) ∙ s.2 in cc)
     (later (λ h. h m.1.held)
     (later (λ s. omega (arith, s, m.1.room)) none)))))
+may_none (Edit cell change) x m =
+    later (unended x m.0) (later (idle x m.0)
+    (later (λ nc. nc m.1.of_floor)
+    (later (λ h. h m.1.held)
+    (later (λ s. omega (arith, s, m.1.room)) none))))
+may_none (Read cell) x m =
+    later (unended x m.0) (later (idle x m.0)
+    (later (λ nc. nc m.1.of_floor)
+    (later m.1.held
+    (later (λ s. omega (arith, s, m.1.room)) none))))
+may_none (SetBase prio) x m =
+    later (unended x m.0) (later (idle x m.0) (later (λ s. omega (arith, s, m.1)) none))
+may_none Show x m =
+    later (unended x m.0) (later (idle x m.0) (later (λ s. omega (arith, s, m.1)) none))
 may_none (WakeUp d all) x m =
     later (unended x m.0) (later (idle x m.0)
     (later (λ nc. omega (arith, nc, m.1.chan))

@@ -6,6 +6,7 @@ use Rattle.cond_vars.specs.declared.parts.WaitAt.{WaitAt}
 use Rattle.cond_vars.specs.declared.parts.WaitAt.TheVariants as waiting
 use Rattle.cond_vars.specs.declared.parts.WaitNext.{WaitNext}
 use Rattle.cond_vars.specs.declared.waking.WakeNext.{WakeNext}
+use Rattle.floor_table.specs.Steps.{MakesEach}
 use Rattle.floor_table.specs.Views.{Knowledge, seeing}
 use Rattle.floor_table.specs.declared.description.Description.{Description}
 use Rattle.halting.specs.Ends.{GoesOnEnding}
@@ -19,27 +20,34 @@ use Rattle.lock_calls.specs.declared.answers.Next.{Next as PartNext}
 use Rattle.lock_calls.specs.declared.answers.ReleaseNext.{ReleaseNext}
 use Rattle.lock_calls.specs.declared.answers.TakeNext.{TakeNext}
 use Rattle.lock_calls.specs.declared.trying.TryNext.{TryNext}
+use Rattle.lock_floor.specs.Changes.{event_of}
 use Rattle.lock_floor.specs.Floors.{Pass}
 use Rattle.lock_floor.specs.Latches.{FindsOut}
+use Rattle.lock_floor.specs.Passes.{MakesEntry, with_item}
 use Rattle.lock_floor.specs.Waits.{its_chain}
 use Rattle.lock_floor.specs.declared.calls.Call.TheVariants as calls
 use Rattle.lock_floor.specs.declared.calls.ReleaseAt.{ReleaseAt}
 use Rattle.lock_floor.specs.declared.calls.TakeAt.{TakeAt}
 use Rattle.lock_floor.specs.declared.calls.TryAt.{TryAt}
+use Rattle.lock_floor.specs.declared.latches.Out.{Out as WasOut}
 use Rattle.lock_model.specs.Queues.{chan_queue}
+use Rattle.lock_model.specs.declared.event.Event.{Event}
+use Rattle.lock_model.specs.declared.event.Event.TheVariants.{Got, Base, Shown as HasShown}
 use Rattle.lock_model.specs.declared.numbers.ChanNo.{ChanNo}
 use Rattle.lock_model.specs.declared.numbers.LockNo.{LockNo}
+use Rattle.lock_model.specs.declared.numbers.Prio.{Prio}
 use Rattle.lock_model.specs.declared.plan.Mode.{Mode}
+use Rattle.lock_state.specs.Steps.Items.{Item, RecordOf, CellOf}
 use Rattle.floor_calls.specs.Causes.{MayCall, Says, causes}
 use Rattle.floor_calls.specs.First.{IsFirst}
-use Rattle.floor_calls.specs.Stages.{stage_behind, stage_of_begun, stage_of_end, stage_of_giving_up, stage_of_taking_back, stage_of_wait, stage_of_wake, told, told_of_end, told_of_giving_up, told_of_taking_back, told_of_try, told_of_wait, told_of_wake}
+use Rattle.floor_calls.specs.Stages.{stage_behind, stage_of_begun, stage_of_end, stage_of_giving_up, stage_of_taking_back, stage_of_wait, stage_of_wake, told, told_at_once, told_of_end, told_of_giving_up, told_of_taking_back, told_of_try, told_of_wait, told_of_wake}
 use Rattle.floor_calls.specs.Threads.{Thread}
 use Rattle.floor_calls.specs.Waits.{HoldsIts}
 use Rattle.floor_calls.specs.declared.requests.Cause.{Cause}
 use Rattle.floor_calls.specs.declared.requests.Request.{Request}
-use Rattle.floor_calls.specs.declared.requests.Request.TheVariants.{Take, Try, Release, WakeUp, Wait, End, GoOn}
+use Rattle.floor_calls.specs.declared.requests.Request.TheVariants.{Take, Try, Release, Edit, Read, SetBase, Show, WakeUp, Wait, End, GoOn}
 use Rattle.floor_calls.specs.declared.stages.Next.{Next}
-use Rattle.floor_calls.specs.declared.stages.Next.TheVariants.{Again}
+use Rattle.floor_calls.specs.declared.stages.Next.TheVariants.{Done, Again, Found, Shown}
 use Rattle.floor_calls.specs.declared.stages.Stage.{Stage}
 use Rattle.floor_calls.specs.declared.stages.Stage.TheVariants.{AtRest, Takes, Tries, Releases, ComesToWake, Wakes, Waits, ComesToGiveUp, GivesUp, TakesBack, Ends, Ended}
 use Rattle.floor_calls.specs.declared.waits.WaitOn.{WaitOn}
@@ -68,13 +76,16 @@ abbrev pub MakesTryPart : (TryNext → Pass Knowledge → Pass Knowledge → Typ
 MakesTryPart Did next stage p q =
     Makes TryNext told_of_try (λ part. stage_behind Tries (told_of_try part)) Did next stage p q
 
+-- the item was found out, and no step was made
+abbrev pub MissesItem : Description → Item → Pass Knowledge → Pass Knowledge → Type 0
+MissesItem floor i p q =
+    (q.view ≡ seeing q.view.seen p.view) × FindsOut floor i p.view q.view
+
 -- a wake began, and took off those whose bits it tells; or it found the channel's chain out
 abbrev pub HasBegunWake : Description → ChanNo → Bool → Option ℕ → Pass Knowledge → Pass Knowledge
     → Type 0
 HasBegunWake floor c all (Some woken) p q = HasTakenOff floor c all woken p.view q.view
-HasBegunWake floor c all None p q =
-    (q.view ≡ seeing q.view.seen p.view)
-    × FindsOut floor (its_chain floor (chan_queue c.0)) p.view q.view
+HasBegunWake floor c all None p q = MissesItem floor (its_chain floor (chan_queue c.0)) p q
 
 -- so the begin of a wake
 abbrev pub MakesWakePart : Description → ChanNo → Bool → Next → Stage → Pass Knowledge
@@ -103,6 +114,21 @@ abbrev pub MakesEndPart : Description → EndAt → Next → Stage → Pass Know
     → Type 0
 MakesEndPart floor at next stage p q =
     Makes EndNext told_of_end stage_of_end (λ part r s. GoesOnEnding floor at part r.view s.view)
+    next stage p q
+
+-- about an item an entry was made, whose event follows from what was found; or the item was found out
+abbrev pub EntersAbout : {A : Type 0} → Description → Item → (A → Event) → Result A WasOut
+    → Pass Knowledge → Pass Knowledge → Type 0
+EntersAbout floor i event (Ok found) p q =
+    MakesEntry floor (event found) p.view.share.held p.view q.view
+    × MakesEach floor (with_item p.view.thread i (event found)) p.view q.view
+EntersAbout floor i event (Err out) p q = MissesItem floor i p q
+
+-- so a call that is made at once, and tells what was found: its thread is at rest behind it
+abbrev pub MakesAtOnce : (A : Type 0) → Description → Item → (A → Event) → (A → Next) → Next → Stage
+    → Pass Knowledge → Pass Knowledge → Type 0
+MakesAtOnce A floor i event tell next stage p q =
+    Makes (Result A WasOut) (told_at_once tell) (λ part. AtRest) (EntersAbout floor i event)
     next stage p q
 
 -- the take that a pass was in the middle of went on so
@@ -156,6 +182,18 @@ Does (Try l mode) next x y =
     MakesTryPart (HasBegunTry x.floor.description l mode) next y.stage x.pass y.pass
 Does (Release l mode) next x y =
     MakesPart Releases (HasBegunRelease x.floor.description l mode) next y.stage x.pass y.pass
+Does (Edit cell change) next x y =
+    MakesAtOnce Unit x.floor.description (CellOf cell.l.0 cell.key)
+    (λ done. event_of cell.l cell.key change) (λ done. Done) next y.stage x.pass y.pass
+Does (Read cell) next x y =
+    MakesAtOnce (Option ℕ) x.floor.description (CellOf cell.l.0 cell.key)
+    (λ found. Got cell.l cell.key found) (λ found. Found found) next y.stage x.pass y.pass
+Does (SetBase prio) next x y =
+    MakesAtOnce Unit x.floor.description (RecordOf x.pass.view.thread)
+    (λ done. Base prio) (λ done. Done) next y.stage x.pass y.pass
+Does Show next x y =
+    MakesAtOnce (Prio × Prio) x.floor.description (RecordOf x.pass.view.thread)
+    (λ prios. HasShown prios.0 prios.1) (λ prios. Shown prios.0 prios.1) next y.stage x.pass y.pass
 Does (WakeUp c all) next x y =
     MakesWakePart x.floor.description c all next y.stage x.pass y.pass
 Does (Wait c) next x y = BeginsWait x.floor.description c next y.stage x.pass y.pass

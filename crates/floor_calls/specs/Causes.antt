@@ -9,17 +9,21 @@ use Rattle.lock_model.specs.declared.event.Held.{Held as HeldLock}
 use Rattle.lock_model.specs.declared.numbers.LockNo.{LockNo}
 use Rattle.lock_model.specs.declared.plan.Kind.TheVariants.{Mtx, Sx}
 use Rattle.lock_model.specs.declared.plan.Mode.{Mode}
-use Rattle.lock_model.specs.declared.plan.Mode.TheVariants.{Shared}
+use Rattle.lock_model.specs.declared.plan.Mode.TheVariants.{Excl, Shared}
 use Rattle.cond_vars.specs.Waits.{MayWait, lock_of}
 use Rattle.cond_vars.specs.Wakes.{MayWakeUp}
 use Rattle.floor_table.specs.Descriptions.{config_in}
+use Rattle.floor_table.specs.Views.{Knowledge}
+use Rattle.floor_table.specs.declared.description.Description.{Description}
 use Rattle.lock_calls.specs.Steps.{MayTake, MayRelease}
+use Rattle.lock_floor.specs.Cells.{IsCellOf}
+use Rattle.lock_floor.specs.declared.tables.TableCell.{TableCell}
 use Rattle.floor_calls.specs.Stages.{IsInCall}
 use Rattle.floor_calls.specs.Threads.{Thread}
 use Rattle.floor_calls.specs.declared.requests.Cause.{Cause}
-use Rattle.floor_calls.specs.declared.requests.Cause.TheVariants.{Ended, InCall, AtRest, NoLock, NoMode, NoChan, Held, HoldsUnsleepable, NotLast, HoldsOthers, NotHeld, HoldsMost, HoldsMore, HoldsSome, Spent, Short}
+use Rattle.floor_calls.specs.declared.requests.Cause.TheVariants.{Ended, InCall, AtRest, NoLock, NoMode, NoChan, NoCell, Held, HoldsUnsleepable, NotLast, HoldsOthers, NotHeld, Unheld, HoldsMost, HoldsMore, HoldsSome, Spent, Short}
 use Rattle.floor_calls.specs.declared.requests.Request.{Request}
-use Rattle.floor_calls.specs.declared.requests.Request.TheVariants.{Take, Try, Release, WakeUp, Wait, End, GoOn}
+use Rattle.floor_calls.specs.declared.requests.Request.TheVariants.{Take, Try, Release, Edit, Read, SetBase, Show, WakeUp, Wait, End, GoOn}
 use Rattle.floor_calls.specs.declared.stages.Stage.TheVariants as stages
 
 -- the locks that a thread holds
@@ -49,12 +53,14 @@ Says (NoMode l mode) x =
     (l.0 < length x.floor.description.locks) × ((config_in x.floor.description).kind l.0 ≡ Mtx)
     × (mode ≡ Shared)
 Says (NoChan c) x = length x.floor.description.chans ≤ c.0
+Says (NoCell cell) x = IsCellOf x.floor.description cell → ⊥
 Says (Held l) x = (mode : Mode) × (hold_in (held_by x) l.0 ≡ Holds mode)
 Says (HoldsUnsleepable l) x =
     ((config_in x.floor.description).kind l.0 ≡ Sx) × HoldsMutexOrRw x
 Says (NotLast c) x = is_last (lock_of x.floor.description c.0) (held_by x) ≡ false
 Says (HoldsOthers c) x = HoldsOtherThan (lock_of x.floor.description c.0) x
 Says (NotHeld l mode) x = hold_in (held_by x) l.0 ≢ Holds mode
+Says (Unheld l) x = hold_in (held_by x) l.0 ≡ NotHeld
 Says HoldsMost x = most_held ≤ length (held_by x)
 Says HoldsMore x = most_held < length (held_by x)
 Says HoldsSome x = held_by x ≢ []
@@ -71,6 +77,11 @@ causes (Try l mode) =
     ∷ Spent ∷ []
 causes (Release l mode) =
     Ended ∷ InCall ∷ NoLock l ∷ NoMode l mode ∷ NotHeld l mode ∷ Spent ∷ []
+causes (Edit cell change) =
+    Ended ∷ InCall ∷ NoCell cell ∷ NotHeld cell.l Excl ∷ Spent ∷ []
+causes (Read cell) = Ended ∷ InCall ∷ NoCell cell ∷ Unheld cell.l ∷ Spent ∷ []
+causes (SetBase prio) = Ended ∷ InCall ∷ Spent ∷ []
+causes Show = Ended ∷ InCall ∷ Spent ∷ []
 causes (WakeUp c all) = Ended ∷ InCall ∷ NoChan c ∷ Spent ∷ []
 causes (Wait c) =
     Ended ∷ InCall ∷ NoChan c ∷ NotLast c ∷ HoldsOthers c ∷ HoldsMore ∷ Short ∷ []
@@ -87,8 +98,21 @@ MaySleepFor x l =
     → is_turnstile ((config_in x.floor.description).kind k) ≡ true
     → hold_in (held_by x) k ≡ NotHeld
 
--- The crate of a lock's call says what it needs beside a thread at rest; an end needs that the thread holds nothing;
--- and a call is gone on with in its middle
+-- a thread may edit a cell: that is one of the floor's, and the thread holds its lock exclusively, and has room for an
+-- entry
+pub record MayEdit (floor : Description) (cell : TableCell) (v : Knowledge) : Type 0 where
+  pub of_floor : IsCellOf floor cell
+  pub held : hold_in v.share.held cell.l.0 ≡ Holds Excl
+  pub room : 1 ≤ v.spare
+
+-- it may read it: it holds its lock, in either mode
+pub record MayRead (floor : Description) (cell : TableCell) (v : Knowledge) : Type 0 where
+  pub of_floor : IsCellOf floor cell
+  pub held : hold_in v.share.held cell.l.0 ≢ NotHeld
+  pub room : 1 ≤ v.spare
+
+-- The crate of a lock's call says what it needs beside a thread at rest; a call about priorities needs room for an
+-- entry; an end needs that the thread holds nothing; and a call is gone on with in its middle
 abbrev pub MayCall : Request → Thread → Type 0
 MayCall (Take l mode) x =
     (x.stage ≡ stages.AtRest) × MayTake x.floor.description l.0 mode x.pass.view × MaySleepFor x l
@@ -96,6 +120,12 @@ MayCall (Try l mode) x =
     (x.stage ≡ stages.AtRest) × MayTake x.floor.description l.0 mode x.pass.view × MaySleepFor x l
 MayCall (Release l mode) x =
     (x.stage ≡ stages.AtRest) × MayRelease x.floor.description l.0 mode x.pass.view
+MayCall (Edit cell change) x =
+    (x.stage ≡ stages.AtRest) × MayEdit x.floor.description cell x.pass.view
+MayCall (Read cell) x =
+    (x.stage ≡ stages.AtRest) × MayRead x.floor.description cell x.pass.view
+MayCall (SetBase prio) x = (x.stage ≡ stages.AtRest) × (1 ≤ x.pass.view.spare)
+MayCall Show x = (x.stage ≡ stages.AtRest) × (1 ≤ x.pass.view.spare)
 MayCall (WakeUp c all) x =
     (x.stage ≡ stages.AtRest) × MayWakeUp x.floor.description c.0 x.pass.view
 MayCall (Wait c) x =

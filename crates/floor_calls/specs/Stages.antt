@@ -1,6 +1,6 @@
 -- How a thread's stage follows from what a call answered, and how this crate's answers tell those of the parts of
 -- calls.
-use Rattle.std.specs.Prelude.{Bool, ℕ, Option, Some, None}
+use Rattle.std.specs.Prelude.{Bool, ℕ, Option, Some, None, Result, Ok, Err}
 use Rattle.cond_vars.specs.declared.parts.WaitAt.TheVariants as waiting
 use Rattle.cond_vars.specs.declared.parts.WaitNext.{WaitNext}
 use Rattle.cond_vars.specs.declared.parts.WaitNext.TheVariants as wait
@@ -19,9 +19,10 @@ use Rattle.lock_calls.specs.declared.trying.TryNext.{TryNext}
 use Rattle.lock_calls.specs.declared.trying.TryNext.TheVariants as try
 use Rattle.lock_floor.specs.declared.calls.ReleaseAt.TheVariants as release
 use Rattle.lock_floor.specs.declared.calls.TakeAt.TheVariants as take
+use Rattle.lock_floor.specs.declared.latches.Out.{Out as WasOut}
 use Rattle.lock_model.specs.declared.numbers.ChanNo.{ChanNo}
 use Rattle.floor_calls.specs.declared.stages.Next.{Next}
-use Rattle.floor_calls.specs.declared.stages.Next.TheVariants.{Done, Again, Sleep, Wake, Busy, Reversed, Halted}
+use Rattle.floor_calls.specs.declared.stages.Next.TheVariants.{Done, Found, Shown, Again, Out, Sleep, Wake, Busy, Reversed, Halted}
 use Rattle.floor_calls.specs.declared.stages.Stage.{Stage}
 use Rattle.floor_calls.specs.declared.stages.Stage.TheVariants.{AtRest, Takes, Tries, Releases, ComesToWake, Wakes, Waits, ComesToGiveUp, GivesUp, TakesBack, Ends, Ended}
 use Rattle.floor_calls.specs.declared.waits.WaitOn.{WaitOn}
@@ -44,7 +45,10 @@ IsInCall Ended = ⊥
 -- the stage behind a part of a lock's call: the same, unless the call is done
 abbrev pub stage_behind : Stage → Next → Stage
 stage_behind on Done = AtRest
+stage_behind on (Found value) = AtRest
+stage_behind on (Shown base effective) = AtRest
 stage_behind on Again = on
+stage_behind on Out = AtRest
 stage_behind on Sleep = on
 stage_behind on (Wake t) = on
 stage_behind on (Busy seen) = AtRest
@@ -105,6 +109,11 @@ abbrev pub told_of_try : TryNext → Next
 told_of_try try.Gained = Done
 told_of_try (try.Busy seen) = Busy seen
 told_of_try try.Again = Again
+
+-- of a call that is made at once: what was found, unless what it needs was out
+abbrev pub told_at_once : {A : Type 0} → (A → Next) → Result A WasOut → Next
+told_at_once tell (Ok found) = tell found
+told_at_once tell (Err out) = Out
 
 -- of a wake
 abbrev pub told_of_wake : WakeNext → Next

@@ -1,4 +1,5 @@
--- What is so of a thread in the middle of a wait: of the lock of the wait, and while it gives that up and takes it back.
+-- What is so of a thread in the middle of a wait: of the lock of the wait, and while it gives that up and takes it
+-- back.
 use Rattle.std.specs.Prelude.{◌≡◌, ◌≢◌, ◌<◌, Bool, length}
 use Rattle.cond_vars.specs.Parts.{IsToRelease, IsToTakeBack}
 use Rattle.cond_vars.specs.Waits.{lock_of}

@@ -6,7 +6,8 @@ use crate::parts::make;
 use crate::requests::{Cause, Request};
 use crate::stages::Next;
 use crate::thread::Thread;
-use lock_model::{ChanNo, LockNo, Mode};
+use lock_floor::{Change, TableCell};
+use lock_model::{ChanNo, LockNo, Mode, Prio};
 
 impl Thread {
     /// Makes the call that is asked for: `Ok` comes exactly where nothing stands against it, and says what its caller
@@ -50,6 +51,41 @@ impl Thread {
         self.ask(Request::Release { l, mode })
     }
 
+    /// Changes the value of a cell of a lock's table, as `try_edit` of `lock_floor`, at once: `Done`, or `Out` where
+    /// another thread had the value out, and then nothing is changed. `Ok` comes exactly where the thread is in the
+    /// middle of no call and hasn't ended, the floor has that cell, the thread holds its lock exclusively, and its log
+    /// has room for an entry.
+    pub fn edit(&mut self, cell: TableCell, change: Change) -> Result<Next, Cause>
+        ensures { Answers (request.Edit cell change) result self.old self.new }
+    {
+        self.ask(Request::Edit { cell, change })
+    }
+
+    /// Reads the value of a cell of a lock's table, as `try_read` of `lock_floor`, at once: `Found`, or `Out` as for an
+    /// edit. `Ok` comes exactly where it does of an edit, but that the thread holds the lock in either mode.
+    pub fn read(&mut self, cell: TableCell) -> Result<Next, Cause>
+        ensures { Answers (request.Read cell) result self.old self.new }
+    {
+        self.ask(Request::Read { cell })
+    }
+
+    /// Sets the thread's base priority, as `try_set_base` of `lock_floor`, at once: `Done`, or `Out` where another
+    /// thread had its record out, and then nothing is changed. `Ok` comes exactly where the thread is in the middle of
+    /// no call and hasn't ended, and its log has room for an entry.
+    pub fn set_base(&mut self, prio: Prio) -> Result<Next, Cause>
+        ensures { Answers (request.SetBase prio) result self.old self.new }
+    {
+        self.ask(Request::SetBase { prio })
+    }
+
+    /// Shows the thread's base and its effective priority, as `try_show` of `lock_floor`, at once: `Shown`, or `Out` as
+    /// for a new base. `Ok` comes exactly where it does of a new base.
+    pub fn show(&mut self) -> Result<Next, Cause>
+        ensures { Answers request.Show result self.old self.new }
+    {
+        self.ask(Request::Show)
+    }
+
     /// Begins a wake of a condition variable or channel, of its most important sleeper or of all, as `begin_wakeup` of
     /// `cond_vars`. Each who is woken is told by a `Wake`. `Ok` comes exactly where the thread is in the middle of no
     /// call and hasn't ended, the floor has that condition variable or channel, and its log has room for an entry.
@@ -59,12 +95,12 @@ impl Thread {
         self.ask(Request::WakeUp { c, all })
     }
 
-    /// Begins a wait on a condition variable or channel, as `go_on_waiting` of `cond_vars`: it gives its lock up, sleeps
-    /// until another thread wakes it, and takes the lock back in the mode in which it held it. `Halted` comes where an
-    /// abort ended its sleep; the lock is held again then too. `Ok` comes exactly where the thread is in the middle of
-    /// no call and hasn't ended, the floor has that condition variable or channel, whose lock the thread gained last,
-    /// and not by a try, it holds no other mutex or reader-writer lock and at most 8 locks, and its log has room for
-    /// two entries.
+    /// Begins a wait on a condition variable or channel, as `go_on_waiting` of `cond_vars`: it gives its lock up,
+    /// sleeps until another thread wakes it, and takes the lock back in the mode in which it held it. `Halted` comes
+    /// where an abort ended its sleep; the lock is held again then too. `Ok` comes exactly where the thread is in the
+    /// middle of no call and hasn't ended, the floor has that condition variable or channel, whose lock the thread
+    /// gained last, and not by a try, it holds no other mutex or reader-writer lock and at most 8 locks, and its log
+    /// has room for two entries.
     pub fn begin_wait(&mut self, c: ChanNo) -> Result<Next, Cause>
         ensures { Answers (request.Wait c) result self.old self.new }
     {

@@ -2,8 +2,9 @@
 //! its caller. A runtime or a kernel of one's own drives them; no call waits, and none takes memory.
 //!
 //! A `Thread` owns all that its calls need: its share of the floor, its pass there, and at which stage it is. A call is
-//! begun, and then gone on with until it is done; each answers what its caller is to do next (`Next`). Where a call may
-//! not be made, it answers why not (`Cause`), exactly where that is so, and everything is as it was.
+//! begun, and then gone on with until it is done; an edit or a read of a lock's table, or a call about priorities, is
+//! made at once. Each answers what its caller is to do next (`Next`). Where a call may not be made, it answers why not
+//! (`Cause`), exactly where that is so, and everything is as it was.
 //!
 //! - `unfit`: for which descriptions a floor can be opened, and why not for others.
 //! - `opening`: how a floor is opened, with its threads, and closed. Opening alone takes memory; of `gather` its caller
@@ -13,9 +14,10 @@
 //! - `requests`: what a caller can ask for, and what may stand against it.
 //! - `thread`: a thread, and what stands against a call of it.
 //! - `calls`: its calls, and `parts`: the parts of locks' calls, of wakes and of the thread's end, over which they
-//!   stand; and `waits`: those of waits.
+//!   stand; `waits`: those of waits; and `at_once`: the calls that have no parts.
 #![tactic(auto)]
 
+mod at_once;
 mod calls;
 mod opening;
 mod parts;
@@ -26,6 +28,7 @@ mod thread;
 mod unfit;
 mod waits;
 
+pub use lock_floor::{Change, TableCell};
 pub use opening::{NotClosed, NotOpened, OpenFloor};
 pub use requests::{Cause, Request};
 pub use stages::{Next, Stage};

@@ -12,6 +12,7 @@ ghost use Rattle.lock_calls.specs.Takes.{HasBegunTake};
 ghost use Rattle.lock_calls.specs.Tries.{HasBegunTry};
 ghost use Rattle.lock_floor.specs.Passes.{IsReady};
 
+use crate::at_once::{edit, read, set_base, show};
 use crate::requests::Request;
 use crate::stages::{Next, Stage, stage_behind, told, told_of_try};
 use crate::waits::{come_to_give_up, give_up, go_on_in_wait, take_back, wait};
@@ -36,6 +37,10 @@ pub(crate) fn make(floor: &Floor, pass: &mut Pass, stage: Stage, request: Reques
         Request::Take { l, mode } => take(floor, pass, l, mode),
         Request::Try { l, mode } => attempt(floor, pass, l, mode),
         Request::Release { l, mode } => release(floor, pass, l, mode),
+        Request::Edit { cell, change } => edit(floor, pass, cell, change),
+        Request::Read { cell } => read(floor, pass, cell),
+        Request::SetBase { prio } => set_base(floor, pass, prio),
+        Request::Show => show(floor, pass),
         Request::WakeUp { c, all } => wake_up(floor, pass, c, all),
         Request::Wait { c } => wait(floor, pass, c),
         Request::End => end(floor, pass, EndAt::Takes),

@@ -1,6 +1,7 @@
 //! What a caller can ask of a thread, and what may stand against it.
 
-use lock_model::{ChanNo, LockNo, Mode};
+use lock_floor::{Change, TableCell};
+use lock_model::{ChanNo, LockNo, Mode, Prio};
 
 /// What a caller asks of a thread.
 #[derive(Clone, Copy, Debug, PartialEq, Eq)]
@@ -11,6 +12,14 @@ pub enum Request {
     Try { l: LockNo, mode: Mode },
     /// To begin a release of a lock that is held in a mode.
     Release { l: LockNo, mode: Mode },
+    /// To change the value of a cell of the table of a lock that is held exclusively.
+    Edit { cell: TableCell, change: Change },
+    /// To read the value of a cell of the table of a lock that is held.
+    Read { cell: TableCell },
+    /// To set the thread's base priority.
+    SetBase { prio: Prio },
+    /// To show its base and its effective priority.
+    Show,
     /// To begin a wake of a condition variable or channel: of its most important sleeper, or of all.
     WakeUp { c: ChanNo, all: bool },
     /// To begin a wait on a condition variable or channel, with its lock, which the thread gained last.
@@ -36,6 +45,8 @@ pub enum Cause {
     NoMode(LockNo, Mode),
     /// The floor has no such condition variable or channel.
     NoChan(ChanNo),
+    /// The floor has no such cell: that was found on another floor.
+    NoCell(TableCell),
     /// The thread holds the lock already.
     Held(LockNo),
     /// The lock is an sx lock, and the thread holds a mutex or a reader-writer lock, over which it may not sleep.
@@ -47,6 +58,8 @@ pub enum Cause {
     HoldsOthers(ChanNo),
     /// It doesn't hold the lock in that mode.
     NotHeld(LockNo, Mode),
+    /// It doesn't hold the lock, in neither mode.
+    Unheld(LockNo),
     /// It holds as many locks as a thread may.
     HoldsMost,
     /// It holds more locks than a thread may. No calls bring that about.

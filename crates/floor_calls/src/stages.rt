@@ -7,7 +7,7 @@ use cond_vars::WaitAt;
 use halting::EndAt;
 use lock_calls::TryNext;
 use lock_floor::{ReleaseAt, TakeAt};
-use lock_model::{ChanNo, Reversal, ThreadNo};
+use lock_model::{ChanNo, Prio, Reversal, ThreadNo};
 
 /// At which stage a thread is between two calls.
 #[derive(Clone, Copy, Debug, PartialEq, Eq)]
@@ -56,8 +56,14 @@ pub enum Stage {
 pub enum Next {
     /// Nothing: the call is done.
     Done,
+    /// Nothing: the read is done, and found that value, or none where the key is absent.
+    Found(Option<u64>),
+    /// Nothing: these are the thread's base and its effective priority.
+    Shown { base: Prio, eff: Prio },
     /// Go on with the call, maybe after a pause.
     Again,
+    /// Ask the same again, maybe after a pause: another thread had out what the call needs, and so it made nothing.
+    Out,
     /// Sleep until the thread is woken, or for a while, and then go on with the call.
     Sleep,
     /// End the sleep of that thread, which was woken, and then go on with the call.
@@ -95,7 +101,13 @@ pub(crate) fn stage_behind(on: Stage, next: Next) -> Stage
 {
     match next {
         Next::Again | Next::Sleep | Next::Wake(_) => on,
-        Next::Done | Next::Busy(_) | Next::Reversed(_) | Next::Halted => Stage::AtRest,
+        Next::Done
+        | Next::Found(_)
+        | Next::Shown { .. }
+        | Next::Out
+        | Next::Busy(_)
+        | Next::Reversed(_)
+        | Next::Halted => Stage::AtRest,
     }
 }
 

@@ -1,6 +1,8 @@
 //! A thread of a floor, as its caller has it, and what stands against a call of it.
-ghost use Rattle.std.specs.Prelude.{◌≡◌, ◌↔◌, ◌<◌, true, IsTrue, length};
+ghost use Rattle.std.specs.Prelude.{◌≡◌, ◌↔◌, ◌<◌, true, IfNone, IfSome, IsTrue, length};
 ghost use Rattle.std.specs.Arc.{arc_value};
+ghost use Rattle.std.specs.List.{Contains};
+ghost use Rattle.lock_floor.specs.Cells.{IsCellAt, IsCellOf};
 ghost use Rattle.lock_floor.specs.Passes.{IsFinished, IsReady};
 ghost use Rattle.lock_model.specs.Holds.{Holds};
 ghost use Rattle.lock_model.specs.Operations.{hold_in, is_last};
@@ -18,7 +20,7 @@ ghost use Rattle.floor_calls.specs.Openings.{thread_at_rest};
 use crate::requests::{Cause, Request};
 use crate::shared::Shared;
 use crate::stages::{Stage, is_in_call};
-use lock_floor::Pass;
+use lock_floor::{Pass, TableCell};
 use lock_model::limits::HELD;
 use lock_model::{ChanNo, Held, Kind, LockNo, Mode, ThreadNo};
 use std::alloc::Global;
@@ -115,6 +117,16 @@ impl Thread {
         self.shared.floor.is_queued(self.pass.thread())
     }
 
+    /// The cell at a key of a lock's table, for edits and reads. `None` comes exactly where the floor has no such key.
+    pub fn find_cell(&self, l: LockNo, key: u64) -> Option<TableCell>
+        ensures some { IfSome result
+            (λ cell. IsCellAt self.now.floor.description l key cell) }
+        ensures none { IfNone result
+            (Contains self.now.floor.description.keys (l.0, key) → ⊥) }
+    {
+        self.shared.floor.find_cell(l, key)
+    }
+
     /// What stands against a call: of all that may, the first that is so. `None` comes exactly where the call may be
     /// made.
     pub fn against(&self, request: Request) -> Option<Cause>
@@ -131,6 +143,24 @@ impl Thread {
                 Cause::NotHeld(l, mode),
                 Cause::Spent,
             ]),
+            Request::Edit { cell, change: _ } => self.first(&[
+                Cause::Ended,
+                Cause::InCall,
+                Cause::NoCell(cell),
+                Cause::NotHeld(cell.l, Mode::Excl),
+                Cause::Spent,
+            ]),
+            Request::Read { cell } => self.first(&[
+                Cause::Ended,
+                Cause::InCall,
+                Cause::NoCell(cell),
+                Cause::Unheld(cell.l),
+                Cause::Spent,
+            ]),
+            Request::SetBase { prio: _ } => {
+                self.first(&[Cause::Ended, Cause::InCall, Cause::Spent])
+            }
+            Request::Show => self.first(&[Cause::Ended, Cause::InCall, Cause::Spent]),
             Request::WakeUp { c, all: _ } => self.first(&[
                 Cause::Ended,
                 Cause::InCall,
@@ -193,11 +223,13 @@ impl Thread {
             Cause::NoLock(l) => !self.has_lock(l),
             Cause::NoMode(l, mode) => self.has_no_mode(l, mode),
             Cause::NoChan(c) => usize::from(c.0) >= self.shared.chans.len(),
+            Cause::NoCell(cell) => !self.has_cell(cell),
             Cause::Held(l) => self.pass.mode(l).is_some(),
             Cause::HoldsUnsleepable(l) => is_sx(self.kind(l)) && self.holds_mutex_or_rw(),
             Cause::NotLast(c) => !is_last(self.pass.held(), self.lock_of(c)),
             Cause::HoldsOthers(c) => self.holds_others(self.lock_of(c)),
             Cause::NotHeld(l, mode) => !self.holds(l, mode),
+            Cause::Unheld(l) => self.pass.mode(l).is_none(),
             Cause::HoldsMost => self.pass.held().len() >= HELD,
             Cause::HoldsMore => self.pass.held().len() > HELD,
             Cause::HoldsSome => !self.pass.held().is_empty(),
@@ -231,6 +263,13 @@ impl Thread {
         ensures { IsTrue result ↔ (l.0 < length self.now.floor.description.locks) }
     {
         usize::from(l.0) < self.shared.locks
+    }
+
+    // Whether the cell is one of the floor's.
+    fn has_cell(&self, cell: TableCell) -> bool
+        ensures { IsTrue result ↔ IsCellOf self.now.floor.description cell }
+    {
+        self.shared.floor.has_cell(cell)
     }
 
     // Whether the floor has that lock, and it has no such mode.

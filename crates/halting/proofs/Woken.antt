@@ -389,6 +389,10 @@ module _ (floor : Description) (over : ℕ) (itself : Bool) (v : Knowledge) (h :
   its : t ≡ off.mark.thread
   its = is_the_one floor over itself v h has off t some
 
+  pub told_may_take : MayMake floor v (λ s. s.record_with t ≡ None) (TakesItem v.thread (RecordOf t) ∷ [])
+  told_may_take = subst (λ n. MayMake floor v (λ s. s.record_with n ≡ None) (TakesItem v.thread (RecordOf n) ∷ []))
+      (sym its) (may_take_it floor over itself v h has off)
+
   pub told_stays : (new : Knowledge) → new ≡ seeing new.seen v → FindsOut floor (RecordOf t) v new
       → HaltsOn floor (at.Wakes over itself) (at.Wakes over itself) v new × WakesNoOther v new
   told_stays new view finds =

@@ -1,6 +1,6 @@
 -- A take has the order of its lock checked: admitted, a round of the lock begins; refused, that is noted, and the call
 -- is over. A thread that holds nothing is never refused.
-use Rattle.std.proofs.Common.{◌≡◌, ◌≢◌, ℕ, suc, ◌<◌, length, true, false, cond, [], ◌∷◌, Some, None, refl, sym, ap, ◌∙◌, subst, inl, arith}
+use Rattle.std.proofs.Common.{◌≡◌, ◌≢◌, ℕ, suc, ◌-◌, ◌<◌, ◌≤◌, length, true, false, cond, [], ◌∷◌, Some, None, refl, sym, ap, ◌∙◌, subst, inl, arith}
 use Rattle.lock_model.specs.Words.{Word, word_of}
 use Rattle.lock_model.specs.declared.numbers.LockNo.{LockNo}
 use Rattle.lock_model.specs.declared.plan.Mode.{Mode}
@@ -18,10 +18,12 @@ use Rattle.lock_floor.specs.Ordering.{ChecksOrder, checks}
 use Rattle.lock_floor.specs.Views.{counts, looked, sought}
 use Rattle.lock_floor.proofs.May.{BeginsRound, counts_there, may_seek, may_seek_gain}
 use Rattle.lock_calls.specs.Steps.{IsCovered, as_taken, gains_at_once}
-use Rattle.lock_calls.specs.Takes.{TakesOn, TakeEnd, admitted, at_check, finds_out}
+use Rattle.lock_calls.specs.Takes.{LeavesLooks, TakesOn, TakeEnd, admitted, at_check, finds_out}
 use Rattle.lock_calls.specs.Waiting.{kept_of, IsChecking, MaySeek, IsSeeking, HasBegun, GainsAtOnce, HasGained}
 use Rattle.lock_calls.proofs.Attempts.{free_admits, plainly, unhalted}
 use Rattle.lock_calls.proofs.Looks.{each_append}
+use Rattle.lock_calls.proofs.Spun.{fewer_left, leaving_waits}
+use Rattle.lock_calls.proofs.There.{seeking_still}
 use Rattle.lock_calls.proofs.Words.{other_word}
 
 -- 1. The begin of a round, the lock of which is admitted
@@ -61,14 +63,13 @@ module _ (floor : Description) (l : ℕ) (v : Knowledge) (m : MaySeek l v) where
 
   pub has_begun : (w : Knowledge) (found : ℕ) → found ≢ 0
       → w ≡ seeing w.seen (looked (sought v l false) l (word_of found))
-      → Makes floor (Seeks v.thread l false ∷ Looks v.thread l true ∷ []) v w → HasBegun floor l v w
+      → Makes floor (Seeks v.thread l false ∷ Looks v.thread l true ∷ []) v w → HasBegun floor l (word_of found) v w
   has_begun w found other view step =
       let word : Word = word_of found in
       let look : Look = record { lock = l; word = word } in
       let counted : counts (sought v l false) l ≡ true =
       counts_there floor (sought v l false) l false m.nothing_out refl in
       record {
-        found = word;
         other = other_word found 0 other;
         all = suc v.share.doing.looks_in_all;
         last = Some look;
@@ -89,8 +90,8 @@ module _ (floor : Description) (l : ℕ) (v : Knowledge) (m : MaySeek l v) where
         step = step;
       }
 
-  pub seeks_it : (w : Knowledge) → HasBegun floor l v w → IsSeeking l w
-  seeks_it w b = subst (IsSeeking l) (sym b.knows) record {
+  pub seeks_it : (found : Word) (w : Knowledge) → HasBegun floor l found v w → IsSeeking l w
+  seeks_it found w b = subst (IsSeeking l) (sym b.knows) record {
     unheld = m.unheld;
     few = m.few;
     wants = m.wants;
@@ -187,18 +188,29 @@ module _ (floor : Description) (l : LockNo) (mode : Mode) (old mid : Knowledge) 
         at_check (each_append floor (checks old.thread l.0 None) (gains_at_once old.thread l.0 mode ∷ []) old mid v
         checked.steps (v, gains, refl))
 
-  -- or it begins with a look
-  pub spins_checked : (new : Knowledge) → HasBegun floor l.0 mid new → TakesOn floor l mode Checks (Spins 48) old new
-  spins_checked new b =
-      let looks : new.share.doing.looks ≡ 1 = ap (λ (k : Knowledge). k.share.doing.looks) b.knows in
-      let begins : Makes floor (Seeks old.thread l.0 false ∷ Looks old.thread l.0 true ∷ []) mid new =
-      subst (λ t. Makes floor (Seeks t l.0 false ∷ Looks t l.0 true ∷ []) mid new) same_thread b.step in
+  -- or it begins with a look, behind which so many are left
+  pub spins_checked : (found : Word) (left rest : ℕ) → left ≤ 49 → (seen new : Knowledge)
+      → HasBegun floor l.0 found mid seen
+      → LeavesLooks floor ((config_in floor).kind l.0) mode found left rest seen new
+      → TakesOn floor l mode Checks (Spins rest) old new
+  spins_checked found left rest few seen new b leaves =
+      let kind = (config_in floor).kind l.0 in
+      let waited = leaving_waits floor kind mode found left rest seen new leaves in
+      let fewer : rest ≤ left - 1 = fewer_left floor kind mode found left rest seen new leaves in
+      let looks : seen.share.doing.looks ≡ 1 = ap (λ (k : Knowledge). k.share.doing.looks) b.knows in
+      let same : new.share.doing.looks ≡ seen.share.doing.looks =
+      ap (λ (k : Knowledge). k.share.doing.looks) waited.view in
+      let begins : Makes floor (Seeks old.thread l.0 false ∷ Looks old.thread l.0 true ∷ []) mid seen =
+      subst (λ t. Makes floor (Seeks t l.0 false ∷ Looks t l.0 true ∷ []) mid seen) same_thread b.step in
       record {
-        there = (seeks_it floor l.0 mid may_seek_on new b, omega (arith, looks));
-        kept = ap kept_of b.knows ∙ same_kept;
-        leg = admitted 48 b.found (omega arith)
+        there = (
+          seeking_still l.0 seen new waited.view (seeks_it floor l.0 mid may_seek_on found seen b),
+          omega (arith, same, looks, fewer, few),
+        );
+        kept = ap kept_of waited.view ∙ ap kept_of b.knows ∙ same_kept;
+        leg = admitted seen left rest found few
             (each_append floor (checks old.thread l.0 None)
-            ((Seeks old.thread l.0 false ∷ Looks old.thread l.0 true ∷ []) ∷ []) old mid new checked.steps
-            (new, begins, refl))
-            (ap (λ (k : Knowledge). k.share.doing.last_look) b.knows ∙ b.is_last) b.other;
+            ((Seeks old.thread l.0 false ∷ Looks old.thread l.0 true ∷ []) ∷ []) old mid seen checked.steps
+            (seen, begins, refl))
+            (ap (λ (k : Knowledge). k.share.doing.last_look) b.knows ∙ b.is_last) b.other leaves;
       }

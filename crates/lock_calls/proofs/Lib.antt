@@ -10,9 +10,9 @@ pub mod Owned
 pub mod Given
 pub mod There
 pub mod Noting
+pub mod Spun
 pub mod Checked
 pub mod Refused
-pub mod Spun
 pub mod Contended
 pub mod Standing
 pub mod Halted

@@ -1,5 +1,5 @@
 -- A take in its round, and as it takes the lock's chain and then its own record: where it stands behind each part.
-use Rattle.std.proofs.Common.{◌≡◌, ℕ, ◌+◌, ◌<◌, ◌≤◌, Bool, true, false, [], ◌∷◌, length, replicate, refl, ap, ◌∙◌, subst, arith}
+use Rattle.std.proofs.Common.{◌≡◌, ℕ, ◌+◌, ◌-◌, ◌<◌, ◌≤◌, Bool, true, false, [], ◌∷◌, length, replicate, refl, ap, ◌∙◌, subst, arith}
 use Rattle.lock_model.specs.Queues.{lock_queue}
 use Rattle.lock_model.specs.Words.{Word, word_of}
 use Rattle.lock_model.specs.declared.plan.Kind.{Kind}
@@ -19,7 +19,7 @@ use Rattle.lock_floor.specs.Waits.{its_chain, chain_place, readied}
 use Rattle.lock_floor.proofs.FoundQueued.{found_waits}
 use Rattle.lock_floor.proofs.Taking.{HasWaited, waits_none}
 use Rattle.lock_calls.specs.Steps.{IsCovered, as_taken}
-use Rattle.lock_calls.specs.Rounds.{AsksOwner, asks, nobody, LooksOn, looks_alone, tries_too, LooksAgain, of_mutex, of_shared}
+use Rattle.lock_calls.specs.Rounds.{AsksOwner, asks, nobody, LooksOn, looks_alone, tries_too, LooksAgain, of_mutex, of_shareable}
 use Rattle.lock_calls.specs.Takes.{HasChainOut, LeavesLooks, again, for_claim, owner_queued, TakesOn, TakeEnd, looks, takes_chain, comes_in, finds_out, in_round}
 use Rattle.lock_calls.specs.Waiting.{kept_of, IsSeeking, HasSpun, SpinsThenGains, IsThere}
 use Rattle.lock_calls.proofs.Attempts.{seeking_on, looks_spun}
@@ -34,11 +34,11 @@ pub asking_waits : (floor : Description) (word : Word) (queued : Bool) (old new 
 asking_waits floor word queued old new (asks o owner view found) = found_waits floor o queued old new view found
 asking_waits floor word queued old new (nobody none) = waits_none new
 
--- and who looks again,
+-- and who may look again,
 pub again_waits : (floor : Description) (kind : Kind) (mode : Mode) (word : Word) (old new : Knowledge)
     → LooksAgain floor kind mode word old new → HasWaited old new
 again_waits floor kind mode word old new (of_mutex mutex asked) = asking_waits floor word false old new asked
-again_waits floor kind mode word old new (of_shared no_mutex others) = waits_none new
+again_waits floor kind mode word old new (of_shareable no_mutex others) = waits_none new
 
 -- and who finds out how many looks are left
 pub leaving_waits : (floor : Description) (kind : Kind) (mode : Mode) (word : Word) (left rest : ℕ)
@@ -51,10 +51,10 @@ leaving_waits floor kind mode word left rest old new (owner_queued mutex asked) 
 
 -- fewer looks are left then
 pub fewer_left : (floor : Description) (kind : Kind) (mode : Mode) (word : Word) (left rest : ℕ) (old new : Knowledge)
-    → LeavesLooks floor kind mode word left rest old new → 1 ≤ left → rest < left
-fewer_left floor kind mode word left rest old new (again x) some = omega (arith, some)
-fewer_left floor kind mode word left rest old new (for_claim by_claim) some = some
-fewer_left floor kind mode word left rest old new (owner_queued mutex asked) some = some
+    → LeavesLooks floor kind mode word left rest old new → rest ≤ left - 1
+fewer_left floor kind mode word left rest old new (again x) = omega arith
+fewer_left floor kind mode word left rest old new (for_claim by_claim) = omega arith
+fewer_left floor kind mode word left rest old new (owner_queued mutex asked) = omega arith
 
 -- looks in a round are one or two
 pub looks_in_it : (floor : Description) (l : ℕ) (mode : Mode) (n : ℕ) (word : Word) (old seen : Knowledge)
@@ -74,14 +74,14 @@ spins_on floor l mode left n rest word some old seen new m room on x leaves =
     let two : n ≤ 2 = (looks_in_it floor l.0 mode n word old seen on).1 in
     let kind = (config_in floor).kind l.0 in
     let waited = leaving_waits floor kind mode word left rest seen new leaves in
-    let less : rest < left = fewer_left floor kind mode word left rest seen new leaves some in
+    let fewer : rest ≤ left - 1 = fewer_left floor kind mode word left rest seen new leaves in
     let all : seen.share.doing.looks ≡ n + old.share.doing.looks = looks_spun floor l.0 n old seen x in
     let same : new.share.doing.looks ≡ seen.share.doing.looks =
     ap (λ (k : Knowledge). k.share.doing.looks) waited.view in
     record {
       there = (
         seeking_still l.0 seen new waited.view (seeking_on floor l.0 n old seen x m),
-        omega (arith, same, all, less, two, room),
+        omega (arith, same, all, some, fewer, two, room),
       );
       kept = ap kept_of waited.view ∙ ap kept_of x.knows;
       leg = looks seen left n rest word some on leaves;

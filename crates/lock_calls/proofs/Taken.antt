@@ -1,6 +1,6 @@
 -- A take from its begin on: what the thread has made so far where the take stands, and that its parts together are a
 -- take.
-use Rattle.std.proofs.Common.{◌≡◌, ◌⊎◌, ℕ, ◌+◌, ◌≤◌, Bool, true, false, List, [], ◌∷◌, ◌++◌, length, replicate, None, refl, sym, ap, ◌∙◌, subst, inl, inr, arith}
+use Rattle.std.proofs.Common.{◌≡◌, ◌⊎◌, ℕ, ◌+◌, ◌-◌, ◌≤◌, Bool, true, false, List, [], ◌∷◌, ◌++◌, length, replicate, Option, Some, None, refl, sym, ap, ◌∙◌, subst, inl, inr, arith}
 use Rattle.std.proofs.lemmas.List.{replicate-append-replicate}
 use Rattle.lock_model.specs.Queues.{Cause, BySignal, ByAbort, lock_queue}
 use Rattle.lock_model.specs.Words.{Word}
@@ -34,44 +34,39 @@ use Rattle.halting.specs.Halts.{CountsItselfOut, somebody_is_awake, nobody_is_aw
 use Rattle.halting.proofs.Whole as whole
 use Rattle.halting.proofs.Whole.{HaltsSince, begins_whole, is_done}
 use Rattle.lock_calls.specs.Steps as steps
-use Rattle.lock_calls.specs.Steps.{IsGain, HasMissedFirst, MissesFirst, none_missed, one_missed, as_taken, begins_round, enters_by, gains_checked, gains_at_once, refuses, comes_there, gives_both, runs_on, enters_there, gains_there, ComesToRound, Acquires, gains_in_round}
-use Rattle.lock_calls.specs.Rounds.{KeepsLooking, LooksOn, LooksSoOften, keeps_looking, looks_again, looks_alone, looks_last, no_look, tries_too}
+use Rattle.lock_calls.specs.Steps.{IsGain, HasMissedFirst, MissesFirst, none_missed, one_missed, as_taken, begins_round, enters_by, gains_checked, gains_at_once, refuses, comes_there, gives_both, runs_on, enters_there, gains_there, IsInRound, Acquires, gains_in_round}
+use Rattle.lock_calls.specs.Rounds.{LooksOn, looks_alone, tries_too}
 use Rattle.lock_calls.specs.Takes.{IsTaking, IsUnderTake, LeavesLooks, again, for_claim, owner_queued, AwaitsInTake, TakesOn, TakeLeg, TakeEnd, IsRefused, IsHalted, WasHalted, kept_at, admitted, at_check, looks, takes_chain, comes_in, looks_there, enters, takes_turnstiles, hops, counts_out, is_last, halts_on, has_halted, resumes, finds_out, is_queued, in_round, in_section}
 use Rattle.lock_calls.specs.Waiting.{Kept, kept_of, IsCalling}
 use Rattle.lock_calls.proofs.Attempts.{misses_bare, misses_few}
 use Rattle.lock_calls.proofs.Halted.{halt_is_set}
 use Rattle.lock_calls.proofs.Looks.{each_append}
 use Rattle.lock_calls.proofs.Refused.{bare_admitted}
-use Rattle.lock_calls.proofs.Spun.{asking_waits, looks_in_it}
+use Rattle.lock_calls.proofs.Spun.{asking_waits, fewer_left, looks_in_it}
 use Rattle.lock_calls.proofs.Standing.{walk_still}
 use Rattle.lock_calls.proofs.Waited.{makes_sooner, each_sooner, takes_sooner, before_waiting}
 
 -- 1. So far
 
--- it came to a round with so many looks, and made so many more in it, behind the last of which it may look no more
-pub record HasLookedInRound (floor : Description) (l : ℕ) (mode : Mode) (back : Bool) (begun now : Knowledge) : Type 0 where
-  pub before : ℕ
-  pub round : Knowledge
-  pub comes : ComesToRound floor l mode back before begun round
-  pub n : ℕ
-  pub each : LooksSoOften floor l mode n round now
-
-abbrev pub all_looks : {floor : Description} {l : ℕ} {mode : Mode} {back : Bool} {begun now : Knowledge}
-    → HasLookedInRound floor l mode back begun now → ℕ
-all_looks r = r.before + r.n
+-- it is in a round with so many looks, behind the last of which it may have to look no more
+pub record HasLookedInRound (floor : Description) (l : ℕ) (mode : Mode) (back : Bool) (begun now : Knowledge) : Type 0
+  where
+    pub last : Option Word
+    pub looks : ℕ
+    pub round : IsInRound floor l mode back last looks begun now
 
 -- it took the lock's chain behind at most 100
 pub record HasTakenChain (floor : Description) (l : ℕ) (mode : Mode) (back : Bool) (begun now : Knowledge) : Type 0 where
   pub looked : Knowledge
   pub rounds : HasLookedInRound floor l mode back begun looked
-  pub few : all_looks rounds ≤ 100
+  pub few : rounds.looks ≤ 100
   pub took : Makes floor (TakesItem begun.thread (its_chain floor (lock_queue l)) ∷ []) looked now
 
 -- it came to the section, and looked so often there
 pub record HasComeThere (floor : Description) (l : ℕ) (mode : Mode) (back : Bool) (begun now : Knowledge) : Type 0 where
   pub looked : Knowledge
   pub rounds : HasLookedInRound floor l mode back begun looked
-  pub few : all_looks rounds ≤ 100
+  pub few : rounds.looks ≤ 100
   pub there : Knowledge
   pub come : MakesEach floor (comes_there floor begun.thread l) looked there
   pub m : ℕ
@@ -81,7 +76,7 @@ pub record HasComeThere (floor : Description) (l : ℕ) (mode : Mode) (back : Bo
 pub record HasStood (floor : Description) (l : ℕ) (mode : Mode) (back : Bool) (begun now : Knowledge) : Type 0 where
   pub looked : Knowledge
   pub rounds : HasLookedInRound floor l mode back begun looked
-  pub few : all_looks rounds ≤ 100
+  pub few : rounds.looks ≤ 100
   pub stands : Knowledge
   pub m : ℕ
   pub x : ℕ
@@ -115,8 +110,8 @@ abbrev pub HasCome : Description → ℕ → Mode → Bool → Knowledge → Tak
 HasCome floor l mode back begun Checks now =
     (missed : ℕ) × HasMissedFirst floor l mode missed begun now × (back ≡ false)
 HasCome floor l mode back begun (Spins left) now =
-    (r : HasLookedInRound floor l mode back begun now) × (all_looks r + (left + left) ≤ 100)
-    × (1 ≤ left → KeepsLooking floor l mode r.n r.round now)
+    (r : HasLookedInRound floor l mode back begun now) × (r.looks + (left + left) ≤ 100)
+    × (1 ≤ left → IsInRound floor l mode back None r.looks begun now)
 HasCome floor l mode back begun ComesIn now = HasTakenChain floor l mode back begun now
 HasCome floor l mode back begun (Contends seen) now = HasComeThere floor l mode back begun now
 HasCome floor l mode back begun (Walks there) now = HasStood floor l mode back begun now
@@ -225,9 +220,9 @@ pub begins_back : (floor : Description) (l : ℕ) (mode : Mode) (left : ℕ) (be
 begins_back floor l mode left begun few = record {
   came = begun;
   has_come = (
-    record { before = 0; round = begun; comes = steps.is_in_one refl; n = 0; each = keeps_looking 0 no_look },
+    record { last = None; looks = 0; round = steps.is_in_one refl },
     omega (arith, few),
-    λ some. no_look,
+    λ some. steps.is_in_one refl,
   );
   since = waits_none begun;
 }
@@ -286,47 +281,37 @@ module _ (floor : Description) (l : LockNo) (mode : Mode) (back : Bool) (begun :
       (subst (λ t. Makes floor (Looks t l.0 true ∷ []) tried new) (ap (λ (k : Knowledge). k.thread) h.view) miss)
       found_it other
 
-  -- and what it has made then, where so many looks are left
-  module _ (came : Knowledge) (r : HasLookedInRound floor l.0 mode back begun came)
-      (keeps : KeepsLooking floor l.0 mode r.n r.round came) (n : ℕ) (word : Word) (left : ℕ) (some : 1 ≤ left)
-      (few : all_looks r + (left + left) ≤ 100) (two : n ≤ 2) where
-    looks_no_more : (seen : Knowledge) → LooksOn floor l.0 mode n word came seen
-        → HasCome floor l.0 mode back begun (Spins 0) seen
-    looks_no_more seen on = (
-      record {
-        before = r.before;
-        round = r.round;
-        comes = r.comes;
-        n = r.n + n;
-        each = looks_last r.n n word keeps on;
-      },
-      omega (arith, few, two, some),
-      λ none. absurd (omega (arith, none)),
-    )
+  -- behind a look that saw the word it looks no more,
+  looks_no_more : (all : ℕ) (word : Word) (seen : Knowledge) → IsInRound floor l.0 mode back (Some word) all begun seen
+      → all ≤ 100 → HasCome floor l.0 mode back begun (Spins 0) seen
+  looks_no_more all word seen round few = (
+    record { last = Some word; looks = all; round = round },
+    omega (arith, few),
+    λ none. absurd (omega (arith, none)),
+  )
 
-    looks_lead : (rest : ℕ) (seen new : Knowledge) → LooksOn floor l.0 mode n word came seen
-        → LeavesLooks floor kind mode word left rest seen new → IsAt floor l.0 mode back begun (Spins rest) new
-    looks_lead rest seen new on (again x) =
-        let keeps_on : KeepsLooking floor l.0 mode (r.n + n) r.round new = looks_again r.n n word keeps on x in
-        record {
-          came = new;
-          has_come = (
-            record {
-              before = r.before;
-              round = r.round;
-              comes = r.comes;
-              n = r.n + n;
-              each = keeps_looking (r.n + n) keeps_on;
-            },
-            omega (arith, few, two, some),
-            λ more. keeps_on,
-          );
-          since = waits_none new;
-        }
-    looks_lead rest seen new on (for_claim by_claim) =
-        record { came = seen; has_come = looks_no_more seen on; since = waits_none seen }
-    looks_lead rest seen new on (owner_queued mutex asked) =
-        record { came = seen; has_come = looks_no_more seen on; since = asking_waits floor word true seen new asked }
+  -- or may look so often
+  looks_lead : (all left rest : ℕ) (word : Word) (seen new : Knowledge)
+      → IsInRound floor l.0 mode back (Some word) all begun seen
+      → LeavesLooks floor kind mode word left rest seen new → all + (rest + rest) ≤ 100
+      → IsAt floor l.0 mode back begun (Spins rest) new
+  looks_lead all left rest word seen new round (again x) few =
+      let on : IsInRound floor l.0 mode back None all begun new = steps.may_look_again all word round x in
+      record {
+        came = new;
+        has_come = (record { last = None; looks = all; round = on }, few, λ some. on);
+        since = waits_none new;
+      }
+  looks_lead all left rest word seen new round (for_claim by_claim) few = record {
+    came = seen;
+    has_come = looks_no_more all word seen round (omega (arith, few));
+    since = waits_none seen;
+  }
+  looks_lead all left rest word seen new round (owner_queued mutex asked) few = record {
+    came = seen;
+    has_come = looks_no_more all word seen round (omega (arith, few));
+    since = asking_waits floor word true seen new asked;
+  }
 
   module _ (now new : Knowledge) (its : now.thread ≡ begun.thread) (its_then : new.thread ≡ begun.thread) where
     -- 4. Each leg
@@ -334,35 +319,26 @@ module _ (floor : Description) (l : LockNo) (mode : Mode) (back : Bool) (begun :
     pub goes_on : (at to : TakeAt) → is_taking_back now.share.log ≡ back → IsTaking floor l.0 at now
         → IsAt floor l.0 mode back begun at now → TakeLeg floor l mode at to now new
         → IsAt floor l.0 mode back begun to new
-    goes_on at to log there h (admitted left found few each saw other) =
+    goes_on at to log there h (admitted seen left rest found few each saw other leaves) =
         let c = h.has_come in
         let round : List (List Step) = (Seeks begun.thread l.0 false ∷ look) ∷ [] in
-        let made : MakesEach floor (begins_round begun.thread l.0) h.came new =
+        let made : MakesEach floor (begins_round begun.thread l.0) h.came seen =
         each_sooner floor (TakesItem begun.thread ClassGraph ∷ []) ((Admits begun.thread l.0 ∷ []) ∷ round) h.came now
-        new
+        seen
         h.since
-        (subst (λ t. MakesEach floor (checks t l.0 None ++ (Seeks t l.0 false ∷ Looks t l.0 true ∷ []) ∷ []) now new)
+        (subst (λ t. MakesEach floor (checks t l.0 None ++ (Seeks t l.0 false ∷ Looks t l.0 true ∷ []) ∷ []) now seen)
         its
         each) in
-        record {
-          came = new;
-          has_come = (
-            record {
-              before = c.0 + 1;
-              round = new;
-              comes = steps.begins c.0 c.2 c.1 made;
-              n = 0;
-              each = keeps_looking 0 no_look;
-            },
-            omega (arith, few, misses_few ((config_in floor).kind l.0) begun.share.held c.0 c.1.first),
-            λ more. no_look,
-          );
-          since = waits_none new;
-        }
+        let fewer : rest ≤ left - 1 = fewer_left floor kind mode found left rest seen new leaves in
+        looks_lead (c.0 + 1) left rest found seen new (steps.begins c.0 found c.2 c.1 made saw other) leaves
+        (omega (arith, few, fewer, misses_few kind begun.share.held c.0 c.1.first))
     goes_on at to log there h (looks seen left n rest word some on leaves) =
-        looks_lead h.came h.has_come.0 (h.has_come.2 some) n word left some h.has_come.1
-        (looks_in_it floor l.0 mode n word now seen on).1 rest seen new
-        (looks_sooner n word h.came now seen h.since on) leaves
+        let r = h.has_come.0 in
+        let two : n ≤ 2 = (looks_in_it floor l.0 mode n word now seen on).1 in
+        let fewer : rest ≤ left - 1 = fewer_left floor kind mode word left rest seen new leaves in
+        looks_lead (r.looks + n) left rest word seen new
+        (steps.looks_on r.looks n word (h.has_come.2 some) (looks_sooner n word h.came now seen h.since on)) leaves
+        (omega (arith, h.has_come.1, some, two, fewer))
     goes_on at to log there h (takes_chain step) = record {
       came = new;
       has_come = record {
@@ -500,29 +476,19 @@ module _ (floor : Description) (l : LockNo) (mode : Mode) (back : Bool) (begun :
         let resume : Makes floor (Resumes begun.thread (lock_queue l.0) cause ∷ []) h.came new =
         makes_sooner floor (Resumes begun.thread (lock_queue l.0) cause ∷ []) h.came now new h.since
         (subst (λ t. Makes floor (Resumes t (lock_queue l.0) cause ∷ []) now new) its step) in
+        let on : IsInRound floor l.0 mode back None 0 begun new =
+        steps.sleeps r.last r.looks c.m c.x cause r.round c.few c.each
+        (λ taken. only_signals cause (λ e. sym (back_too e) ∙ log ∙ taken))
+        (record {
+          walked = o.before;
+          walk = c.walked;
+          parked = h.came;
+          counts = o.counts;
+          resumes = subst (λ t. Makes floor (Resumes t (lock_queue l.0) cause ∷ []) h.came new) (sym c.thread) resume;
+        }) in
         record {
           came = new;
-          has_come = (
-            record {
-              before = 0;
-              round = new;
-              comes = steps.sleeps r.before r.n c.m c.x cause r.comes r.each c.few
-                  c.each
-                  (λ taken. only_signals cause (λ e. sym (back_too e) ∙ log ∙ taken))
-                  (record {
-                    walked = o.before;
-                    walk = c.walked;
-                    parked = h.came;
-                    counts = o.counts;
-                    resumes = subst (λ t. Makes floor (Resumes t (lock_queue l.0) cause ∷ []) h.came new)
-                        (sym c.thread) resume;
-                  });
-              n = 0;
-              each = keeps_looking 0 no_look;
-            },
-            omega (arith, few),
-            λ more. no_look,
-          );
+          has_come = (record { last = None; looks = 0; round = on }, omega (arith, few), λ more. on);
           since = waits_none new;
         }
     goes_on at to log there h (finds_out a i needs view finds) = record {
@@ -554,7 +520,7 @@ module _ (floor : Description) (l : LockNo) (mode : Mode) (back : Bool) (begun :
         each_sooner floor look ((Gains begun.thread l.0 mode false ∷ []) ∷ []) h.came now new h.since
         (subst (λ t. MakesEach floor (gains_in_round t l.0 mode) now new) its each) in
         let r = h.has_come.0 in
-        steps.in_round r.before r.n r.comes (h.has_come.2 some) (omega (arith, h.has_come.1, some)) made
+        steps.in_round r.looks (h.has_come.2 some) (omega (arith, h.has_come.1, some)) made
     ends at h (in_section seen gain is each) =
         let c = h.has_come in
         let r = c.rounds in
@@ -570,8 +536,7 @@ module _ (floor : Description) (l : LockNo) (mode : Mode) (back : Bool) (begun :
         c.come
         (each_append floor (replicate c.m look_there ++ (gain ∷ []) ∷ []) (runs_on floor begun.thread l.0) c.there
         made.0 new gains made.2) in
-        steps.in_section r.before r.n c.m gain r.comes r.each c.few (subst (λ t. IsGain t l.0 mode false gain) its is)
-        there
+        steps.in_section r.last r.looks c.m gain r.round c.few (subst (λ t. IsGain t l.0 mode false gain) its is) there
 
 -- or its sleep was ended
 module _ (floor : Description) (l : LockNo) (mode : Mode) (begun now new : Knowledge) (its : now.thread ≡ begun.thread)
@@ -594,12 +559,10 @@ module _ (floor : Description) (l : LockNo) (mode : Mode) (begun now new : Knowl
           rest = x.rest;
           entry = note_since floor (Event.HaltedLock l) at begun now new kept x.entry;
           ends = record {
-            looks = r.before;
-            u = r.round;
-            comes = r.comes;
-            n = r.n;
+            last = r.last;
+            looks = r.looks;
             looked = c.looked;
-            spins = r.each;
+            rounds = r.round;
             few = c.few;
             m = c.m;
             x = c.x;

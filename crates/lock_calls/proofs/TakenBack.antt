@@ -68,8 +68,8 @@ module _ (floor : Description) (l : LockNo) (mode : Mode) (v : Knowledge) (mine 
 -- it doesn't come to a check of its order
 off_checks : (floor : Description) (l : LockNo) (mode : Mode) (at to : TakeAt) (old new : Knowledge)
     → TakeLeg floor l mode at to old new → at ≢ Checks → to ≢ Checks
-off_checks floor l mode at to old new (admitted left found few each saw other) off e =
-    let z : Spins left ≡ Checks = e in cc
+off_checks floor l mode at to old new (admitted seen left rest found few each saw other leaves) off e =
+    let z : Spins rest ≡ Checks = e in cc
 off_checks floor l mode at to old new (looks seen left n rest word some on leaves) off e =
     let z : Spins rest ≡ Checks = e in cc
 off_checks floor l mode at to old new (takes_chain step) off e = let z : ComesIn ≡ Checks = e in cc

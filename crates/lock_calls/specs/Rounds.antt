@@ -1,5 +1,5 @@
--- Looks in an acquiring round: what the thread saw by each, and behind which it looks again.
-use Rattle.std.specs.Prelude.{◌≡◌, ◌≢◌, ℕ, ◌+◌, ◌<◌, Bool, true, false, [], ◌∷◌, length, Some}
+-- Looks in an acquiring round: what the thread saw by each, and behind which it may look again.
+use Rattle.std.specs.Prelude.{◌≡◌, ◌≢◌, ℕ, ◌<◌, Bool, true, false, [], ◌∷◌, length, Some}
 use Rattle.lock_model.specs.Words.{Word, owner_of}
 use Rattle.lock_model.specs.declared.plan.Kind.{Kind}
 use Rattle.lock_model.specs.declared.plan.Kind.TheVariants.{Mtx}
@@ -42,29 +42,11 @@ pub data AsksOwner (floor : Description) (word : Word) : Bool → Knowledge → 
       → ((o : ℕ) → owner_of word.holder ≡ Some o → o < length floor.threads → ⊥)
       → AsksOwner floor word false v v
 
--- Behind a look that saw the word the thread looks again: of a mutex where the owner isn't Queued whom the word names;
--- of another lock where the word doesn't let it gain the lock by a claim alone
+-- Behind a look that saw the word the thread may look again: of a mutex where the owner isn't Queued whom the word
+-- names; of a lock that can be shared where the word doesn't let it gain the lock by a claim alone
 pub data LooksAgain (floor : Description) (kind : Kind) (mode : Mode) (word : Word) : Knowledge
     → Knowledge → Type 0 where
   of_mutex : {old new : Knowledge} → kind ≡ Mtx → AsksOwner floor word false old new
       → LooksAgain floor kind mode word old new
-  of_shared : {v : Knowledge} → kind ≢ Mtx → course kind word mode ≢ ByClaim
+  of_shareable : {v : Knowledge} → kind ≢ Mtx → course kind word mode ≢ ByClaim
       → LooksAgain floor kind mode word v v
-
--- so many looks in its round, behind each of which, with the exchange that missed, it looks again
-pub data KeepsLooking (floor : Description) (l : ℕ) (mode : Mode) : ℕ → Knowledge → Knowledge
-    → Type 0 where
-  no_look : {v : Knowledge} → KeepsLooking floor l mode 0 v v
-  looks_again : {old mid seen new : Knowledge} (n k : ℕ) (word : Word)
-      → KeepsLooking floor l mode n old mid → LooksOn floor l mode k word mid seen
-      → LooksAgain floor ((config_in floor).kind l) mode word seen new
-      → KeepsLooking floor l mode (n + k) old new
-
--- or behind the last of them it looks no more
-pub data LooksSoOften (floor : Description) (l : ℕ) (mode : Mode) : ℕ → Knowledge → Knowledge
-    → Type 0 where
-  keeps_looking : {old new : Knowledge} (n : ℕ) → KeepsLooking floor l mode n old new
-      → LooksSoOften floor l mode n old new
-  looks_last : {old mid new : Knowledge} (n k : ℕ) (word : Word)
-      → KeepsLooking floor l mode n old mid → LooksOn floor l mode k word mid new
-      → LooksSoOften floor l mode (n + k) old new

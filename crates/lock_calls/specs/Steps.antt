@@ -1,5 +1,5 @@
 -- Which locks the calls of this crate are for, and the steps that a take and a release make.
-use Rattle.std.specs.Prelude.{◌≡◌, ◌≢◌, ◌⊎◌, ℕ, ◌+◌, ◌<◌, ◌≤◌, Bool, true, false, List, [], ◌∷◌, ◌++◌, length, replicate, Some, None, ⊤}
+use Rattle.std.specs.Prelude.{◌≡◌, ◌≢◌, ◌⊎◌, ℕ, ◌+◌, ◌<◌, ◌≤◌, Bool, true, false, List, [], ◌∷◌, ◌++◌, length, replicate, Option, Some, None, ⊤}
 use Rattle.lock_model.specs.Queues.{Cause, BySignal, ByAbort, Mark, lock_queue}
 use Rattle.lock_model.specs.Holds.{NotHeld, Holds}
 use Rattle.lock_model.specs.Limits.{most_held}
@@ -25,7 +25,7 @@ use Rattle.lock_floor.specs.Waits.{its_chain}
 use Rattle.lock_floor.specs.Walks.{Walks}
 use Rattle.halting.specs.Halts.{CountsItselfOut}
 use Rattle.lock_calls.specs.Choices.{course}
-use Rattle.lock_calls.specs.Rounds.{KeepsLooking, LooksSoOften}
+use Rattle.lock_calls.specs.Rounds.{HasSeen, LooksAgain, LooksOn}
 use Rattle.lock_calls.specs.declared.courses.Course.TheVariants.{Plainly}
 
 -- 1. Which locks
@@ -175,25 +175,33 @@ pub record Sleeps (floor : Description) (l : ℕ) (cause : Cause) (old new : Kno
   pub counts : CountsItselfOut floor walked parked
   pub resumes : Makes floor (Resumes old.thread (lock_queue l) cause ∷ []) parked new
 
--- How a thread comes to be in an acquiring round, with so many looks so far. A take does once its lock's order was
--- checked; where its thread holds nothing it makes first exchanges before that, outside the round, which missed. A wait
--- that takes its lock back is in one from the begin, which its resume from the channel began. And behind a sleep
--- another begins, once a round has ended with an enter: of a take, where the thread was woken by a signal; of a taking
--- back by whatever woke it. From the begin or a sleep to the taking of the chain at most 100 looks are made, with the
--- exchanges that missed; and behind a look in its round it looks again, of a mutex, only where the owner isn't Queued
-pub data ComesToRound (floor : Description) (l : ℕ) (mode : Mode) (back : Bool) : ℕ → Knowledge
-    → Knowledge → Type 0 where
-  begins : {old u new : Knowledge} (missed : ℕ) → back ≡ false
+-- How a thread is in an acquiring round of a lock: with so many looks since the begin or its last sleep, and with the
+-- word that it saw last there, or none where it may look. A take comes to one once its lock's order was checked, by an
+-- exchange from the free word, which missed; where its thread holds nothing it makes first exchanges before that,
+-- outside the round, which missed. A wait that takes its lock back is in one from the begin, which its resume from the
+-- channel began. In it the thread looks; and behind a look, which that exchange is too, it may look again, of a mutex
+-- only where the owner isn't Queued. A round ends with an enter, behind at most 100 looks, with the exchanges that
+-- missed; and behind the sleep another begins: of a take, where the thread was woken by a signal; of a taking back by
+-- whatever woke it
+pub data IsInRound (floor : Description) (l : ℕ) (mode : Mode) (back : Bool) : Option Word → ℕ
+    → Knowledge → Knowledge → Type 0 where
+  begins : {old u new : Knowledge} (missed : ℕ) (found : Word) → back ≡ false
       → HasMissedFirst floor l mode missed old u
-      → MakesEach floor (begins_round old.thread l) u new
-      → ComesToRound floor l mode back (missed + 1) old new
-  is_in_one : {old : Knowledge} → back ≡ true → ComesToRound floor l mode back 0 old old
-  sleeps : {old u looked v new : Knowledge} (looks n m x : ℕ) (cause : Cause)
-      → ComesToRound floor l mode back looks old u
-      → LooksSoOften floor l mode n u looked → looks + n ≤ 100
-      → MakesEach floor (enters_there floor old.thread l mode m x) looked v
+      → MakesEach floor (begins_round old.thread l) u new → HasSeen l found new → found ≢ word_of 0
+      → IsInRound floor l mode back (Some found) (missed + 1) old new
+  is_in_one : {old : Knowledge} → back ≡ true → IsInRound floor l mode back None 0 old old
+  looks_on : {old u new : Knowledge} (looks n : ℕ) (word : Word)
+      → IsInRound floor l mode back None looks old u → LooksOn floor l mode n word u new
+      → IsInRound floor l mode back (Some word) (looks + n) old new
+  may_look_again : {old u new : Knowledge} (looks : ℕ) (word : Word)
+      → IsInRound floor l mode back (Some word) looks old u
+      → LooksAgain floor ((config_in floor).kind l) mode word u new
+      → IsInRound floor l mode back None looks old new
+  sleeps : {old u v new : Knowledge} (last : Option Word) (looks m x : ℕ) (cause : Cause)
+      → IsInRound floor l mode back last looks old u → looks ≤ 100
+      → MakesEach floor (enters_there floor old.thread l mode m x) u v
       → (back ≡ false → cause ≡ BySignal)
-      → Sleeps floor l cause v new → ComesToRound floor l mode back 0 old new
+      → Sleeps floor l cause v new → IsInRound floor l mode back None 0 old new
 
 -- How it gains: of a take by a first exchange of a thread that holds nothing, or by the first one of its round, once
 -- its lock's order was checked; in a round, behind at most 100 looks; or in the section of the lock's chain, which it
@@ -207,16 +215,14 @@ pub data Acquires (floor : Description) (l : ℕ) (mode : Mode) (back : Bool) : 
       → HasMissedFirst floor l mode missed old u
       → MakesEach floor (gains_checked old.thread l mode) u new
       → Acquires floor l mode back old new
-  in_round : {old u looked new : Knowledge} (looks n : ℕ)
-      → ComesToRound floor l mode back looks old u
-      → KeepsLooking floor l mode n u looked → looks + n < 100
-      → MakesEach floor (gains_in_round old.thread l mode) looked new
+  in_round : {old u new : Knowledge} (looks : ℕ)
+      → IsInRound floor l mode back None looks old u → looks < 100
+      → MakesEach floor (gains_in_round old.thread l mode) u new
       → Acquires floor l mode back old new
-  in_section : {old u looked new : Knowledge} (looks n m : ℕ) (gain : Step)
-      → ComesToRound floor l mode back looks old u
-      → LooksSoOften floor l mode n u looked → looks + n ≤ 100
+  in_section : {old u new : Knowledge} (last : Option Word) (looks m : ℕ) (gain : Step)
+      → IsInRound floor l mode back last looks old u → looks ≤ 100
       → IsGain old.thread l mode false gain
-      → MakesEach floor (gains_there floor old.thread l gain m) looked new
+      → MakesEach floor (gains_there floor old.thread l gain m) u new
       → Acquires floor l mode back old new
 
 -- a wait takes its lock back so
@@ -233,13 +239,11 @@ pub record Locks (floor : Description) (l : LockNo) (mode : Mode) (old new : Kno
 -- Or it came to stand on the lock's queue, its sleep was ended by an abort, and it notes that, while the halt word is 1
 pub record EndsAsleep (floor : Description) (l : LockNo) (mode : Mode) (old new : Knowledge) :
     Type 0 where
+  pub last : Option Word
   pub looks : ℕ
-  pub u : Knowledge
-  pub comes : ComesToRound floor l.0 mode false looks old u
-  pub n : ℕ
   pub looked : Knowledge
-  pub spins : LooksSoOften floor l.0 mode n u looked
-  pub few : looks + n ≤ 100
+  pub rounds : IsInRound floor l.0 mode false last looks old looked
+  pub few : looks ≤ 100
   pub m : ℕ
   pub x : ℕ
   pub stands : Knowledge

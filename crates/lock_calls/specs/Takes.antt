@@ -169,8 +169,8 @@ pub record IsInTake (floor : Description) (p : Pass Knowledge) : Type 0 where
 
 -- 2. What it does from one place to the next
 
--- So many looks are left of so many behind one that saw the word: one less where it looks again; and none where the
--- word lets the thread gain the lock by a claim alone, or of a mutex names an owner who is Queued
+-- So many looks are left of so many behind one that saw the word: one less where the thread may look again; and none
+-- where the word lets it gain the lock by a claim alone, or of a mutex names an owner who is Queued
 pub data LeavesLooks (floor : Description) (kind : Kind) (mode : Mode) (word : Word) (left : ℕ) : ℕ
     → Knowledge → Knowledge → Type 0 where
   again : {old new : Knowledge} → LooksAgain floor kind mode word old new
@@ -192,19 +192,20 @@ AwaitsInTake floor v l (Hops there) i = (o : ℕ) × NeedsRecord floor o v × (i
 AwaitsInTake floor v l (Halts at) i = ⊥
 AwaitsInTake floor v l Sleeps i = ⊥
 
--- Once its lock's order was checked, its round begins with an exchange from the free word, which missed. There it
--- looks, tries where it saw that it can, and asks whether the owner is queued whom the word named that it saw last;
--- once no looks are left, it takes the chain, then its own record, is ready for the queue, and looks. There an exchange
--- that misses is a look, which saw another word; or it comes to stand on the queue. It makes hop after hop of its walk,
--- and counts itself out; where that left nobody awake, it halts others, part by part. Where it was woken it begins
--- another round: by a signal, or where it takes a lock back within a wait by an abort too. Or it found out what it
--- needs, or that it is queued still
+-- Once its lock's order was checked, its round begins with an exchange from the free word, which missed: a look. There
+-- it looks, and tries where it saw that it can; and behind each look it asks whether the owner is queued whom the word
+-- names that it saw last. Once no looks are left, it takes the chain, then its own record, is ready for the queue, and
+-- looks. There an exchange that misses is a look, which saw another word; or it comes to stand on the queue. It makes
+-- hop after hop of its walk, and counts itself out; where that left nobody awake, it halts others, part by part. Where
+-- it was woken it begins another round: by a signal, or where it takes a lock back within a wait by an abort too. Or it
+-- found out what it needs, or that it is queued still
 pub data TakeLeg (floor : Description) (l : LockNo) (mode : Mode) : TakeAt → TakeAt → Knowledge
     → Knowledge → Type 0 where
-  admitted : {old new : Knowledge} (left : ℕ) (found : Word) → left ≤ 48
-      → MakesEach floor (begins_round old.thread l.0) old new
-      → HasSeen l.0 found new → found ≢ word_of 0
-      → TakeLeg floor l mode Checks (Spins left) old new
+  admitted : {old new : Knowledge} (seen : Knowledge) (left rest : ℕ) (found : Word)
+      → left ≤ 49 → MakesEach floor (begins_round old.thread l.0) old seen
+      → HasSeen l.0 found seen → found ≢ word_of 0
+      → LeavesLooks floor ((config_in floor).kind l.0) mode found left rest seen new
+      → TakeLeg floor l mode Checks (Spins rest) old new
   looks : {old new : Knowledge} (seen : Knowledge) (left n rest : ℕ) (word : Word)
       → 1 ≤ left → LooksOn floor l.0 mode n word old seen
       → LeavesLooks floor ((config_in floor).kind l.0) mode word left rest seen new

@@ -228,16 +228,16 @@ pub record MaySeek (l : ℕ) (v : Knowledge) : Type 0 where
   pub nothing_out : v.out ≡ []
   pub going : IsGoing v
 
--- a round of the lock has begun with an exchange from the free word, which missed: a look, which saw another word
-pub record HasBegun (floor : Description) (l : ℕ) (old new : Knowledge) : Type 0 where
-  pub found : Word
-  pub other : found ≢ word_of 0
-  pub all : ℕ
-  pub last : Option Look
-  pub is_last : last ≡ Some (record { lock = l; word = found })
-  pub seen : Option Look
-  pub knows : new ≡ seeing new.seen (in_round old l 1 all last seen)
-  pub step : Makes floor (Seeks old.thread l false ∷ Looks old.thread l true ∷ []) old new
+-- a round of the lock has begun with an exchange from the free word, which missed: a look, which saw that other word
+pub record HasBegun (floor : Description) (l : ℕ) (found : Word) (old new : Knowledge) : Type 0
+  where
+    pub other : found ≢ word_of 0
+    pub all : ℕ
+    pub last : Option Look
+    pub is_last : last ≡ Some (record { lock = l; word = found })
+    pub seen : Option Look
+    pub knows : new ≡ seeing new.seen (in_round old l 1 all last seen)
+    pub step : Makes floor (Seeks old.thread l false ∷ Looks old.thread l true ∷ []) old new
 
 -- the thread is in a round of a blocking call: it runs and is awake, has nothing out and no walk, wants and takes the
 -- lock, doesn't hold it, has room for it, and has no halt of a take to note

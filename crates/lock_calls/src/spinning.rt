@@ -165,10 +165,17 @@ fn attempt(floor: &Floor, pass: &mut Pass, l: LockNo, mode: Mode) -> Result<(), 
     }
 }
 
-// How many looks a thread has left behind one that saw the word, of so many. Where it can gain the lock by a claim
-// alone it looks no more, but goes to the lock's chain; nor does it where that is a mutex whose owner is queued, since
-// who stands on a queue himself won't release it soon.
-fn looks_left(floor: &Floor, pass: &mut Pass, l: LockNo, mode: Mode, seen: u64, left: u32) -> u32
+/// How many looks a thread has left behind one that saw the word, of so many. Where it can gain the lock by a claim
+/// alone it looks no more, but goes to the lock's chain; nor does it where that is a mutex whose owner is queued, since
+/// who stands on a queue himself won't release it soon.
+pub fn looks_left(
+    floor: &Floor,
+    pass: &mut Pass,
+    l: LockNo,
+    mode: Mode,
+    seen: u64,
+    left: u32,
+) -> u32
     requires own { IsOf floor.now pass.old }
     requires covered { IsCovered floor.now.description l.0 mode }
     requires word { IsWellFormed (word_of seen) }

@@ -15,11 +15,13 @@ pub mod May
 pub mod Taking
 pub mod OwnRecords
 pub mod Resting
+pub mod Tries
 pub mod Priorities
 pub mod Changing
 pub mod Replaying
 pub mod Finding
 pub mod Searching
+pub mod OwnCells
 pub mod AboutCells
 pub mod ChainPlaces
 pub mod ChainNames

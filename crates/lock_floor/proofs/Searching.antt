@@ -1,4 +1,4 @@
--- A binary search among the keys of a floor finds each of them, where its cell lies.
+-- A binary search among the keys of a floor finds each of them, where its cell lies, and no other.
 use Rattle.std.proofs.Common.{◌≡◌, ℕ, ◌+◌, ◌<◌, true, false, cond, List, length, get_or, is_lt, is_eq, Some, None, Result, Ok, Err, refl, sym, ap, ◌∙◌, subst, inl, inr, arith, lt-ltb}
 use Rattle.std.specs.List.{Contains, position, position_or_len, list_any}
 use Rattle.std.specs.List.Sorted.{IsSearchInRange, IsBinarySearchResult, IsPartitionPoint, IsSorted}
@@ -52,6 +52,11 @@ module _ (floor : Description) (sized : IsSized floor) (l key : ℕ) where
       position_or_len_is (is_cell l key) ks i d (omega (arith, low)) before (λ _. hit) in
       ap (λ n. cond (nat_lt n (length ks)) (Some n) None) first
       ∙ ap (λ b. cond b (Some i) None) (lt-ltb i (length ks) low)
+
+  -- what is found is one of them
+  pub named_at : (i : ℕ) → IsSearchInRange (Ok i) (length ks) → IsBinarySearchResult (λ y. place_cmp y q) ks (Ok i)
+      → Contains floor.keys (l, key)
+  named_at i low equal = (i, low, place_exact (get_or ks i q) q (equal q))
 
   nowhere : (i : ℕ) → IsPartitionPoint (λ y. place_cmp y q ≡ Less) (λ y. place_cmp y q ≡ Greater) ks i
       → list_any (is_cell l key) ks ≡ false

@@ -22,3 +22,4 @@ pub mod Relocks
 pub mod Ends
 pub mod Halting
 pub mod Queues
+pub mod Cells

@@ -16,13 +16,15 @@ ghost use Rattle.lock_floor.specs.Views.{gave};
 
 use crate::floor::FloorOf;
 use crate::pass::Pass;
-use crossbeam_utils::Backoff;
 use floor_table::{
     Board, Description, FloorSeat, Law, Slot, Tells, View, exchange, latch_spot, store,
 };
 use lock_model::ThreadNo;
 use std::marker::Brand;
-use std::sync::Wait;
+
+/// Why a call didn't go through that needs a value of the floor's table: another thread had it out.
+#[derive(Clone, Copy, Debug, PartialEq, Eq)]
+pub struct Out;
 
 impl FloorOf<Slot, View, Description, Law> {
     /// Takes the record of a thread, if it is at home. `false` comes only where another thread had it out at a moment
@@ -75,27 +77,6 @@ impl FloorOf<Slot, View, Description, Law> {
             → FindsOut self.now.description i pass.old.view pass.new.view }
     {
         take_latch::<Brand>(&self.board, &mut pass.seat, pass.who, slot) == 0
-    }
-
-    // Takes what a place has, when it is at home there.
-    pub(crate) fn take<R: Wait>(&self, rt: &R, pass: &mut Pass, slot: usize)
-        requires own { IsOf self.now pass.old }
-        requires may { (i : Item) × (slot_of self.now.description i ≡ Some slot)
-            × MayMake self.now.description pass.old.view (λ s. item_with s i ≡ None)
-            (TakesItem pass.old.view.thread i ∷ []) }
-        ensures own { IsOf self.now pass.new }
-        ensures out { (i : Item) → slot_of self.now.description i ≡ Some slot
-            → Takes self.now.description i slot pass.old.view pass.new.view }
-    {
-        let backoff = Backoff::new();
-        for _ in rt.forever() {
-            if self.try_take(pass, slot) {
-                return;
-            }
-            // it spins for a while, and then lets the system run whoever has it
-            backoff.snooze();
-        }
-        unreachable!()
     }
 
     // Gives back what was taken last.

@@ -1,5 +1,5 @@
 -- Tables as the map of the places that have a value: what it holds at a place, and after a change of one.
-use Rattle.std.proofs.Common.{◌≡◌, ℕ, ◌+◌, ◌<◌, length, take, get_or, Bool, true, false, cond, ◌||◌, ◌&&◌, List, [], ◌∷◌, Option, Some, None, is_some, T, refl, sym, ap, subst, ◌∙◌, arith, is_eq, is_lt, eqb}
+use Rattle.std.proofs.Common.{◌≡◌, ℕ, ◌+◌, ◌<◌, ◌^◌, length, take, get_or, Bool, true, false, cond, ◌||◌, ◌&&◌, List, [], ◌∷◌, Option, Some, None, is_some, T, refl, sym, ap, subst, ◌∙◌, arith, is_eq, is_lt, eqb}
 use Rattle.std.specs.Cmp.{IsEquivalence, Equal-is, tied_then, eq_by_cmp_equiv}
 use Rattle.std.specs.declared.cmp.Ordering.{Ordering}
 use Rattle.std.specs.declared.cmp.Ordering.TheVariants.{Less, Equal, Greater}
@@ -22,7 +22,7 @@ use Rattle.lock_model.specs.History.{place_cmp}
 use Rattle.lock_model.specs.Keys as naming
 use Rattle.lock_model.specs.Keys.{place_of, op_names}
 use Rattle.lock_model.specs.declared.plan.Op.{Op}
-use Rattle.lock_history.specs.Books.{filled, filled_on, place_eq, present_of, HasNoValue}
+use Rattle.lock_history.specs.Books.{changed, filled, filled_on, place_eq, present_of, HasNoValue}
 use Rattle.lock_history.proofs.Places.{place_total, place_exact}
 
 -- a place that is below each place is below each that has a value
@@ -220,3 +220,8 @@ module _ {S : Type 0} where
 -- a map without entries has nothing present
 pub nothing : present_of [] ≡ empty
 nothing = same_map place_total place_exact _ _ (λ q. get-from_sorted place_cmp [] q tt ∙ sym (get-empty place_cmp q))
+
+-- where nothing is present a number that is added is what is there then
+pub added_to_none : (adds : Bool) (n : ℕ) → n < 2 ^ 64 → n ≡ changed adds None n
+added_to_none true n h = grind arith
+added_to_none false n h = refl

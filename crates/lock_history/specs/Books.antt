@@ -1,12 +1,12 @@
 -- A log and tables, as contracts see them.
-use Rattle.std.specs.Prelude.{◌≡◌, ◌==◌, ◌&&◌, Bool, ℕ, List, [], ◌∷◌, Option, Some, None, IfSome, refl}
+use Rattle.std.specs.Prelude.{◌≡◌, ◌==◌, ◌&&◌, Bool, cond, ℕ, List, [], ◌∷◌, Option, Some, None, IfSome, refl}
 use Rattle.std.specs.Coded.{Coded, code_by, coded×, coded_list, coded_ℕ}
 use Rattle.std.specs.FinMap.{FinMap, code, from_sorted}
 use Rattle.std.specs.List.{Contains}
 use Rattle.std.specs.Option.{option_flatten}
 use Rattle.indexmap.specs.IndexMap.{IndexMap, get}
 use Rattle.lock_model.specs.Events.{facets}
-use Rattle.lock_model.specs.History.{place_cmp}
+use Rattle.lock_model.specs.History.{added, place_cmp}
 use Rattle.lock_model.specs.declared.event.Entry.{Entry}
 use Rattle.lock_model.specs.declared.event.Event.{Event}
 use Rattle.lock_model.specs.declared.event.OfTable.{OfTable}
@@ -50,6 +50,10 @@ place_eq p q = (p.0 == q.0) && (p.1 == q.1)
 -- a map that has no value at any place
 abbrev pub HasNoValue : {S : Type 0} → IndexMap (ℕ × ℕ) (Option ℕ) S → Type 0
 HasNoValue m = (p : ℕ × ℕ) → option_flatten (get place_eq m p) ≡ None
+
+-- what a key is set to: a number, or its sum with the value before
+abbrev pub changed : Bool → Option ℕ → ℕ → ℕ
+changed adds before n = cond adds (added before n) n
 
 -- a lock, a key and a value, as a map has them
 abbrev pub row_seen : LockNo × ℕ × ℕ → (ℕ × ℕ) × ℕ

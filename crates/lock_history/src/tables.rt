@@ -6,7 +6,7 @@ ghost use Rattle.std.specs.FinMap.{empty, get, insert, entries};
 ghost use Rattle.indexmap.specs.IndexMap as map;
 ghost use Rattle.lock_model.specs.History.{edited};
 ghost use Rattle.lock_model.specs.Keys.{op_names, plan_names};
-ghost use Rattle.lock_history.specs.Books.{filled, place_eq, row_seen, HasNoValue, HasRoom};
+ghost use Rattle.lock_history.specs.Books.{changed, filled, place_eq, row_seen, HasNoValue, HasRoom};
 
 use indexmap::IndexMap;
 use lock_model::{Event, LockNo, OfTable, Op, Plan};
@@ -81,7 +81,7 @@ impl Tables {
         ensures places { self.new.places ≡ self.old.places }
         ensures present { self.new.present ≡ insert self.old.present (l.0, key) value }
     {
-        self.set(l, key, value).unwrap();
+        self.change(l, key, false, value).unwrap();
     }
 
     /// Makes the change that an event says: it sets the key of a `Set`, adds to that of an `Added`, where an
@@ -93,11 +93,8 @@ impl Tables {
         ensures places { HasRoom self.old.places event → self.new.places ≡ self.old.places }
     {
         match event.at_table() {
-            OfTable::SetsTo { l, key, value } => self.set(l, key, value),
-            OfTable::AddsTo { l, key, amount } => {
-                let before = self.get(l, key).unwrap_or(0);
-                self.set(l, key, before.wrapping_add(amount))
-            }
+            OfTable::SetsTo { l, key, value } => self.change(l, key, false, value),
+            OfTable::AddsTo { l, key, amount } => self.change(l, key, true, amount),
             OfTable::NoTable | OfTable::Reads { .. } => Ok(()),
         }
     }
@@ -138,19 +135,19 @@ impl Tables {
         }
     }
 
-    // Sets a key, with room made where there was none.
-    pub(crate) fn set(&mut self, l: LockNo, key: u64, value: u64) -> Result<(), AllocError>
-        ensures present { OnOk result
-            (self.new.present ≡ insert self.old.present (l.0, key) value) }
+    // Sets a key to a number, or adds the number to what is there: one look, with room made where there was none.
+    fn change(&mut self, l: LockNo, key: u64, adds: bool, n: u64) -> Result<(), AllocError>
+        ensures present { OnOk result (self.new.present ≡ insert self.old.present (l.0, key)
+            (changed adds (get self.old.present (l.0, key)) n)) }
         ensures succeeds { Contains self.old.places (l.0, key) → IsOk result }
         ensures places { Contains self.old.places (l.0, key)
             → self.new.places ≡ self.old.places }
     {
         let place = (l.0, key);
         match self.slots.get_mut(&place) {
-            Some(slot) => *slot = Some(value),
+            Some(slot) => *slot = Some(changed(*slot, adds, n)),
             None => {
-                self.slots.insert_sorted(place, Some(value))?;
+                self.slots.insert_sorted(place, Some(n))?;
             }
         }
         Ok(())
@@ -161,6 +158,17 @@ impl Tables {
         ensures { entries self.now.present ≡ filled result.now.entries }
     {
         &self.slots
+    }
+}
+
+// What a key is set to: the number, or its sum with the value before, where none counts as 0.
+fn changed(before: Option<u64>, adds: bool, n: u64) -> u64
+    ensures { result ≡ changed adds before n }
+{
+    if adds {
+        before.unwrap_or(0).wrapping_add(n)
+    } else {
+        n
     }
 }
 

@@ -45,6 +45,7 @@ impl Marked {
     }
 
     /// Takes the first of them. `None` comes exactly where nobody is left.
+    #[inline(always)]
     pub fn pop(&mut self) -> Option<Woken>
         ensures none { IfNone result ((places_of self.old ≡ []) × (places_of self.new ≡ [])) }
         ensures some { IfSome result (λ w. IsFirst w self.old self.new) }
@@ -70,6 +71,7 @@ impl Woken {
 }
 
 /// One that was taken off a queue has its node back, with the object that it takes, and its record names no queue.
+#[inline(always)]
 pub fn wake(rec: &mut ThreadRec, woken: Woken)
     requires away { IsAway woken rec.old }
     requires holds { IsSome (node_of woken).place.object }

@@ -3,13 +3,9 @@
 ghost use Rattle.std.specs.Prelude.{◌≡◌, ◌++◌, IfOk, List, ℕ, OnOk, IsErrOf};
 ghost use Rattle.remarks.specs.Remarks.{AreRemarks};
 
-use crate::faults::of_fault;
-use crate::places::{line_at, text_of, word_at};
-use crate::refusals::of_refusal;
 use crate::shape::shaped;
-use crate::sleepers::of_stuck;
 use complaints::Status;
-use script_read::number_of;
+use remark_lines::{of_fault, of_refusal, of_stuck};
 use std::alloc::{AllocError, Global};
 
 /// The lines below the sentence: of a fault its cause, with the line and a mark below the place; of a reversal both
@@ -33,7 +29,7 @@ pub fn remarks(
     ensures { IfOk result (λ said. AreRemarks 8 said.items) }
 {
     let lines = match status {
-        Status::BadScript => of_no_script(alloc, source, text)?,
+        Status::BadScript => of_fault(alloc, source, text)?,
         Status::Stuck => of_stuck(alloc, source, text)?,
         Status::Reversed => of_refusal(alloc, source, text)?,
         Status::Done
@@ -45,16 +41,4 @@ pub fn remarks(
         | Status::Usage => Vec::new(alloc),
     };
     shaped(alloc, &lines)
-}
-
-// Of the line `line L code C`.
-fn of_no_script(alloc: Global, source: &[u8], text: &[u8]) -> Result<Vec<String>, AllocError> {
-    let line = text_of(line_at(text, 1));
-    let number = number_of(word_at(line, 1).as_bytes());
-    let code = number_of(word_at(line, 3).as_bytes());
-    let (Some(number), Some(code)) = (number, code) else {
-        return Ok(Vec::new(alloc));
-    };
-    let number = u32::try_from(number).unwrap_or(u32::MAX);
-    of_fault(alloc, source, number, code)
 }

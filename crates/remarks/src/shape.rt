@@ -3,13 +3,11 @@
 ghost use Rattle.std.specs.Prelude.{◌≡◌, ◌≤◌, ◌++◌, length, map, take, IfOk, OnOk};
 ghost use Rattle.remarks.specs.Remarks.{AreRemarks, shown_byte, shown_line};
 
+use remark_lines::LINES;
 use std::alloc::{AllocError, Global};
 
-/// The most lines that are said below the sentence.
-pub const LINES: usize = 8;
-
-/// The most bytes of a line.
-pub const LINE_BYTES: usize = 240;
+// The most bytes of a line.
+const LINE_BYTES: usize = 240;
 
 /// The first few of the lines, each with its end.
 pub fn shaped(alloc: Global, lines: &[String]) -> Result<Vec<u8>, AllocError>

@@ -1,5 +1,9 @@
-use Rattle.std.proofs.Common.{◌<◌, length, subst}
+use Rattle.std.proofs.Common.{◌<◌, length, [], sym, subst}
+use Rattle.floor_table.specs.Views.{Knowledge}
 use Rattle.floor_table.specs.declared.description.Description.{Description}
+use Rattle.lock_floor.specs.Marks.{with_marks}
+use Rattle.lock_floor.specs.Passes.{IsAtRest}
+use Rattle.lock_floor.proofs.Resting.{rest_seeing}
 use Rattle.cond_vars.specs.declared.waking.WakeNext.TheVariants.{Wake}
 use Rattle.cond_vars.proofs.Woken.{can_mark, rests_on}
 use Rattle.cond_vars.proofs.waking.go_on_waking.Goals as goal
@@ -25,3 +29,10 @@ returns-then-try_wake-clause-rest c =
           c.in-Some.ensures.of_floor,
       c.try_wake.ensures.woken c.if-try_wake.true,
     )
+
+pub returns-else-try_wake-clause-rest : goal.returns-else-try_wake-clause-rest
+returns-else-try_wake-clause-rest c =
+    let floor = c.args.floor.now.description in
+    let new = c.try_wake.new.pass.view in
+    subst (λ (k : Knowledge). IsAtRest floor (with_marks k [])) (sym (c.try_wake.ensures.left c.if-try_wake.false))
+    (rest_seeing floor (with_marks c.args.pass.now.view []) new.seen c.requires.rest)

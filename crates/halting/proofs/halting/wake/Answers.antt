@@ -1,6 +1,6 @@
 use Rattle.std.proofs.Common.{sym, ap, ◌∙◌}
 use Rattle.floor_table.specs.Views.{Knowledge}
-use Rattle.halting.proofs.Woken.{somebody, told_stays, told_may_count, told_may_mark, told_last, told_give, told_wakes, told_may_mark_own, told_own_last, told_own_give, told_wakes_own}
+use Rattle.halting.proofs.Woken.{somebody, told_may_take, told_stays, told_may_count, told_may_mark, told_last, told_give, told_wakes, told_may_mark_own, told_own_last, told_own_give, told_wakes_own}
 use Rattle.halting.proofs.halting.wake.Goals as goal
 
 pub unreachable-requires : goal.unreachable-requires
@@ -105,3 +105,8 @@ returns-else-number-own-clause-went c =
     c.mark-else-number-own.new.pass.view c.mark-else-number-own.ensures.marks
     c.give_rec-else-number-own.new.pass.view c.give_rec-else-number-own.ensures.view
     c.give_rec-else-number-own.ensures.step
+
+pub try_take_rec-requires-clause-may : goal.try_take_rec-requires-clause-may
+try_take_rec-requires-clause-may c =
+    told_may_take c.args.floor.now.description c.args.over c.args.itself c.args.pass.now.view c.requires.there.0
+    c.requires.there.1.0 c.requires.there.1.1 c.in-Some.t.0 c.in-Some.ensures.some

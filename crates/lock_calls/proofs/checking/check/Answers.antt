@@ -1,8 +1,9 @@
-use Rattle.std.proofs.Common.{◌≡◌, Some, None, IfOk, IfErr, subst}
+use Rattle.std.proofs.Common.{◌≡◌, Some, None, IfOk, IfErr, subst, arith}
+use Rattle.lock_model.specs.Words.{word_of}
 use Rattle.lock_model.specs.declared.event.Reversal.{Reversal}
 use Rattle.floor_table.specs.Descriptions.{config_in}
 use Rattle.lock_floor.specs.Ordering.{ChecksOrder}
-use Rattle.lock_calls.proofs.Checked.{stays_checking, gained_checked, ends_checked, spins_checked}
+use Rattle.lock_calls.proofs.Checked.{stays_checking, may_seek_on, gained_checked, ends_checked, spins_checked}
 use Rattle.lock_calls.proofs.Refused.{may_note_refusal, is_refused}
 use Rattle.lock_calls.proofs.checking.check.Goals as goal
 
@@ -22,8 +23,8 @@ returns-in-None-clause-on c =
 
 -- 1. It was admitted
 
-pub returns-then-seek-clause-gained : goal.returns-then-seek-clause-gained
-returns-then-seek-clause-gained c =
+pub returns-in-Ok-clause-gained : goal.returns-in-Ok-clause-gained
+returns-in-Ok-clause-gained c =
     let floor = c.args.floor.now.description in
     let l = c.args.l in
     let mode = c.args.mode in
@@ -31,11 +32,10 @@ returns-then-seek-clause-gained c =
     let mid = c.try_order.new.pass.view in
     let checked = subst (λ r. IfOk r (λ x. ChecksOrder floor l.0 None old mid)) c.in-Some-Ok.field-0-is
     c.in-Some-Ok.ensures.admitted in
-    gained_checked floor l mode old mid c.requires.under_way.there checked c.seek.new.pass.view
-    (c.seek.ensures.gained c.if-seek.true)
+    gained_checked floor l mode old mid c.requires.under_way.there checked c.seek.new.pass.view c.in-Ok.ensures.gained
 
-pub returns-then-seek-clause-end : goal.returns-then-seek-clause-end
-returns-then-seek-clause-end c =
+pub returns-in-Ok-clause-end : goal.returns-in-Ok-clause-end
+returns-in-Ok-clause-end c =
     let floor = c.args.floor.now.description in
     let l = c.args.l in
     let mode = c.args.mode in
@@ -43,18 +43,21 @@ returns-then-seek-clause-end c =
     let mid = c.try_order.new.pass.view in
     let checked = subst (λ r. IfOk r (λ x. ChecksOrder floor l.0 None old mid)) c.in-Some-Ok.field-0-is
     c.in-Some-Ok.ensures.admitted in
-    ends_checked floor l mode old mid c.requires.under_way.there checked c.seek.new.pass.view
-    (c.seek.ensures.gained c.if-seek.true)
+    ends_checked floor l mode old mid c.requires.under_way.there checked c.seek.new.pass.view c.in-Ok.ensures.gained
 
-pub returns-else-seek-clause-on : goal.returns-else-seek-clause-on
-returns-else-seek-clause-on c =
+pub looks_left-left-requires-clause-covered : goal.looks_left-left-requires-clause-covered
+looks_left-left-requires-clause-covered c = c.requires.under_way.covered
+
+pub returns-in-Err-clause-on : goal.returns-in-Err-clause-on
+returns-in-Err-clause-on c =
     let floor = c.args.floor.now.description in
     let old = c.args.pass.now.view in
     let mid = c.try_order.new.pass.view in
     let checked = subst (λ r. IfOk r (λ x. ChecksOrder floor c.args.l.0 None old mid)) c.in-Some-Ok.field-0-is
     c.in-Some-Ok.ensures.admitted in
-    spins_checked floor c.args.l c.args.mode old mid c.requires.under_way.there checked c.seek.new.pass.view
-    (c.seek.ensures.begun c.if-seek.false)
+    spins_checked floor c.args.l c.args.mode old mid c.requires.under_way.there checked (word_of c.in-Err.found) 49
+    c.looks_left-left.result (omega arith) c.seek.new.pass.view c.looks_left-left.new.pass.view c.in-Err.ensures.begun
+    c.looks_left-left.ensures.leaves
 
 -- 2. It was refused
 
@@ -82,3 +85,12 @@ returns-in-Some-Err-clause-refused c =
     c.in-Some-Err.field-0-is c.in-Some-Err.ensures.wanted in
     is_refused floor l r old mid u.calling u.there checked u.room wanted c.stamp.new.pass.view c.stamp.result
     c.stamp.ensures.view c.stamp.ensures.step
+
+pub seek-requires-clause-may : goal.seek-requires-clause-may
+seek-requires-clause-may c =
+    let floor = c.args.floor.now.description in
+    let old = c.args.pass.now.view in
+    let mid = c.try_order.new.pass.view in
+    let checked = subst (λ r. IfOk r (λ x. ChecksOrder floor c.args.l.0 None old mid)) c.in-Some-Ok.field-0-is
+    c.in-Some-Ok.ensures.admitted in
+    may_seek_on floor c.args.l c.args.mode old mid c.requires.under_way.there checked

@@ -12,6 +12,6 @@ seek_gain-requires-clause-may_look c =
     c.requires.may
 
 pub returns-in-Err-clause-begun : goal.returns-in-Err-clause-begun
-returns-in-Err-clause-begun c = λ e.
+returns-in-Err-clause-begun c =
     has_begun c.args.floor.now.description c.args.l.0 c.args.pass.now.view c.requires.may c.seek_gain.new.pass.view
-    c.in-Err.field-0 c.in-Err.ensures.found.0 c.in-Err.ensures.looked c.in-Err.ensures.looks
+    c.in-Err.found c.in-Err.ensures.found.0 c.in-Err.ensures.looked c.in-Err.ensures.looks

@@ -1,9 +1,9 @@
-use Rattle.std.proofs.Common.{refl, sym, ap, ◌∙◌}
+use Rattle.std.proofs.Common.{arith, refl, sym, ap, ◌∙◌}
 use Rattle.lock_model.specs.Words.{word_of}
 use Rattle.floor_table.specs.Descriptions.{config_in}
 use Rattle.floor_table.specs.Views.{Knowledge}
 use Rattle.lock_calls.specs.Choices.{course}
-use Rattle.lock_calls.proofs.Attempts.{may_gain_there, spun_once, seeking_on, spun_more, spun_gains, looked_alone, tried_too, no_plain}
+use Rattle.lock_calls.proofs.Attempts.{may_gain_there, may_look_there, looks_spun, spun_once, seeking_on, spun_more, spun_gains, looked_alone, tried_too, no_plain}
 use Rattle.lock_calls.proofs.Chosen.{gains_plainly, may_be_gained}
 use Rattle.lock_calls.proofs.Words.{saw_others}
 use Rattle.lock_calls.proofs.spinning.attempt.Goals as goal
@@ -75,3 +75,15 @@ returns-in-ByClaim-clause-spun c =
           (ap (λ (k : Knowledge). k.share.doing.last_look) c.look-seen.ensures.view),
       x,
     )
+
+pub gain-requires-clause-may_look : goal.gain-requires-clause-may_look
+gain-requires-clause-may_look c =
+    let floor = c.args.floor.now.description in
+    let l = c.args.l.0 in
+    let old = c.args.pass.now.view in
+    let mid = c.look-seen.new.pass.view in
+    let x = spun_once floor l old c.requires.may mid (word_of c.look-seen.result) c.look-seen.ensures.view
+    c.look-seen.ensures.step in
+    let looks = looks_spun floor l 1 old mid x in
+    may_look_there floor l mid (seeking_on floor l 1 old mid x c.requires.may) c.look-seen.ensures.own.description
+    c.requires.covered.lock (omega (arith, looks, c.requires.room))

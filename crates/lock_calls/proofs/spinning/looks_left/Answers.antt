@@ -5,7 +5,7 @@ use Rattle.lock_model.specs.declared.plan.Kind.TheVariants.{Mtx, Rw, Sx}
 use Rattle.lock_calls.specs.Choices.{course}
 use Rattle.lock_calls.specs.declared.courses.Course.{Course}
 use Rattle.lock_calls.specs.declared.courses.Course.TheVariants.{Plainly, ByClaim, MustWait}
-use Rattle.lock_calls.specs.Rounds.{AsksOwner, of_mutex, of_shared}
+use Rattle.lock_calls.specs.Rounds.{AsksOwner, of_mutex, of_shareable}
 use Rattle.lock_calls.specs.Takes.{again, for_claim, owner_queued}
 use Rattle.lock_calls.proofs.spinning.looks_left.Goals as goal
 
@@ -42,5 +42,5 @@ pub returns-in-Rw-clause-leaves : goal.returns-in-Rw-clause-leaves
 returns-in-Rw-clause-leaves c =
     let said = sym (ap (λ k. course k (word_of c.args.seen) c.args.mode) c.kind-kind.ensures)
     ∙ sym c.course_of.ensures in
-    again (of_shared (λ e. no_mutex c.kind-kind.result c.in-Rw.is (c.kind-kind.ensures ∙ e))
+    again (of_shareable (λ e. no_mutex c.kind-kind.result c.in-Rw.is (c.kind-kind.ensures ∙ e))
     (λ e. others c.course_of.result c.in-Plainly.is (sym said ∙ e)))

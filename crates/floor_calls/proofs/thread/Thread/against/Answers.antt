@@ -1,41 +1,35 @@
-use Rattle.std.proofs.Common.{sym, subst}
-use Rattle.floor_calls.specs.Causes.{Says, causes}
-use Rattle.floor_calls.specs.First.{IsFirst}
-use Rattle.floor_calls.specs.declared.requests.Cause.{Cause}
-use Rattle.floor_calls.specs.declared.requests.Request.{Request}
+use Rattle.floor_calls.proofs.Answered.{against_named}
 use Rattle.floor_calls.proofs.thread.Thread.against.Goals as goal
 
 pub returns-in-Take : goal.returns-in-Take
-returns-in-Take c =
-    subst (λ (r : Request). IsFirst (λ (q : Cause). Says q c.args.self.now) (causes r) c.against_gain.result)
-    (sym c.in-Take.is) c.against_gain.ensures
+returns-in-Take c = against_named c.args.self.now c.in-Take.is c.against_gain.ensures
 
 pub returns-in-Try : goal.returns-in-Try
-returns-in-Try c =
-    subst (λ (r : Request). IsFirst (λ (q : Cause). Says q c.args.self.now) (causes r) c.against_gain-in-Try.result)
-    (sym c.in-Try.is) c.against_gain-in-Try.ensures
+returns-in-Try c = against_named c.args.self.now c.in-Try.is c.against_gain-in-Try.ensures
 
 pub returns-in-Release : goal.returns-in-Release
-returns-in-Release c =
-    subst (λ (r : Request). IsFirst (λ (q : Cause). Says q c.args.self.now) (causes r) c.first.result)
-    (sym c.in-Release.is) c.first.ensures
+returns-in-Release c = against_named c.args.self.now c.in-Release.is c.first.ensures
+
+pub returns-in-Edit : goal.returns-in-Edit
+returns-in-Edit c = against_named c.args.self.now c.in-Edit.is c.first-in-Edit.ensures
+
+pub returns-in-Read : goal.returns-in-Read
+returns-in-Read c = against_named c.args.self.now c.in-Read.is c.first-in-Read.ensures
+
+pub returns-in-SetBase : goal.returns-in-SetBase
+returns-in-SetBase c = against_named c.args.self.now c.in-SetBase.is c.first-in-SetBase.ensures
+
+pub returns-in-Show : goal.returns-in-Show
+returns-in-Show c = against_named c.args.self.now c.in-Show.is c.first-in-Show.ensures
 
 pub returns-in-WakeUp : goal.returns-in-WakeUp
-returns-in-WakeUp c =
-    subst (λ (r : Request). IsFirst (λ (q : Cause). Says q c.args.self.now) (causes r) c.first-in-WakeUp.result)
-    (sym c.in-WakeUp.is) c.first-in-WakeUp.ensures
-
-pub returns-in-End : goal.returns-in-End
-returns-in-End c =
-    subst (λ (r : Request). IsFirst (λ (q : Cause). Says q c.args.self.now) (causes r) c.first-in-End.result)
-    (sym c.in-End.is) c.first-in-End.ensures
-
-pub returns-in-GoOn : goal.returns-in-GoOn
-returns-in-GoOn c =
-    subst (λ (r : Request). IsFirst (λ (q : Cause). Says q c.args.self.now) (causes r) c.first-in-GoOn.result)
-    (sym c.in-GoOn.is) c.first-in-GoOn.ensures
+returns-in-WakeUp c = against_named c.args.self.now c.in-WakeUp.is c.first-in-WakeUp.ensures
 
 pub returns-in-Wait : goal.returns-in-Wait
-returns-in-Wait c =
-    subst (λ (r : Request). IsFirst (λ (q : Cause). Says q c.args.self.now) (causes r) c.first-in-Wait.result)
-    (sym c.in-Wait.is) c.first-in-Wait.ensures
+returns-in-Wait c = against_named c.args.self.now c.in-Wait.is c.first-in-Wait.ensures
+
+pub returns-in-End : goal.returns-in-End
+returns-in-End c = against_named c.args.self.now c.in-End.is c.first-in-End.ensures
+
+pub returns-in-GoOn : goal.returns-in-GoOn
+returns-in-GoOn c = against_named c.args.self.now c.in-GoOn.is c.first-in-GoOn.ensures

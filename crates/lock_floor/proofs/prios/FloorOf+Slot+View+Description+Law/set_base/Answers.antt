@@ -1,105 +1,33 @@
-use Rattle.std.proofs.Common.{◌≤◌, [], ◌∷◌, refl, sym, ap, subst, ◌∙◌}
+use Rattle.std.proofs.Common.{◌≤◌, sym, subst}
 use Rattle.lock_model.specs.declared.event.Event.TheVariants.{Base}
 use Rattle.lock_state.specs.Steps.Items.{RecordOf}
-use Rattle.floor_table.specs.Descriptions.{config_in}
 use Rattle.floor_table.specs.Views.{Knowledge}
-use Rattle.lock_floor.specs.Views.{entry_by}
-use Rattle.lock_floor.proofs.May.{may_give}
-use Rattle.lock_floor.proofs.Priorities.{record_out, may_take_own, may_base}
-use Rattle.lock_floor.proofs.Resting.{Used, uses_change, taken_out, changed_out, wake_gone}
-use Rattle.lock_floor.proofs.prios.FloorOf+Slot+View+Description+Law.set_base.Given as given
+use Rattle.lock_floor.proofs.Taking.{waits_none, waits_on}
+use Rattle.lock_floor.proofs.Tries.{entry_then, steps_then}
 use Rattle.lock_floor.proofs.prios.FloorOf+Slot+View+Description+Law.set_base.Goals as goal
 
-pub take-requires-clause-may : goal.take-requires-clause-may
-take-requires-clause-may g c = (
-  RecordOf c.args.pass.now.view.thread,
-  c.record_slot-slot.ensures,
-  may_take_own c.args.self.now.description
-      c.args.pass.now.view c.requires.ready.rest,
-)
+pub try_set_base-requires-clause-room : goal.try_set_base-requires-clause-room
+try_set_base-requires-clause-room g c =
+    subst (λ (k : Knowledge). 1 ≤ k.spare) (sym c.loop.invariant.waited.view) c.requires.room
 
-pub stamp_change-requires-clause-room : goal.stamp_change-requires-clause-room
-stamp_change-requires-clause-room g c =
-    let v : Knowledge = c.args.pass.now.view in
-    let taken = c.take.ensures.out (RecordOf v.thread) c.record_slot-slot.ensures in
-    subst (λ (w : Knowledge). 1 ≤ w.spare) (sym taken.view) c.requires.room
+pub loop-init : goal.loop-init
+loop-init g c = record { ready = c.requires.ready; waited = waits_none c.args.pass.now.view }
 
-pub stamp_change-requires-clause-item : goal.stamp_change-requires-clause-item
-stamp_change-requires-clause-item g c =
-    let v : Knowledge = c.args.pass.now.view in
-    let place = c.record_slot-slot.ensures in
-    let taken = c.take.ensures.out (RecordOf v.thread) place in
-    (RecordOf v.thread, ap (λ (w : Knowledge). RecordOf w.thread ∷ []) taken.view, place)
+pub loop-preserved : goal.loop-preserved
+loop-preserved g c = record {
+  ready = c.try_set_base.ensures.ready;
+  waited = waits_on c.args.self.now.description (RecordOf c.loop.pass.view.thread) c.args.pass.now.view
+      c.loop.pass.view c.try_set_base.new.pass.view c.loop.invariant.waited c.in-Err.ensures.left
+      c.in-Err.ensures.elsewhere;
+}
 
-pub stamp_change-requires-clause-last : goal.stamp_change-requires-clause-last
-stamp_change-requires-clause-last g c =
-    let v : Knowledge = c.args.pass.now.view in
-    let j = c.record_slot-slot.result in
-    let taken = c.take.ensures.out (RecordOf v.thread) c.record_slot-slot.ensures in
-    (taken.value, taken_out c.args.self.now.description v c.take.new.pass.view (RecordOf v.thread) j taken)
+pub returns-in-Ok-clause-entry : goal.returns-in-Ok-clause-entry
+returns-in-Ok-clause-entry g c =
+    entry_then c.args.self.now.description c.args.pass.now.view c.loop.pass.view c.try_set_base.new.pass.view
+    c.loop.invariant.waited (Base c.args.prio) c.in-Ok.ensures.entry
 
-pub stamp_change-requires-clause-may : goal.stamp_change-requires-clause-may
-stamp_change-requires-clause-may g c =
-    let floor = c.args.self.now.description in
-    let v : Knowledge = c.args.pass.now.view in
-    let j = c.record_slot-slot.result in
-    let place = c.record_slot-slot.ensures in
-    let taken = c.take.ensures.out (RecordOf v.thread) place in
-    let out = record_out floor v.thread j v c.take.new.pass.view taken in
-    may_base floor v c.take.new.pass.view j out.0 place c.requires.ready.rest taken out.1 c.args.prio
-
-pub give-requires-clause-last : goal.give-requires-clause-last
-give-requires-clause-last g c =
-    let floor = c.args.self.now.description in
-    let v : Knowledge = c.args.pass.now.view in
-    let j = c.record_slot-slot.result in
-    let taken = c.take.ensures.out (RecordOf v.thread) c.record_slot-slot.ensures in
-    let entry = entry_by c.take.new.pass.view.thread c.stamp_change.result (Base c.args.prio) in
-    let out = changed_out (config_in floor) floor v c.take.new.pass.view c.stamp_change.new.pass.view
-    (RecordOf v.thread) j entry taken c.stamp_change.ensures.view in
-    (_, out)
-
-pub give-requires-clause-may : goal.give-requires-clause-may
-give-requires-clause-may g c =
-    let floor = c.args.self.now.description in
-    let v : Knowledge = c.args.pass.now.view in
-    let j = c.record_slot-slot.result in
-    let place = c.record_slot-slot.ensures in
-    let taken = c.take.ensures.out (RecordOf v.thread) place in
-    let entry = entry_by c.take.new.pass.view.thread c.stamp_change.result (Base c.args.prio) in
-    let out = changed_out (config_in floor) floor v c.take.new.pass.view c.stamp_change.new.pass.view
-    (RecordOf v.thread) j entry taken c.stamp_change.ensures.view in (
-      RecordOf v.thread,
-      place,
-      may_give floor c.stamp_change.new.pass.view (RecordOf v.thread) j _ place out refl
-          (ap (λ (w : Knowledge). w.pose) c.stamp_change.ensures.view ∙ ap (λ (w : Knowledge). w.pose) taken.view
-          ∙ c.requires.ready.rest.runs)
-          (ap (λ (w : Knowledge). w.share.doing.phase) c.stamp_change.ensures.view
-          ∙ ap (λ (w : Knowledge). w.share.doing.phase) taken.view ∙ c.requires.ready.rest.going.awake)
-          (ap (λ (w : Knowledge). w.share.doing.unstamped) c.stamp_change.ensures.view
-          ∙ wake_gone (Base c.args.prio) _
-          (ap (λ (w : Knowledge). w.share.doing.unstamped) taken.view ∙ c.requires.ready.rest.going.stamped))
-          (ap (λ (w : Knowledge). w.share.doing.counting) c.stamp_change.ensures.view
-          ∙ ap (λ (w : Knowledge). w.share.doing.counting) taken.view ∙ c.requires.ready.rest.uncounted),
-    )
-
-used : (g : given.Over) (c : goal.After-give g)
-    → Used c.args.self.now (RecordOf c.args.pass.now.view.thread) (Base c.args.prio) c.args.pass.now c.give.new.pass
-used g c =
-    let f = c.args.self.now in
-    let i = RecordOf c.args.pass.now.view.thread in
-    let j = c.record_slot-slot.result in
-    let place = c.record_slot-slot.ensures in
-    uses_change f i j (Base c.args.prio) refl refl c.args.pass.now c.take.new.pass c.stamp_change.new.pass
-    c.give.new.pass c.stamp_change.result c.requires.ready c.requires.room (c.take.ensures.out i place)
-    c.stamp_change.ensures.view c.stamp_change.ensures.step c.give.ensures.own (c.give.ensures.view i place)
-    (c.give.ensures.step i place)
-
-pub returns-clause-ready : goal.returns-clause-ready
-returns-clause-ready g c = (used g c).ready
-
-pub returns-clause-entry : goal.returns-clause-entry
-returns-clause-entry g c = (used g c).entry
-
-pub returns-clause-steps : goal.returns-clause-steps
-returns-clause-steps g c = (used g c).steps
+pub returns-in-Ok-clause-steps : goal.returns-in-Ok-clause-steps
+returns-in-Ok-clause-steps g c =
+    steps_then c.args.self.now.description c.args.pass.now.view c.loop.pass.view c.try_set_base.new.pass.view
+    c.loop.invariant.waited RecordOf (Base c.args.prio)
+    c.in-Ok.ensures.steps

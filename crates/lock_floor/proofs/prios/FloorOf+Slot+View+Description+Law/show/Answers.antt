@@ -1,114 +1,33 @@
-use Rattle.std.proofs.Common.{◌≡◌, ◌≤◌, [], ◌∷◌, refl, sym, ap, ◌∙◌, subst}
-use Rattle.atomic_table.specs.Table.{rest}
+use Rattle.std.proofs.Common.{◌≤◌, sym, subst}
 use Rattle.lock_model.specs.declared.event.Event.TheVariants.{Shown}
-use Rattle.lock_state.specs.Steps.{Stamps}
 use Rattle.lock_state.specs.Steps.Items.{RecordOf}
-use Rattle.floor_table.specs.Steps.{MayMake}
 use Rattle.floor_table.specs.Views.{Knowledge}
-use Rattle.lock_floor.specs.Floors.{Pass}
-use Rattle.lock_floor.specs.Latches.{Takes}
-use Rattle.lock_floor.proofs.May.{may_give}
-use Rattle.lock_floor.proofs.Priorities.{record_out, may_take_own, may_show}
-use Rattle.lock_floor.proofs.Resting.{Used, uses, wake_gone}
-use Rattle.lock_floor.proofs.prios.FloorOf+Slot+View+Description+Law.show.Given as given
+use Rattle.lock_floor.proofs.Taking.{waits_none, waits_on}
+use Rattle.lock_floor.proofs.Tries.{entry_then, steps_then}
 use Rattle.lock_floor.proofs.prios.FloorOf+Slot+View+Description+Law.show.Goals as goal
 
-pub take-requires-clause-may : goal.take-requires-clause-may
-take-requires-clause-may g c = (
-  RecordOf c.args.pass.now.view.thread,
-  c.record_slot-slot.ensures,
-  may_take_own c.args.self.now.description
-      c.args.pass.now.view c.requires.ready.rest,
-)
+pub try_show-requires-clause-room : goal.try_show-requires-clause-room
+try_show-requires-clause-room g c =
+    subst (λ (k : Knowledge). 1 ≤ k.spare) (sym c.loop.invariant.waited.view) c.requires.room
 
-pub priorities-requires-clause-last : goal.priorities-requires-clause-last
-priorities-requires-clause-last g c =
-    let v : Knowledge = c.args.pass.now.view in
-    record_out c.args.self.now.description v.thread c.record_slot-slot.result v c.take.new.pass.view
-    (c.take.ensures.out (RecordOf v.thread) c.record_slot-slot.ensures)
+pub loop-init : goal.loop-init
+loop-init g c = record { ready = c.requires.ready; waited = waits_none c.args.pass.now.view }
 
-pub stamp-requires-clause-room : goal.stamp-requires-clause-room
-stamp-requires-clause-room g c =
-    let v : Knowledge = c.args.pass.now.view in
-    let taken = c.take.ensures.out (RecordOf v.thread) c.record_slot-slot.ensures in
-    subst (λ (w : Knowledge). 1 ≤ w.spare)
-    (sym (ap (λ (p : Pass Knowledge). p.view) c.priorities.ensures.same ∙ taken.view)) c.requires.room
+pub loop-preserved : goal.loop-preserved
+loop-preserved g c = record {
+  ready = c.try_show.ensures.ready;
+  waited = waits_on c.args.self.now.description (RecordOf c.loop.pass.view.thread) c.args.pass.now.view
+      c.loop.pass.view c.try_show.new.pass.view c.loop.invariant.waited c.in-Err.ensures.left
+      c.in-Err.ensures.elsewhere;
+}
 
-pub stamp-requires-clause-may : goal.stamp-requires-clause-may
-stamp-requires-clause-may g c =
-    let floor = c.args.self.now.description in
-    let v : Knowledge = c.args.pass.now.view in
-    let j = c.record_slot-slot.result in
-    let place = c.record_slot-slot.ensures in
-    let taken = c.take.ensures.out (RecordOf v.thread) place in
-    let out = record_out floor v.thread j v c.take.new.pass.view taken in
-    let shown = c.priorities.ensures.shown out.0 out.1 in
-    let base = c.priorities.result.0 in
-    let effective = c.priorities.result.1 in
-    subst (λ (p : Pass Knowledge). MayMake floor p.view (λ s. Unit {0})
-    (Stamps p.view.thread (Shown base effective) ∷ [])) (sym c.priorities.ensures.same)
-    (may_show floor v c.take.new.pass.view j out.0 place c.requires.ready.rest taken out.1 base effective shown.0
-    shown.1)
+pub returns-in-Ok-clause-entry : goal.returns-in-Ok-clause-entry
+returns-in-Ok-clause-entry g c =
+    entry_then c.args.self.now.description c.args.pass.now.view c.loop.pass.view c.try_show.new.pass.view
+    c.loop.invariant.waited (Shown c.in-Ok.prios.0 c.in-Ok.prios.1) c.in-Ok.ensures.entry
 
-pub give-requires-clause-last : goal.give-requires-clause-last
-give-requires-clause-last g c =
-    let v : Knowledge = c.args.pass.now.view in
-    let j = c.record_slot-slot.result in
-    let taken = c.take.ensures.out (RecordOf v.thread) c.record_slot-slot.ensures in
-    let same = ap (λ (w : Knowledge). w.out) c.stamp.ensures.view
-    ∙ ap (λ (p : Pass Knowledge). p.view.out) c.priorities.ensures.same
-    ∙ ap (λ (w : Knowledge). w.out) taken.view in
-    (taken.value, subst (λ o. o ≡ (j, taken.value) ∷ rest o) (sym same) refl)
-
-pub give-requires-clause-may : goal.give-requires-clause-may
-give-requires-clause-may g c =
-    let floor = c.args.self.now.description in
-    let v : Knowledge = c.args.pass.now.view in
-    let j = c.record_slot-slot.result in
-    let place = c.record_slot-slot.ensures in
-    let taken = c.take.ensures.out (RecordOf v.thread) place in
-    let same = ap (λ (w : Knowledge). w.out) c.stamp.ensures.view
-    ∙ ap (λ (p : Pass Knowledge). p.view.out) c.priorities.ensures.same
-    ∙ ap (λ (w : Knowledge). w.out) taken.view in (
-      RecordOf v.thread,
-      place,
-      may_give floor c.stamp.new.pass.view (RecordOf v.thread) j taken.value place
-          (subst (λ o. o ≡ (j, taken.value) ∷ rest o) (sym same) refl) refl
-          (ap (λ (w : Knowledge). w.pose) c.stamp.ensures.view
-          ∙ ap (λ (p : Pass Knowledge). p.view.pose) c.priorities.ensures.same
-          ∙ ap (λ (w : Knowledge). w.pose) taken.view ∙ c.requires.ready.rest.runs)
-          (ap (λ (w : Knowledge). w.share.doing.phase) c.stamp.ensures.view
-          ∙ ap (λ (p : Pass Knowledge). p.view.share.doing.phase) c.priorities.ensures.same
-          ∙ ap (λ (w : Knowledge). w.share.doing.phase) taken.view ∙ c.requires.ready.rest.going.awake)
-          (ap (λ (w : Knowledge). w.share.doing.unstamped) c.stamp.ensures.view
-          ∙ wake_gone (Shown c.priorities.result.0 c.priorities.result.1) _
-          (ap (λ (p : Pass Knowledge). p.view.share.doing.unstamped) c.priorities.ensures.same
-          ∙ ap (λ (w : Knowledge). w.share.doing.unstamped) taken.view ∙ c.requires.ready.rest.going.stamped))
-          (ap (λ (w : Knowledge). w.share.doing.counting) c.stamp.ensures.view
-          ∙ ap (λ (p : Pass Knowledge). p.view.share.doing.counting) c.priorities.ensures.same
-          ∙ ap (λ (w : Knowledge). w.share.doing.counting) taken.view ∙ c.requires.ready.rest.uncounted),
-    )
-
-used : (g : given.Over) (c : goal.After-give g)
-    → Used c.args.self.now (RecordOf c.args.pass.now.view.thread) (Shown c.priorities.result.0 c.priorities.result.1)
-    c.args.pass.now c.give.new.pass
-used g c =
-    let f = c.args.self.now in
-    let i = RecordOf c.args.pass.now.view.thread in
-    let j = c.record_slot-slot.result in
-    let place = c.record_slot-slot.ensures in
-    let taken = subst (λ (p : Pass Knowledge). Takes f.description i j c.args.pass.now.view p.view)
-    (sym c.priorities.ensures.same) (c.take.ensures.out i place) in
-    uses f i j (Shown c.priorities.result.0 c.priorities.result.1) refl refl c.args.pass.now c.priorities.new.pass
-    c.stamp.new.pass c.give.new.pass c.stamp.result c.requires.ready c.requires.room taken
-    c.stamp.ensures.view c.stamp.ensures.step c.give.ensures.own (c.give.ensures.view i place)
-    (c.give.ensures.step i place)
-
-pub returns-clause-ready : goal.returns-clause-ready
-returns-clause-ready g c = (used g c).ready
-
-pub returns-clause-entry : goal.returns-clause-entry
-returns-clause-entry g c = (used g c).entry
-
-pub returns-clause-steps : goal.returns-clause-steps
-returns-clause-steps g c = (used g c).steps
+pub returns-in-Ok-clause-steps : goal.returns-in-Ok-clause-steps
+returns-in-Ok-clause-steps g c =
+    steps_then c.args.self.now.description c.args.pass.now.view c.loop.pass.view c.try_show.new.pass.view
+    c.loop.invariant.waited RecordOf (Shown c.in-Ok.prios.0 c.in-Ok.prios.1)
+    c.in-Ok.ensures.steps

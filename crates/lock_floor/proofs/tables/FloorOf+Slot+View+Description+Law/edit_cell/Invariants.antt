@@ -1,9 +1,9 @@
-use Rattle.lock_floor.specs.Passes.{IsOf}
+use Rattle.lock_floor.specs.Passes.{IsReady}
 use Rattle.lock_floor.proofs.Taking.{HasWaited}
-use Rattle.lock_floor.proofs.latches.FloorOf+Slot+View+Description+Law.take.Given as goal
+use Rattle.lock_floor.proofs.tables.FloorOf+Slot+View+Description+Law.edit_cell.Given as goal
 
 abbrev pub invariant-loop : goal.invariant-loop
 invariant-loop g l = record {
-  own : IsOf l.self l.pass;
+  ready : IsReady l.self l.pass;
   waited : HasWaited l.initial.pass.view l.pass.view;
 }

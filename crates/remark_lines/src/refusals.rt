@@ -1,8 +1,8 @@
 //! What is said of a take that was refused for its order: both locks with their classes, and the takes that put the
 //! class of the wanted one before that of the held one.
 
+use crate::LINES;
 use crate::replay::{Order, Refusal, Replay, class_of, replay_of};
-use crate::shape::LINES;
 use lock_model::limits;
 use std::alloc::{AllocError, Global};
 

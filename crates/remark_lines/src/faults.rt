@@ -6,11 +6,23 @@ use crate::excerpt::excerpt_of;
 use crate::finding::{Fault, Finding};
 use crate::places::{line_at, place_of, text_of, word_at};
 use crate::verbs::verb_of;
-use script_read::split_line;
+use script_read::{number_of, split_line};
 use std::alloc::{AllocError, Global};
 
-/// What is said of the fault with that code in the line of that number.
-pub fn of_fault(
+/// The lines of a fault, which the text `line L code C` names: its cause, and the line with a mark below the place.
+pub fn of_fault(alloc: Global, source: &[u8], text: &[u8]) -> Result<Vec<String>, AllocError> {
+    let line = text_of(line_at(text, 1));
+    let number = number_of(word_at(line, 1).as_bytes());
+    let code = number_of(word_at(line, 3).as_bytes());
+    let (Some(number), Some(code)) = (number, code) else {
+        return Ok(Vec::new(alloc));
+    };
+    let number = u32::try_from(number).unwrap_or(u32::MAX);
+    of_code(alloc, source, number, code)
+}
+
+// What is said of the fault with that code in the line of that number.
+fn of_code(
     alloc: Global,
     source: &[u8],
     number: u32,

@@ -1,10 +1,10 @@
 //! What is said of a run that got stuck: for each thread that waits, or was halted in its sleep, the line of its
 //! operation.
 
+use crate::LINES;
 use crate::actor::{Actor, Operation};
 use crate::refusals::told;
 use crate::replay::{EmptyWake, Replay, replay_of};
-use crate::shape::LINES;
 use crate::verbs::Role;
 use std::alloc::{AllocError, Global};
 
@@ -113,8 +113,8 @@ fn unwoken(
     Ok(Some(said))
 }
 
-// Where a thread waits: in the wait in which it is, or in the operation that it comes to next. And where one waited that
-// was halted.
+// Where a thread waits: in the wait in which it is, or in the operation that it comes to next. And where one waited
+// that was halted.
 fn place_of<'a>(actor: &Actor<'a>) -> Option<Operation<'a>> {
     if let Some(halt) = actor.halted {
         return Some(halt.operation);

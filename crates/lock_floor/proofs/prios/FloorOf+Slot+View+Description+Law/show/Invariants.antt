@@ -1,0 +1,9 @@
+use Rattle.lock_floor.specs.Passes.{IsReady}
+use Rattle.lock_floor.proofs.Taking.{HasWaited}
+use Rattle.lock_floor.proofs.prios.FloorOf+Slot+View+Description+Law.show.Given as goal
+
+abbrev pub invariant-loop : goal.invariant-loop
+invariant-loop g l = record {
+  ready : IsReady l.self l.pass;
+  waited : HasWaited l.initial.pass.view l.pass.view;
+}

@@ -1,0 +1,41 @@
+use Rattle.std.proofs.Common.{◌≢◌, ◌≤◌, sym, subst}
+use Rattle.lock_model.specs.Holds.{NotHeld}
+use Rattle.lock_model.specs.Operations.{hold_in}
+use Rattle.lock_model.specs.declared.event.Event.TheVariants.{Got}
+use Rattle.lock_state.specs.Steps.Items.{CellOf}
+use Rattle.floor_table.specs.Views.{Knowledge}
+use Rattle.lock_floor.proofs.Taking.{waits_none, waits_on}
+use Rattle.lock_floor.proofs.Tries.{entry_then, steps_then}
+use Rattle.lock_floor.proofs.tables.FloorOf+Slot+View+Description+Law.read_cell.Goals as goal
+
+pub try_read-requires-clause-held : goal.try_read-requires-clause-held
+try_read-requires-clause-held g c =
+    subst (λ (k : Knowledge). hold_in k.share.held c.args.cell.l.0 ≢ NotHeld)
+    (sym c.loop.invariant.waited.view) c.requires.held
+
+pub try_read-requires-clause-room : goal.try_read-requires-clause-room
+try_read-requires-clause-room g c =
+    subst (λ (k : Knowledge). 1 ≤ k.spare) (sym c.loop.invariant.waited.view) c.requires.room
+
+pub loop-init : goal.loop-init
+loop-init g c = record { ready = c.requires.ready; waited = waits_none c.args.pass.now.view }
+
+pub loop-preserved : goal.loop-preserved
+loop-preserved g c = record {
+  ready = c.try_read.ensures.ready;
+  waited = waits_on c.args.self.now.description (CellOf c.args.cell.l.0 c.args.cell.key) c.args.pass.now.view
+      c.loop.pass.view c.try_read.new.pass.view c.loop.invariant.waited c.in-Err.ensures.left
+      c.in-Err.ensures.elsewhere;
+}
+
+pub returns-in-Ok-clause-entry : goal.returns-in-Ok-clause-entry
+returns-in-Ok-clause-entry g c =
+    entry_then c.args.self.now.description c.args.pass.now.view c.loop.pass.view c.try_read.new.pass.view
+    c.loop.invariant.waited (Got c.args.cell.l c.args.cell.key c.in-Ok.found) c.in-Ok.ensures.entry
+
+pub returns-in-Ok-clause-steps : goal.returns-in-Ok-clause-steps
+returns-in-Ok-clause-steps g c =
+    steps_then c.args.self.now.description c.args.pass.now.view c.loop.pass.view c.try_read.new.pass.view
+    c.loop.invariant.waited (λ t. CellOf c.args.cell.l.0 c.args.cell.key)
+    (Got c.args.cell.l c.args.cell.key c.in-Ok.found)
+    c.in-Ok.ensures.steps

@@ -1,0 +1,125 @@
+use Rattle.std.proofs.Common.{◌≡◌, ◌≤◌, [], ◌∷◌, refl, sym, ap, ◌∙◌, subst}
+use Rattle.atomic_table.specs.Table.{rest}
+use Rattle.lock_model.specs.declared.event.Event.TheVariants.{Got}
+use Rattle.lock_state.specs.Steps.{Stamps}
+use Rattle.lock_state.specs.Steps.Items.{CellOf}
+use Rattle.floor_table.specs.declared.slot.Slot.TheVariants.{Cell}
+use Rattle.floor_table.specs.Steps.{MayMake}
+use Rattle.floor_table.specs.Views.{Knowledge}
+use Rattle.lock_floor.specs.Floors.{Pass}
+use Rattle.lock_floor.specs.Latches.{Takes}
+use Rattle.lock_floor.proofs.AboutCells.{may_take_cell, may_tell, cell_out}
+use Rattle.lock_floor.proofs.May.{may_give}
+use Rattle.lock_floor.proofs.Resting.{Used, uses, wake_gone}
+use Rattle.lock_floor.proofs.Tries.{ready_still}
+use Rattle.lock_floor.proofs.tables.FloorOf+Slot+View+Description+Law.try_read.Goals as goal
+
+pub try_take-requires-clause-may : goal.try_take-requires-clause-may
+try_take-requires-clause-may c =
+    let place = c.requires.cell in (
+      CellOf c.args.cell.l.0 c.args.cell.key,
+      place,
+      may_take_cell c.args.self.now.description c.args.pass.now.view
+          c.requires.ready.rest c.args.cell.l c.args.cell.key c.args.cell.slot place c.requires.held,
+    )
+
+pub value-found-requires-clause-last : goal.value-found-requires-clause-last
+value-found-requires-clause-last c =
+    let cell = CellOf c.args.cell.l.0 c.args.cell.key in
+    let place = c.requires.cell in
+    cell_out c.args.self.now.description c.args.pass.now.view c.requires.ready.rest c.args.cell.l c.args.cell.key
+    c.args.cell.slot place c.try_take.new.pass.view (c.try_take.ensures.out c.if-not-try_take.false cell place)
+
+pub stamp-requires-clause-room : goal.stamp-requires-clause-room
+stamp-requires-clause-room c =
+    let cell = CellOf c.args.cell.l.0 c.args.cell.key in
+    let taken = c.try_take.ensures.out c.if-not-try_take.false cell c.requires.cell in
+    subst (λ (w : Knowledge). 1 ≤ w.spare)
+    (sym (ap (λ (p : Pass Knowledge). p.view) c.value-found.ensures.same ∙ taken.view)) c.requires.room
+
+pub stamp-requires-clause-may : goal.stamp-requires-clause-may
+stamp-requires-clause-may c =
+    let floor = c.args.self.now.description in
+    let place = c.requires.cell in
+    let found = c.value-found.result in
+    let taken = c.try_take.ensures.out c.if-not-try_take.false (CellOf c.args.cell.l.0 c.args.cell.key) place in
+    subst (λ (p : Pass Knowledge). MayMake floor p.view (λ s. Unit {0})
+    (Stamps p.view.thread (Got c.args.cell.l c.args.cell.key found) ∷ [])) (sym c.value-found.ensures.same)
+    (may_tell floor c.args.pass.now.view c.requires.ready.rest c.args.cell.l c.args.cell.key c.args.cell.slot place
+    c.try_take.new.pass.view taken found c.value-found.ensures.value c.requires.held)
+
+pub give-requires-clause-last : goal.give-requires-clause-last
+give-requires-clause-last c =
+    let j = c.args.cell.slot in
+    let x = Cell c.value-found.result in
+    let same = ap (λ (w : Knowledge). w.out) c.stamp.ensures.view
+    ∙ ap (λ (p : Pass Knowledge). p.view.out) c.value-found.ensures.same in
+    (x, subst (λ o. o ≡ (j, x) ∷ rest o) (sym same) c.value-found.ensures.value)
+
+pub give-requires-clause-may : goal.give-requires-clause-may
+give-requires-clause-may c =
+    let cell = CellOf c.args.cell.l.0 c.args.cell.key in
+    let j = c.args.cell.slot in
+    let place = c.requires.cell in
+    let taken = c.try_take.ensures.out c.if-not-try_take.false cell place in
+    let x = Cell c.value-found.result in
+    let same = ap (λ (w : Knowledge). w.out) c.stamp.ensures.view
+    ∙ ap (λ (p : Pass Knowledge). p.view.out) c.value-found.ensures.same in (
+      cell,
+      place,
+      may_give c.args.self.now.description c.stamp.new.pass.view cell j x place
+          (subst (λ o. o ≡ (j, x) ∷ rest o) (sym same) c.value-found.ensures.value) refl
+          (ap (λ (w : Knowledge). w.pose) c.stamp.ensures.view
+          ∙ ap (λ (p : Pass Knowledge). p.view.pose) c.value-found.ensures.same
+          ∙ ap (λ (w : Knowledge). w.pose) taken.view ∙ c.requires.ready.rest.runs)
+          (ap (λ (w : Knowledge). w.share.doing.phase) c.stamp.ensures.view
+          ∙ ap (λ (p : Pass Knowledge). p.view.share.doing.phase) c.value-found.ensures.same
+          ∙ ap (λ (w : Knowledge). w.share.doing.phase) taken.view
+          ∙ c.requires.ready.rest.going.awake)
+          (ap (λ (w : Knowledge). w.share.doing.unstamped) c.stamp.ensures.view
+          ∙ wake_gone (Got c.args.cell.l c.args.cell.key c.value-found.result) _
+          (ap (λ (p : Pass Knowledge). p.view.share.doing.unstamped) c.value-found.ensures.same
+          ∙ ap (λ (w : Knowledge). w.share.doing.unstamped) taken.view
+          ∙ c.requires.ready.rest.going.stamped))
+          (ap (λ (w : Knowledge). w.share.doing.counting) c.stamp.ensures.view
+          ∙ ap (λ (p : Pass Knowledge). p.view.share.doing.counting) c.value-found.ensures.same
+          ∙ ap (λ (w : Knowledge). w.share.doing.counting) taken.view
+          ∙ c.requires.ready.rest.uncounted),
+    )
+
+used : (c : goal.After-give)
+    → Used c.args.self.now (CellOf c.args.cell.l.0 c.args.cell.key)
+    (Got c.args.cell.l c.args.cell.key c.value-found.result) c.args.pass.now c.give.new.pass
+used c =
+    let f = c.args.self.now in
+    let cell = CellOf c.args.cell.l.0 c.args.cell.key in
+    let j = c.args.cell.slot in
+    let place = c.requires.cell in
+    let taken = subst (λ (p : Pass Knowledge). Takes f.description cell j c.args.pass.now.view p.view)
+    (sym c.value-found.ensures.same) (c.try_take.ensures.out c.if-not-try_take.false cell place) in
+    uses f cell j (Got c.args.cell.l c.args.cell.key c.value-found.result) refl refl c.args.pass.now
+    c.value-found.new.pass c.stamp.new.pass c.give.new.pass c.stamp.result c.requires.ready c.requires.room taken
+    c.stamp.ensures.view c.stamp.ensures.step c.give.ensures.own (c.give.ensures.view cell place)
+    (c.give.ensures.step cell place)
+
+pub returns-clause-ready : goal.returns-clause-ready
+returns-clause-ready c = (used c).ready
+
+pub returns-clause-entry : goal.returns-clause-entry
+returns-clause-entry c = (used c).entry
+
+pub returns-clause-steps : goal.returns-clause-steps
+returns-clause-steps c = (used c).steps
+
+pub returns-then-not-try_take-clause-ready : goal.returns-then-not-try_take-clause-ready
+returns-then-not-try_take-clause-ready c =
+    ready_still c.args.self.now c.args.pass.now c.try_take.new.pass c.requires.ready c.try_take.ensures.own
+    (c.try_take.ensures.left c.if-not-try_take.true)
+
+pub returns-then-not-try_take-clause-left : goal.returns-then-not-try_take-clause-left
+returns-then-not-try_take-clause-left c = c.try_take.ensures.left c.if-not-try_take.true
+
+pub returns-then-not-try_take-clause-elsewhere : goal.returns-then-not-try_take-clause-elsewhere
+returns-then-not-try_take-clause-elsewhere c =
+    c.try_take.ensures.elsewhere c.if-not-try_take.true (CellOf c.args.cell.l.0 c.args.cell.key)
+    c.requires.cell
