@@ -19,7 +19,7 @@ LOCKCHART ?=
 export SCRIPT FORM FROM TO TURNS TITLE BY PREFIX DESTDIR LOCKRUN LOCKPLAN LOCKCHART PROGRAMS
 
 .DEFAULT_GOAL := help
-.PHONY: help step run plan chart proved quick $(PROGRAMS) examples install uninstall dist words bench costs
+.PHONY: help step run plan chart proved quick $(PROGRAMS) examples install uninstall dist words bench costs c c-test
 
 # Says what there is to type.
 help:
@@ -36,10 +36,13 @@ help:
 	@echo 'make proved SCRIPT=PATH   make lockrun, and then make step'
 	@echo 'make examples             runs each example by its proved program; stops at the first that is not as written'
 	@echo 'make install              installs the proved programs, their pages, their words for shells, and the examples,'
-	@echo '                          below PREFIX, $(PREFIX), in DESTDIR; make uninstall removes them'
+	@echo '                          and the library for C where make c has left it, below PREFIX, $(PREFIX), in'
+	@echo '                          DESTDIR; make uninstall removes them'
 	@echo 'make dist                 makes an archive of the sources in out/'
 	@echo 'make words                compares the lists of words for shells and editors with what the programs know'
 	@echo 'make bench                times long scripts by the proved lockrun, and adds the figures to bench/results.md'
+	@echo 'make c                    proves the library for C, and leaves liblockrun.a and lockrun.h in out/c/'
+	@echo 'make c-test               runs its tests and its examples, under sanitizers and helgrind where these are there'
 	@echo 'make costs                counts what one more case of each sort makes somebody write, and what is proved again'
 	@echo 'rt ci                     the gate: proves every crate, tries the edits that must fail, runs tests and programs'
 	@echo 'A script may end with a status other than 0; make then says Error and that number.'
@@ -104,3 +107,11 @@ bench:
 # Counts what a change costs: the files that one more case of each sort makes somebody write, and what is proved again.
 costs:
 	@tools/costs
+
+# The library for C: the proved crate lockrun_c as an archive, with the calls that wait.
+c:
+	@c/library make
+
+# Its tests and its examples, which the gate can't run.
+c-test:
+	@c/library test

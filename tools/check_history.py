@@ -4,6 +4,10 @@ by docs/SCRIPT.md, holds the printed history to the law of a history, part by pa
 it with what the history leaves. It shares nothing with the program, so that each may find the other's mistakes.
 
     check_history.py [--step] SCRIPT TEXT        (- is standard input)
+    check_history.py --floor FILE TEXT
+
+With --floor the text is of threads that follow no script: FILE declares the locks, channels and threads as a script
+does, without an operation, and all parts are judged but that on operations.
 
 Status 0 and no output where all holds. Status 1 and one line where something doesn't: the part of the law (or the place
 in the text), the ticket and the reason. Status 64 for other words, 2 where a file can't be read.
@@ -88,12 +92,13 @@ def last_word_is_right(plan, text, is_step):
         raise Refusal("last word", None, f"'{text.last}' where it is '{right}'")
 
 
-def check_outcome(plan, text, is_step=False):
+def check_outcome(plan, text, is_step=False, is_floor=False):
     """Raises a refusal at the first part that doesn't hold."""
     entries = text.entries
     whole = not is_step or text.last in ("ok", "reversed")
     law.tickets(plan, entries)
-    law.entries_follow_operations(plan, entries, whole)
+    if not is_floor:
+        law.entries_follow_operations(plan, entries, whole)
     law.sections_exclude(plan, entries)
     law.edits_in_sections(plan, entries)
     law.reads_replay(plan, entries)
@@ -126,6 +131,17 @@ def check(source, printed, is_step=False):
     check_outcome(plan, TextReader(plan).read(printed), is_step)
 
 
+def check_floor(source, printed):
+    """Raises a refusal where the printed text isn't one of a floor that is declared so."""
+    try:
+        plan = read_script(source)
+    except ScriptFault as fault:
+        raise Refusal("floor", None, f"the file declares none: {fault}") from None
+    if any(thread.operations for thread in plan.threads):
+        raise Refusal("floor", None, "the file says an operation")
+    check_outcome(plan, TextReader(plan).read(printed), is_floor=True)
+
+
 def read_file(name):
     if name == "-":
         return sys.stdin.buffer.read()
@@ -141,7 +157,9 @@ class Words(argparse.ArgumentParser):
 
 def main():
     words = Words(description="Says whether a printed text is a legal one of a script.")
-    words.add_argument("--step", action="store_true", help="the text is of a scheduled run")
+    sort = words.add_mutually_exclusive_group()
+    sort.add_argument("--step", action="store_true", help="the text is of a scheduled run")
+    sort.add_argument("--floor", action="store_true", help="the text is of threads that follow no script")
     words.add_argument("script")
     words.add_argument("text")
     given = words.parse_args()
@@ -151,7 +169,10 @@ def main():
         print(f"check_history: {fault}", file=sys.stderr)
         return 2
     try:
-        check(source, printed, given.step)
+        if given.floor:
+            check_floor(source, printed)
+        else:
+            check(source, printed, given.step)
     except Refusal as refusal:
         print(refusal)
         return 1

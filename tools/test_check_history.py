@@ -11,7 +11,7 @@ from pathlib import Path
 
 import check_history
 import law
-from check_history import check
+from check_history import check, check_floor
 from scripts import ScriptFault, read_script
 from texts import Refusal, TextReader
 
@@ -27,6 +27,11 @@ def lines(text):
 
 FIRST = "lockrun 1; mutex m a; thread t 100; lock m; set m 1 5; unlock m; end; done"
 FIRST_RAN = "0 t lock m; 1 t set m 1 5; 2 t unlock m; thread t base 100 eff 100; table m 1 5; ok"
+
+# a floor whose threads follow no script
+FLOOR = "lockrun 1; mutex m k; thread t 100; end; thread u 60; end; done"
+FLOOR_RAN = """0 t lock m; 1 u busy m 4; 2 t unlock m; 3 u lock m; 4 u unlock m;
+    thread t base 100 eff 100; thread u base 60 eff 60; ok"""
 
 # two threads on a mutex, one of which tries it first
 BUSY = """lockrun 1; mutex m k; thread t 100; lock m; add m 1 2; get m 1; unlock m; end;
@@ -292,6 +297,21 @@ class Checks(unittest.TestCase):
         for script, text in LEGAL:
             with self.subTest(text):
                 check(lines(script) if script else b"", lines(text))
+
+    def test_floors_are_judged_without_operations(self):
+        check_floor(lines(FLOOR), lines(FLOOR_RAN))
+        for turned, where, ticket in (
+            (FLOOR_RAN.replace("2 t unlock m; 3 u lock m", "2 u lock m; 3 t unlock m"), "part 3", 2),
+            (FLOOR_RAN.replace("busy m 4", "busy m 12"), "part 11", 1),
+            (FLOOR_RAN.replace("; ok", "; stuck"), "last word", None),
+        ):
+            with self.subTest(turned), self.assertRaises(Refusal) as refused:
+                check_floor(lines(FLOOR), lines(turned))
+            self.assertEqual((refused.exception.where, refused.exception.ticket), (where, ticket))
+        for script in (FIRST, FLOOR.replace("; done", "")):
+            with self.subTest(script), self.assertRaises(Refusal) as refused:
+                check_floor(lines(script), lines(FLOOR_RAN))
+            self.assertEqual(refused.exception.where, "floor")
 
     def test_turned_tickets_are_refused(self):
         for script, text, ticket in TICKETS:

@@ -1,12 +1,13 @@
 -- Where a reader of JSON is behind numbers, strings and pieces.
-use Rattle.std.proofs.Common.{ℕ, ◌/◌, ◌%◌, ◌+◌, ◌-◌, ◌≡◌, ◌∙◌, ◌++◌, ◌<◌, ◌^◌, zero, suc, ap, refl, sym, Bool, true, false, not, ◌&&◌, ◌⊎◌, inl, inr, ◌==◌, if◌then◌else◌, List, [], ◌∷◌, flat_map, decimal, get_or, length, take, codes, arith}
-use Rattle.std.specs.Fmt.{digits, digits_onto, digit_glyph}
+use Rattle.std.proofs.Common.{ℕ, ◌/◌, ◌%◌, ◌+◌, ◌-◌, ◌≡◌, ◌∙◌, ◌++◌, ◌<◌, ◌^◌, zero, suc, ap, refl, sym, Bool, true, false, not, ◌⊎◌, inl, inr, ◌==◌, if◌then◌else◌, List, [], ◌∷◌, flat_map, decimal, get_or, length, take, codes, arith}
+use Rattle.std.specs.Fmt.{digits, digit_glyph}
 use Rattle.std.specs.List.{list_all}
 use Rattle.std.proofs.lemmas.Bool.{false≢true}
 use Rattle.std.proofs.lemmas.Fmt.{first_decimal}
 use Rattle.std.proofs.lemmas.List.{take_more}
+use Rattle.chart_escape.proofs.Digits.{both, consed, decimal_passes}
 use Rattle.chart_escape.specs.Json.{by_number, hex_digit, json_byte, json_string, HasNoTag}
-use Rattle.chart_escape.specs.JsonReader.{Open, Array, Object, Role, Name, Value, Place, AtValue, AtName, AtColon, BehindValue, InNumber, InString, AtEscape, InEscape, Broken, Reader, at, behind, behind_byte, behind_items, behind_mark, behind_number, behind_piece, behind_pieces, behind_string, behind_text, behind_value, begun_value, in_string, is_at_value, is_behind_item, is_digit, is_hex, is_in_object, outer, read, AddsItems, AddsValue, AreBehind, AreItems, AreValue, BeginMember, BeginObject, EndObject, IsAtValue, IsBehindItem, IsInObject, IsJson}
+use Rattle.chart_escape.specs.JsonReader.{Open, Array, Object, Role, Name, Value, Place, AtValue, AtName, AtColon, BehindValue, InNumber, InString, AtEscape, InEscape, Broken, Reader, at, behind, behind_byte, behind_items, behind_mark, behind_number, behind_piece, behind_pieces, behind_string, behind_text, behind_value, begun_value, in_string, is_at_value, is_digit, is_hex, outer, read, AddsItems, AddsValue, AreBehind, AreItems, AreValue, BeginMember, BeginObject, EndObject, EndsAtItsQuote, IsAtValue, IsBehindItem, IsInObject, IsJson}
 use Rattle.chart_escape.specs.declared.piece.Piece.{Piece}
 
 pub behind-append : (r : Reader) (xs ys : List ℕ) → behind r (xs ++ ys) ≡ behind (behind r xs) ys
@@ -16,53 +17,27 @@ behind-append r (b ∷ bs) ys = behind-append (behind_byte r.place r.opens b) bs
 pub read_on : (old new bytes : List ℕ) → new ≡ old ++ bytes → read new ≡ behind (read old) bytes
 read_on old new bytes e = ap read e ∙ behind-append (at (AtValue false) []) old bytes
 
-both : (a b : Bool) → (a && b) ≡ true → (a ≡ true) × (b ≡ true)
-both true b h = (refl, h)
-both false b h = absurd (false≢true h)
-
-either : (p : ℕ → Bool) (c : Bool) (xs ys : List ℕ) → list_all p xs ≡ true → list_all p ys ≡ true
-    → list_all p (if c then xs else ys) ≡ true
-either p true xs ys hx hy = hx
-either p false xs ys hx hy = hy
-
-consed : (p : ℕ → Bool) (b : ℕ) (bs : List ℕ) → p b ≡ true → list_all p bs ≡ true → list_all p (b ∷ bs) ≡ true
-consed p b bs h hs = ap (λ c. c && list_all p bs) h ∙ hs
-
 -- 1. Numbers
 
 glyph_is_digit : (d : ℕ) → d < 10 → is_digit (digit_glyph false d) ≡ true
 glyph_is_digit d h = grind (arith, h)
 
-digits_are : (k n : ℕ) (acc : List ℕ) → list_all is_digit acc ≡ true → list_all is_digit (digits_onto k 10 false n acc) ≡ true
-digits_are zero n acc h = h
-digits_are (suc k) n acc h =
-    let small : n % 10 < 10 = grind arith in
-    let more = consed is_digit (digit_glyph false (n % 10)) acc (glyph_is_digit (n % 10) small) h in
-    either is_digit (n / 10 == 0) (digit_glyph false (n % 10) ∷ acc) (digits_onto k 10 false (n / 10) (digit_glyph false (n % 10) ∷ acc))
-    more (digits_are k (n / 10) (digit_glyph false (n % 10) ∷ acc) more)
-
 decimal_digits : (n : ℕ) → list_all is_digit (decimal n) ≡ true
-unfolding digits
-decimal_digits n = digits_are 64 n [] refl
+decimal_digits n = decimal_passes is_digit glyph_is_digit n
+
+-- digits leave a reader where each of them does
+digits_stay : (p : Place) (opens : List Open) → ((b : ℕ) → is_digit b ≡ true → behind_byte p opens b ≡ at p opens)
+    → (bs : List ℕ) → list_all is_digit bs ≡ true → behind (at p opens) bs ≡ at p opens
+digits_stay p opens each [] h = refl
+digits_stay p opens each (b ∷ bs) h =
+    let hs = both (is_digit b) (list_all is_digit bs) h in
+    ap (λ r. behind r bs) (each b hs.0) ∙ digits_stay p opens each bs hs.1
 
 digit_in_string : (role : Role) (opens : List Open) (b : ℕ) → is_digit b ≡ true → in_string role opens b ≡ at (InString role) opens
 digit_in_string role opens b h = grind (arith, h)
 
-digits_in_string : (role : Role) (opens : List Open) (bs : List ℕ) → list_all is_digit bs ≡ true
-    → behind (at (InString role) opens) bs ≡ at (InString role) opens
-digits_in_string role opens [] h = refl
-digits_in_string role opens (b ∷ bs) h =
-    let hs = both (is_digit b) (list_all is_digit bs) h in
-    ap (λ r. behind r bs) (digit_in_string role opens b hs.0) ∙ digits_in_string role opens bs hs.1
-
 digit_in_number : (opens : List Open) (b : ℕ) → is_digit b ≡ true → behind_byte (InNumber false) opens b ≡ at (InNumber false) opens
 digit_in_number opens b h = ap (λ c. if c then at (InNumber false) opens else behind_value opens b) h
-
-digits_in_number : (opens : List Open) (bs : List ℕ) → list_all is_digit bs ≡ true → behind (at (InNumber false) opens) bs ≡ at (InNumber false) opens
-digits_in_number opens [] h = refl
-digits_in_number opens (b ∷ bs) h =
-    let hs = both (is_digit b) (list_all is_digit bs) h in
-    ap (λ r. behind r bs) (digit_in_number opens b hs.0) ∙ digits_in_number opens bs hs.1
 
 first_digit : (first : Bool) (opens : List Open) (b : ℕ) → is_digit b ≡ true → 48 < b → begun_value first opens b ≡ at (InNumber false) opens
 first_digit first opens b h more = grind (arith, h, more)
@@ -72,7 +47,7 @@ number_begins : (first : Bool) (opens : List Open) (bs : List ℕ) → list_all 
 number_begins first opens [] h more = absurd (omega (arith, more))
 number_begins first opens (b ∷ bs) h more =
     let hs = both (is_digit b) (list_all is_digit bs) h in
-    ap (λ r. behind r bs) (first_digit first opens b hs.0 more) ∙ digits_in_number opens bs hs.1
+    ap (λ r. behind r bs) (first_digit first opens b hs.0 more) ∙ digits_stay (InNumber false) opens (digit_in_number opens) bs hs.1
 
 number_at_value : (first : Bool) (opens : List Open) (n : ℕ) → n < 2 ^ 64 → behind (at (AtValue first) opens) (decimal n) ≡ at (InNumber (n == 0)) opens
 unfolding digits
@@ -84,7 +59,7 @@ number_at_value first opens (suc n) h =
 
 number_read : (p : Place) (opens : List Open) (n : ℕ) → n < 2 ^ 64 → behind (at p opens) (decimal n) ≡ behind_number p opens n
 number_read (AtValue first) opens n h = number_at_value first opens n h
-number_read (InString role) opens n h = digits_in_string role opens (decimal n) (decimal_digits n)
+number_read (InString role) opens n h = digits_stay (InString role) opens (digit_in_string role opens) (decimal n) (decimal_digits n)
 number_read (AtName first) opens n h = refl
 number_read AtColon opens n h = refl
 number_read BehindValue opens n h = refl
@@ -140,6 +115,9 @@ text_read Broken opens text = refl
 pub text_read_on : (old new text : List ℕ) → new ≡ old ++ json_string text → read new ≡ behind_text (read old).place (read old).opens text
 text_read_on old new text e = read_on old new (json_string text) e ∙ text_read (read old).place (read old).opens text
 
+pub ends_at_its_quote : (text : List ℕ) → EndsAtItsQuote text
+ends_at_its_quote text = string_read Value [] text
+
 -- 3. Pieces
 
 pieces_append : (r : Reader) (ps qs : List Piece) → behind_pieces r (ps ++ qs) ≡ behind_pieces (behind_pieces r ps) qs
@@ -179,58 +157,17 @@ pub array_begun : (old new : List ℕ) → IsAtValue old → read new ≡ behind
 array_begun old new is e =
     e ∙ at_value (read old).place (read old).opens (λ r. behind r (codes "[")) (behind_items 0 (read old).opens) is (λ first. refl)
 
-items_at : (p : Place) (opens : List Open) (ps : List Piece) → is_behind_item (at p opens) ≡ true → AreItems ps → behind_pieces (at p opens) ps ≡ at p opens
-items_at BehindValue [] ps h whole = absurd (false≢true h)
-items_at BehindValue (Array ∷ opens) ps h whole = whole opens
-items_at BehindValue (Object ∷ opens) ps h whole = absurd (false≢true h)
-items_at (AtValue first) opens ps h whole = absurd (false≢true h)
-items_at (AtName first) opens ps h whole = absurd (false≢true h)
-items_at AtColon opens ps h whole = absurd (false≢true h)
-items_at (InNumber is_zero) opens ps h whole = absurd (false≢true h)
-items_at (InString role) opens ps h whole = absurd (false≢true h)
-items_at (AtEscape role) opens ps h whole = absurd (false≢true h)
-items_at (InEscape role n) opens ps h whole = absurd (false≢true h)
-items_at Broken opens ps h whole = absurd (false≢true h)
-
 pub items_added : (old new : List ℕ) (ps : List Piece) → IsBehindItem old → AreItems ps → read new ≡ behind_pieces (read old) ps → AddsItems old new
-items_added old new ps is whole e = e ∙ items_at (read old).place (read old).opens ps is whole
-
-object_at : (p : Place) (opens : List Open) (ps : List Piece) (to : List Open → Reader) → is_in_object (at p opens) ≡ true
-    → ((rest : List Open) → behind_pieces (at BehindValue (Object ∷ rest)) ps ≡ to rest) → behind_pieces (at p opens) ps ≡ to (outer opens)
-object_at BehindValue [] ps to h each = absurd (false≢true h)
-object_at BehindValue (Array ∷ opens) ps to h each = absurd (false≢true h)
-object_at BehindValue (Object ∷ opens) ps to h each = each opens
-object_at (AtValue first) opens ps to h each = absurd (false≢true h)
-object_at (AtName first) opens ps to h each = absurd (false≢true h)
-object_at AtColon opens ps to h each = absurd (false≢true h)
-object_at (InNumber is_zero) opens ps to h each = absurd (false≢true h)
-object_at (InString role) opens ps to h each = absurd (false≢true h)
-object_at (AtEscape role) opens ps to h each = absurd (false≢true h)
-object_at (InEscape role n) opens ps to h each = absurd (false≢true h)
-object_at Broken opens ps to h each = absurd (false≢true h)
-
-object_opens : (p : Place) (opens : List Open) → is_in_object (at p opens) ≡ true → Object ∷ outer opens ≡ opens
-object_opens BehindValue [] h = absurd (false≢true h)
-object_opens BehindValue (Array ∷ opens) h = absurd (false≢true h)
-object_opens BehindValue (Object ∷ opens) h = refl
-object_opens (AtValue first) opens h = absurd (false≢true h)
-object_opens (AtName first) opens h = absurd (false≢true h)
-object_opens AtColon opens h = absurd (false≢true h)
-object_opens (InNumber is_zero) opens h = absurd (false≢true h)
-object_opens (InString role) opens h = absurd (false≢true h)
-object_opens (AtEscape role) opens h = absurd (false≢true h)
-object_opens (InEscape role n) opens h = absurd (false≢true h)
-object_opens Broken opens h = absurd (false≢true h)
+items_added old new ps is whole e = e ∙ ap (λ r. behind_pieces r ps) is ∙ whole (outer (read old).opens) ∙ sym is
 
 pub member_begun : (old new : List ℕ) (ps : List Piece) → IsInObject old → BeginMember ps → read new ≡ behind_pieces (read old) ps
     → read new ≡ at (AtValue false) (read old).opens
 member_begun old new ps is begin e =
-    e ∙ object_at (read old).place (read old).opens ps (λ rest. at (AtValue false) (Object ∷ rest)) is begin
-    ∙ ap (λ opens. at (AtValue false) opens) (object_opens (read old).place (read old).opens is)
+    e ∙ ap (λ r. behind_pieces r ps) is ∙ begin (outer (read old).opens) ∙ ap (λ r. at (AtValue false) r.opens) (sym is)
 
 pub object_ended : (old new : List ℕ) (ps : List Piece) → IsInObject old → EndObject ps → read new ≡ behind_pieces (read old) ps
     → read new ≡ at BehindValue (outer (read old).opens)
-object_ended old new ps is end e = e ∙ object_at (read old).place (read old).opens ps (λ rest. at BehindValue rest) is end
+object_ended old new ps is end e = e ∙ ap (λ r. behind_pieces r ps) is ∙ end (outer (read old).opens)
 
 -- the bracket that ends an array stands behind an item, or behind none
 bracket_ends : (none : Bool) (opens : List Open) → behind (at (if none then AtValue true else BehindValue) (Array ∷ opens)) (codes "]") ≡ at BehindValue opens
@@ -293,3 +230,6 @@ goes_on_without_tag r (b ∷ bs) h =
 
 pub json_has_no_tag : (bytes : List ℕ) → IsJson bytes → HasNoTag bytes
 json_has_no_tag bytes is = goes_on_without_tag (at (AtValue false) []) bytes (ap (λ r. r.place) is)
+
+pub has_no_tag : (text : List ℕ) → HasNoTag (json_string text)
+has_no_tag text = json_has_no_tag (json_string text) (ends_at_its_quote text)

@@ -1,3 +1,4 @@
+mod Digits
 mod Escapes
 pub mod JsonReadings
 pub mod Readings

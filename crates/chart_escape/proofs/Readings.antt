@@ -1,8 +1,9 @@
 -- Where a reader of markup is behind numbers, escaped text and pieces.
-use Rattle.std.proofs.Common.{ℕ, ◌/◌, ◌%◌, ◌≡◌, ◌∙◌, ◌++◌, ◌<◌, zero, suc, ap, refl, sym, Bool, true, false, not, ◌&&◌, ◌||◌, ◌==◌, if◌then◌else◌, List, [], ◌∷◌, Some, None, decimal, arith}
-use Rattle.std.specs.Fmt.{digits, digits_onto, digit_glyph}
+use Rattle.std.proofs.Common.{ℕ, ◌≡◌, ◌∙◌, ◌++◌, ◌<◌, ap, refl, sym, Bool, true, false, not, ◌||◌, ◌==◌, List, [], ◌∷◌, Some, None, decimal, arith}
+use Rattle.std.specs.Fmt.{digit_glyph}
 use Rattle.std.specs.List.{list_all}
 use Rattle.std.proofs.lemmas.Bool.{false≢true}
+use Rattle.chart_escape.proofs.Digits.{both, decimal_passes}
 use Rattle.chart_escape.specs.Markup.{escaped, markup_byte}
 use Rattle.chart_escape.specs.Pieces.{piece_bytes, pieces_bytes}
 use Rattle.chart_escape.specs.Reader.{Text, Between, Quoted, Place, InText, InReference, InName, InTag, AtSlash, InClosing, Broken, Reader, at, behind, behind_byte, behind_piece, behind_pieces, behind_text, behind_words, read, is_between, IsBetweenTags, AddsElements, AreElements}
@@ -12,18 +13,6 @@ use Rattle.chart_escape.specs.declared.piece.Piece.TheVariants as piece
 pub behind-append : (r : Reader) (xs ys : List ℕ) → behind r (xs ++ ys) ≡ behind (behind r xs) ys
 behind-append r [] ys = refl
 behind-append r (b ∷ bs) ys = behind-append (behind_byte r.place r.elements b) bs ys
-
-both : (a b : Bool) → (a && b) ≡ true → (a ≡ true) × (b ≡ true)
-both true b h = (refl, h)
-both false b h = absurd (false≢true h)
-
-either : (p : ℕ → Bool) (c : Bool) (xs ys : List ℕ) → list_all p xs ≡ true → list_all p ys ≡ true
-    → list_all p (if c then xs else ys) ≡ true
-either p true xs ys hx hy = hx
-either p false xs ys hx hy = hy
-
-consed : (p : ℕ → Bool) (b : ℕ) (bs : List ℕ) → p b ≡ true → list_all p bs ≡ true → list_all p (b ∷ bs) ≡ true
-consed p b bs h hs = ap (λ c. c && list_all p bs) h ∙ hs
 
 -- 1. What leaves a reader of text where it is
 
@@ -46,17 +35,8 @@ digit_plain : (d : ℕ) → d < 10 → is_plain (digit_glyph false d) ≡ true
 unfolding is_plain
 digit_plain d h = grind (arith, h)
 
-digits_plain : (k n : ℕ) (acc : List ℕ) → list_all is_plain acc ≡ true → list_all is_plain (digits_onto k 10 false n acc) ≡ true
-digits_plain zero n acc h = h
-digits_plain (suc k) n acc h =
-    let small : n % 10 < 10 = grind arith in
-    let more = consed is_plain (digit_glyph false (n % 10)) acc (digit_plain (n % 10) small) h in
-    either is_plain (n / 10 == 0) (digit_glyph false (n % 10) ∷ acc) (digits_onto k 10 false (n / 10) (digit_glyph false (n % 10) ∷ acc))
-    more (digits_plain k (n / 10) (digit_glyph false (n % 10) ∷ acc) more)
-
 decimal_plain : (n : ℕ) → list_all is_plain (decimal n) ≡ true
-unfolding digits
-decimal_plain n = digits_plain 64 n [] refl
+decimal_plain n = decimal_passes is_plain digit_plain n
 
 reference_stays : (t : Text) (elements : List (List ℕ)) (b : ℕ) → behind (at (InText t) elements) (markup_byte b) ≡ at (InText t) elements
 reference_stays Between elements b = grind arith
@@ -109,12 +89,8 @@ text_of_place (InClosing name) elements h = absurd (false≢true h)
 text_of_place Broken elements h = absurd (false≢true h)
 
 -- pieces that leave a reader of text where it was
-pub adds : (old new : List ℕ) (ps : List Piece) → IsBetweenTags old → read new ≡ behind_pieces (read old) ps
-    → AreElements ps → AddsElements old new
-adds old new ps between e same =
+pub adds : (old new : List ℕ) (ps : List Piece) → IsBetweenTags old → AreElements ps → read new ≡ behind_pieces (read old) ps
+    → AddsElements old new
+adds old new ps between same e =
     let is = text_of_place (read old).place (read old).elements between in
     e ∙ ap (λ r. behind_pieces r ps) is ∙ same (read old).elements ∙ sym is
-
--- what stands behind elements is between tags again
-pub still_between : (old new : List ℕ) → IsBetweenTags old → AddsElements old new → IsBetweenTags new
-still_between old new between e = ap (λ r. is_between r.place) e ∙ between

@@ -1,5 +1,5 @@
 -- How text is written as a JSON string.
-use Rattle.std.specs.Prelude.{ℕ, ◌+◌, ◌-◌, ◌/◌, ◌%◌, ◌++◌, Bool, true, false, not, ◌||◌, ◌==◌, nat_lt, if◌then◌else◌, IsTrue, List, [], ◌∷◌, codes, flat_map}
+use Rattle.std.specs.Prelude.{ℕ, ◌+◌, ◌-◌, ◌/◌, ◌%◌, ◌++◌, not, ◌||◌, ◌==◌, nat_lt, if◌then◌else◌, IsTrue, List, [], ◌∷◌, codes, flat_map}
 use Rattle.std.specs.List.{list_all}
 
 -- a hexadecimal digit
@@ -20,17 +20,6 @@ json_byte b =
 -- the string, with its quotes
 abbrev pub json_string : List ℕ → List ℕ
 json_string text = 34 ∷ flat_map json_byte text ++ 34 ∷ []
-
--- whether a reader that is within a string, and perhaps behind a backslash, is still within it behind these bytes, and
--- behind no backslash
-abbrev pub is_within : Bool → List ℕ → Bool
-is_within behind [] = not behind
-is_within true (b ∷ bs) = is_within false bs
-is_within false (b ∷ bs) = if b == 34 then false else is_within (b == 92) bs
-
--- the string ends at its last quote and no earlier
-abbrev pub EndsAtItsQuote : List ℕ → Type 0
-EndsAtItsQuote text = IsTrue (is_within false (flat_map json_byte text))
 
 -- `<` stands nowhere in it, so no tag of the page round it does
 abbrev pub HasNoTag : List ℕ → Type 0

@@ -134,6 +134,10 @@ read bytes = behind (at (AtValue false) []) bytes
 abbrev pub IsJson : List ℕ → Type 0
 IsJson bytes = read bytes ≡ at BehindValue []
 
+-- a string ends at its last quote and no earlier: it is one whole value
+abbrev pub EndsAtItsQuote : List ℕ → Type 0
+EndsAtItsQuote text = IsJson (json_string text)
+
 -- 4. Values and items
 
 abbrev pub is_at_value : Place → Bool
@@ -155,34 +159,18 @@ IsAtValue bytes = is_at_value (read bytes).place ≡ true
 abbrev pub AddsValue : List ℕ → List ℕ → Type 0
 AddsValue old new = read new ≡ at BehindValue (read old).opens
 
--- behind an item of an array
-abbrev is_behind : Place → List Open → Bool
-is_behind BehindValue [] = false
-is_behind BehindValue (Array ∷ opens) = true
-is_behind BehindValue (Object ∷ opens) = false
-is_behind (AtValue first) opens = false
-is_behind (AtName first) opens = false
-is_behind AtColon opens = false
-is_behind (InNumber is_zero) opens = false
-is_behind (InString role) opens = false
-is_behind (AtEscape role) opens = false
-is_behind (InEscape role n) opens = false
-is_behind Broken opens = false
-
-abbrev pub is_behind_item : Reader → Bool
-is_behind_item r = is_behind r.place r.opens
-
-abbrev pub IsBehindItem : List ℕ → Type 0
-IsBehindItem bytes = is_behind_item (read bytes) ≡ true
-
--- whole items were added behind others, each with its comma
-abbrev pub AddsItems : List ℕ → List ℕ → Type 0
-AddsItems old new = read new ≡ read old
-
 -- what is open round the innermost
 abbrev pub outer : List Open → List Open
 outer [] = []
 outer (_ ∷ opens) = opens
+
+-- behind an item of an array
+abbrev pub IsBehindItem : List ℕ → Type 0
+IsBehindItem bytes = read bytes ≡ at BehindValue (Array ∷ outer (read bytes).opens)
+
+-- whole items were added behind others, each with its comma
+abbrev pub AddsItems : List ℕ → List ℕ → Type 0
+AddsItems old new = read new ≡ read old
 
 -- in an array, behind so many of its items
 abbrev pub behind_items : ℕ → List Open → Reader
@@ -196,24 +184,8 @@ abbrev pub AddsItem : ℕ → List ℕ → List ℕ → Type 0
 AddsItem n old new = read new ≡ behind_items (n + 1) (outer (read old).opens)
 
 -- in an object, behind a member
-abbrev is_in : Place → List Open → Bool
-is_in BehindValue [] = false
-is_in BehindValue (Array ∷ opens) = false
-is_in BehindValue (Object ∷ opens) = true
-is_in (AtValue first) opens = false
-is_in (AtName first) opens = false
-is_in AtColon opens = false
-is_in (InNumber is_zero) opens = false
-is_in (InString role) opens = false
-is_in (AtEscape role) opens = false
-is_in (InEscape role n) opens = false
-is_in Broken opens = false
-
-abbrev pub is_in_object : Reader → Bool
-is_in_object r = is_in r.place r.opens
-
 abbrev pub IsInObject : List ℕ → Type 0
-IsInObject bytes = is_in_object (read bytes) ≡ true
+IsInObject bytes = read bytes ≡ at BehindValue (Object ∷ outer (read bytes).opens)
 
 -- 5. Pieces
 

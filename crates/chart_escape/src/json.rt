@@ -2,7 +2,8 @@
 //! bytes and `<`, so that no `</script>` can stand in it.
 
 ghost use Rattle.std.specs.Prelude.{◌≡◌, ◌<◌, ◌++◌, OnOk};
-ghost use Rattle.chart_escape.specs.Json.{by_number, hex_digit, json_byte, json_string, EndsAtItsQuote, HasNoTag};
+ghost use Rattle.chart_escape.specs.Json.{by_number, hex_digit, json_byte, json_string, HasNoTag};
+ghost use Rattle.chart_escape.specs.JsonReader.{EndsAtItsQuote};
 
 use std::alloc::AllocError;
 
@@ -11,7 +12,7 @@ use std::alloc::AllocError;
 /// ```
 /// push_json(&mut out, b"a < b")?; // "a \u003c b"
 /// ```
-#[tactic(auto, using(crate::proofs::Escapes::ends_at_its_quote, crate::proofs::Escapes::has_no_tag))]
+#[tactic(auto, using(crate::proofs::JsonReadings::ends_at_its_quote, crate::proofs::JsonReadings::has_no_tag))]
 pub fn push_json(out: &mut Vec<u8>, text: &[u8]) -> Result<(), AllocError>
     ensures pushed { OnOk result (out.new.items ≡ out.old.items ++ json_string text.now) }
     ensures ends { EndsAtItsQuote text.now }

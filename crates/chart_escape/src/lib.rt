@@ -14,8 +14,8 @@ mod values;
 
 pub use json::push_json;
 pub use markup::push_text;
-pub use piece::{Piece, push_elements, push_pieces};
+pub use piece::{Piece, push_elements, push_pieces, push_tokens};
 pub use values::{
     begin_array, begin_item, begin_member, begin_object, end_array, end_object, push_item,
-    push_items, push_tokens, push_value,
+    push_items, push_value,
 };

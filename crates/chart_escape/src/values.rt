@@ -1,32 +1,17 @@
 //! JSON, value by value: pieces pushed where a reader of JSON is at a value, or behind an item of an array.
 
-ghost use Rattle.std.specs.Prelude.{◌≡◌, ◌==◌, ◌++◌, ◌∷◌, true, false, codes, decimal, OnOk};
-ghost use Rattle.chart_escape.specs.Pieces.{comma, piece_bytes, pieces_bytes};
-ghost use Rattle.chart_escape.specs.JsonReader.{at, behind_items, behind_number, behind_piece, behind_pieces, outer, read, AddsItem, AddsItems, AddsValue, AreBehind, AreItems, AreValue, AtValue, BeginMember, BeginObject, BehindValue, EndObject, IsAtValue, IsBehindItem, IsInObject, Object};
+ghost use Rattle.std.specs.Prelude.{◌≡◌, ◌==◌, ◌++◌, ◌∷◌, true, false, codes, OnOk};
+ghost use Rattle.chart_escape.specs.Pieces.{comma, pieces_bytes};
+ghost use Rattle.chart_escape.specs.JsonReader.{at, behind_items, outer, read, AddsItem, AddsItems, AddsValue, AreBehind, AreItems, AreValue, AtValue, BeginMember, BeginObject, BehindValue, EndObject, IsAtValue, IsBehindItem, IsInObject, Object};
 
-use crate::json::push_json;
-use crate::markup::push_text;
-use crate::piece::Piece;
-use lock_model::push_digits;
+use crate::piece::{Piece, push_tokens};
 use std::alloc::AllocError;
 
-/// Pushes pieces one behind the other, and tells where a reader of JSON is behind them. It fails where memory runs out.
+/// Pushes pieces that are one whole value, where one may come. It fails where memory runs out.
 ///
 /// ```
-/// push_tokens(&mut out, &[Piece::Own("{\"title\":"), Piece::Json(title)])?;
+/// push_value(&mut out, &[Piece::Own("["), Piece::Number(n), Piece::Own("]")])?;
 /// ```
-pub fn push_tokens(out: &mut Vec<u8>, pieces: &[Piece<'_>]) -> Result<(), AllocError>
-    ensures pushed { OnOk result (out.new.items ≡ out.old.items ++ pieces_bytes pieces.now) }
-    ensures reads { OnOk result (read out.new.items
-        ≡ behind_pieces (read out.old.items) pieces.now) }
-{
-    for piece in pieces {
-        push_token(out, *piece)?;
-    }
-    Ok(())
-}
-
-/// The same for pieces that are one whole value, where one may come.
 pub fn push_value(out: &mut Vec<u8>, pieces: &[Piece<'_>]) -> Result<(), AllocError>
     requires at { IsAtValue out.old.items }
     requires whole { AreValue pieces.now }
@@ -122,28 +107,4 @@ pub fn end_object(out: &mut Vec<u8>, pieces: &[Piece<'_>]) -> Result<(), AllocEr
         ≡ at BehindValue (outer (read out.old.items).opens)) }
 {
     push_tokens(out, pieces)
-}
-
-#[tactic(auto, using(crate::proofs::JsonReadings::read_on, crate::proofs::JsonReadings::text_read_on))]
-fn push_token(out: &mut Vec<u8>, piece: Piece<'_>) -> Result<(), AllocError>
-    ensures pushed { OnOk result (out.new.items ≡ out.old.items ++ piece_bytes piece.entry) }
-    ensures reads { OnOk result (read out.new.items
-        ≡ behind_piece (read out.old.items) piece.entry) }
-{
-    match piece {
-        Piece::Own(text) => out.extend_from_slice(text.as_bytes()),
-        Piece::Number(n) | Piece::Optional(Some(n)) => push_count(out, n),
-        Piece::Optional(None) => Ok(()),
-        Piece::Text(text) => push_text(out, text),
-        Piece::Json(text) => push_json(out, text),
-    }
-}
-
-#[tactic(auto, using(crate::proofs::JsonReadings::number_read_on))]
-fn push_count(out: &mut Vec<u8>, n: u64) -> Result<(), AllocError>
-    ensures pushed { OnOk result (out.new.items ≡ out.old.items ++ decimal n) }
-    ensures reads { OnOk result (read out.new.items
-        ≡ behind_number (read out.old.items).place (read out.old.items).opens n) }
-{
-    push_digits(out, n)
 }

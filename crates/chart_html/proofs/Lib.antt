@@ -1,3 +1,4 @@
 pub mod Arrays
+mod Changed
 pub mod Members
 mod Pages

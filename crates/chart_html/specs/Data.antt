@@ -1,7 +1,8 @@
 -- What the page knows of a run: its data, byte for byte.
 use Rattle.std.specs.Prelude.{ℕ, ◌+◌, nat_lt, if◌then◌else◌, true, false, List, [], ◌∷◌, ◌++◌, codes, decimal, slice_get, Option, Some, None, unwrap_or, option_and_then}
 use Rattle.chart_escape.specs.Json.{json_string}
-use Rattle.chart_html.specs.Tracks.{array_bytes, hold_bytes, numbered_bytes, prio_bytes, queue_bytes, stand_bytes, track_bytes, wait_bytes, walk_bytes}
+use Rattle.chart_html.specs.Tracks.{array_bytes, column_bytes, hold_bytes, numbered_bytes, track_bytes}
+use Rattle.chart_html.specs.declared.columns.Column.TheVariants as columns
 use Rattle.chart_html.specs.declared.edits.Edit.{Edit}
 use Rattle.chart_layout.specs.declared.layout.Chart.{Chart}
 use Rattle.chart_layout.specs.declared.layout.MarkKind.{MarkKind}
@@ -78,12 +79,12 @@ done_bytes (Some row) = codes ",\"done\":" ++ decimal row
 abbrev pub thread_bytes : Plan → List ℕ → ThreadRows → Option ℕ → List ℕ
 thread_bytes plan name thread ended =
     codes "{\"name\":" ++ json_string name
-    ++ codes ",\"base\":" ++ track_bytes prio_bytes thread.base
-    ++ codes ",\"runs\":" ++ track_bytes prio_bytes thread.effective
-    ++ codes ",\"wait\":" ++ track_bytes wait_bytes thread.wait
-    ++ codes ",\"on\":" ++ track_bytes (queue_bytes plan) thread.blocked_on
-    ++ codes ",\"stands\":" ++ track_bytes (stand_bytes plan) thread.stands_on
-    ++ codes ",\"walk\":" ++ track_bytes (walk_bytes plan) thread.walk
+    ++ codes ",\"base\":" ++ column_bytes plan columns.Base thread.row
+    ++ codes ",\"runs\":" ++ column_bytes plan columns.Runs thread.row
+    ++ codes ",\"wait\":" ++ column_bytes plan columns.Wait thread.row
+    ++ codes ",\"on\":" ++ column_bytes plan columns.On thread.row
+    ++ codes ",\"stands\":" ++ column_bytes plan columns.Stands thread.row
+    ++ codes ",\"walk\":" ++ column_bytes plan columns.Walk thread.row
     ++ codes ",\"held\":" ++ held_bytes thread
     ++ done_bytes ended ++ codes "}"
 

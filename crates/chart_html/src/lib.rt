@@ -4,9 +4,10 @@
 //! - `document`: the page, part by part.
 //! - `fixed`: its fixed text: what it looks like, and what it does with the data.
 //! - `data`: what the page knows of each row, as JSON: values with the rows from which on they hold.
-//! - `threads`, `queues`, `edits`, `tracks`: parts of the data.
+//! - `threads`, `columns`, `queues`, `edits`, `tracks`: parts of the data.
 #![tactic(auto)]
 
+mod columns;
 mod data;
 mod document;
 mod edits;
@@ -15,5 +16,6 @@ mod queues;
 mod threads;
 mod tracks;
 
+pub use columns::columns_tell_rows;
 pub use data::data_of;
 pub use document::html;

@@ -4,7 +4,8 @@ ghost use Rattle.chart_escape.specs.JsonReader.{at, outer, read, AddsValue, Behi
 ghost use Rattle.chart_html.specs.Data.{done_bytes, held_bytes, lane_end, thread_bytes, threads_bytes};
 ghost use Rattle.lock_model.specs.Plans.{thread_name};
 
-use crate::tracks::{push_holds, push_prios, push_queues, push_stands, push_waits, push_walks};
+use crate::columns::{Column, push_column};
+use crate::tracks::push_holds;
 use chart_escape::{
     Piece, begin_array, begin_item, begin_member, begin_object, end_array, end_object,
 };
@@ -79,17 +80,18 @@ fn push_thread(
             Piece::Own(",\"base\":"),
         ],
     )?;
-    push_prios(out, thread.base.changes())?;
+    let rows = thread.row.changes();
+    push_column(alloc, out, plan, Column::Base, rows)?;
     begin_member(out, &[Piece::Own(",\"runs\":")])?;
-    push_prios(out, thread.effective.changes())?;
+    push_column(alloc, out, plan, Column::Runs, rows)?;
     begin_member(out, &[Piece::Own(",\"wait\":")])?;
-    push_waits(out, thread.wait.changes())?;
+    push_column(alloc, out, plan, Column::Wait, rows)?;
     begin_member(out, &[Piece::Own(",\"on\":")])?;
-    push_queues(out, plan, thread.blocked_on.changes())?;
+    push_column(alloc, out, plan, Column::On, rows)?;
     begin_member(out, &[Piece::Own(",\"stands\":")])?;
-    push_stands(alloc, out, plan, thread.stands_on.changes())?;
+    push_column(alloc, out, plan, Column::Stands, rows)?;
     begin_member(out, &[Piece::Own(",\"walk\":")])?;
-    push_walks(out, plan, thread.walk.changes())?;
+    push_column(alloc, out, plan, Column::Walk, rows)?;
     begin_member(out, &[Piece::Own(",\"held\":")])?;
     push_held(out, thread)?;
     end_thread(out, ended)

@@ -1,18 +1,21 @@
 -- What is drawn of the lanes of a page stands in the lanes of its threads.
-use Rattle.std.proofs.Common.{ℕ, ◌+◌, ◌*◌, ◌<◌, ◌≤◌, ◌≡◌, ◌≢◌, ◌∙◌, ◌⊎◌, inl, inr, ap, refl, sym, subst, arith, List, length, get_or, codes, All, Contains, Option, Some, None}
+use Rattle.std.proofs.Common.{ℕ, ◌+◌, ◌*◌, ◌<◌, ◌≤◌, ◌≡◌, ◌≢◌, ◌==◌, ◌∙◌, ◌⊎◌, inl, inr, ap, refl, sym, subst, true, arith, Bool, List, length, get_or, codes, All, Contains, Option, Some, None}
 use Rattle.std.specs.Prelude.{slice_get, Any}
-use Rattle.std.proofs.lemmas.List.Elements.{All-contains, Contains-get_or}
-use Rattle.std.proofs.lemmas.Option.{get_or_from_slice_get, same_Some, slice_get_cases, slice_get_within}
+use Rattle.std.proofs.lemmas.Bool.Decides.{Decides-eqb}
+use Rattle.std.proofs.lemmas.List.Elements.{filter_passes, All-contains, All-contains_itself, All-filter, All-weaker, Contains-get_or}
+use Rattle.std.proofs.lemmas.Option.{get_or_from_slice_get, slice_get_cases, slice_get_within}
 use Rattle.chart_layout.specs.declared.layout.Bar.{Bar}
 use Rattle.chart_layout.specs.declared.layout.BarKind.{BarKind}
 use Rattle.chart_layout.specs.declared.layout.BarKind.TheVariants as bars
+use Rattle.chart_layout.specs.declared.layout.Chart.{Chart}
 use Rattle.chart_layout.specs.declared.layout.PrioSpan.{PrioSpan}
 use Rattle.lock_model.specs.declared.numbers.Prio.{Prio}
 use Rattle.lock_model.specs.declared.numbers.ThreadNo.{ThreadNo}
+use Rattle.chart_svg.proofs.Laying.{of_own}
 use Rattle.chart_svg.proofs.Ranks.{rank-lt}
 use Rattle.chart_svg.proofs.Standing.{told}
 use Rattle.chart_svg.specs.Drawn.{bar_height, pixels, prio_words, words_bytes, BarIsDrawn, Changes, HasLane, IsFlat, IsInLane, IsPrioOf, LoanIsDrawn, PrioIsDrawn, SaysAs}
-use Rattle.chart_svg.specs.Lanes.{bar_bottom, bar_top, begin_of, lane_top, pitch_of, rank_in, scale_of, strip_of, top_of, BarsAreDrawn, Fits, HasBars, HasLanes, HasOwn, HasPrios, HasRoom, HasStep, HasSteps, IsDrawnAt, IsLentAt, LoansAreDrawn}
+use Rattle.chart_svg.specs.Lanes.{bar_bottom, bar_place, bar_top, begin_of, lane_top, of_thread, pitch_of, rank_in, scale_of, strip_of, top_of, AreSame, BarIsOn, BarsAreDrawn, Fits, HasLanes, HasPrios, HasRoom, IsDrawnAt, IsLaid, IsLentAt, LoansAreDrawn}
 use Rattle.chart_svg.specs.Pages.{shown_words, FrameIsOn, PrioIsOn}
 use Rattle.chart_svg.specs.declared.page.LaneBand.{LaneBand}
 use Rattle.chart_svg.specs.declared.page.Page.{Page}
@@ -36,15 +39,15 @@ in_lane page t lane y room is top bottom = record {
   ends = omega (arith, room.ends t lane is);
 }
 
-pub lanes_apart : (page : Page) → HasRoom page → HasLanes page page.chart.now → (t : ℕ) → HasLane page.chart.now t → pixels (lane_top page t + 45) ≤ lane_top page (t + 1)
-lanes_apart page room has t lt = elim (slice_get_cases page.chart.now.lanes t).1 [
-  | inl (lane, within, is, read) ↦ (let of = has t lane is in
-      let fit : Fits page of.lane = room.fits t of.lane of.is in
-      omega (arith, lane_begins page t of.lane of.is, room.ends t of.lane of.is, fit.has_room, fit.begins))
-  | inr (past, none) ↦ absurd (omega arith)
-]
+pub lanes_apart : (page : Page) → HasRoom page → HasLanes page page.chart.now → (t : ℕ) → HasLane page.chart.now t
+    → pixels (lane_top page t + 45) ≤ lane_top page (t + 1)
+lanes_apart page room has t lt =
+    let at = has t lt in
+    let fit : Fits page at.lane = room.fits t at.lane at.is in
+    omega (arith, lane_begins page t at.lane at.is, room.ends t at.lane at.is, fit.has_room, fit.begins)
 
-pub ranks_apart : (page : Page) → HasPrios page.prios.items page.chart.now.steps → (p q : ℕ) → p < q → Any (IsPrioOf p) page.chart.now.steps
+pub ranks_apart : (page : Page) → HasPrios page.prios.items page.chart.now.steps → (p q : ℕ) → p < q
+    → Any (IsPrioOf p) page.chart.now.steps
     → rank_in page.prios.items p < rank_in page.prios.items q
 ranks_apart page has p q lt (k, step, within, is, which) =
     let P : PrioSpan → Type 0 = λ s. Contains page.prios.items s.effective × Contains page.prios.items s.base in
@@ -66,7 +69,8 @@ low bars.Walks = omega arith
 -- what stands there with room for a bar
 bar_drawn : (page : Page) (picture : List ℕ) (lane : LaneBand) (bar : Bar) (top : ℕ) → HasRoom page
     → slice_get page.lanes.items bar.thread.0 ≡ Some lane
-    → lane.top.0 ≤ top → pixels (top + 18) ≤ lane.bottom.0 → IsDrawnAt page picture top bar → BarIsDrawn page.plan.now page.chart.now (scale_of page) picture bar
+    → lane.top.0 ≤ top → pixels (top + 18) ≤ lane.bottom.0 → IsDrawnAt page picture top bar
+    → BarIsDrawn page.plan.now page.chart.now (scale_of page) picture bar
 bar_drawn page picture lane bar top room is begins ends stands = record {
   top = top;
   in_lane = in_lane page bar.thread.0 lane top room is begins (omega arith);
@@ -74,19 +78,37 @@ bar_drawn page picture lane bar top room is begins ends stands = record {
   stands = stands;
 }
 
-pub bars_drawn : (page : Page) (picture : List ℕ) → HasRoom page → HasBars page page.chart.now → All (BarsAreDrawn page picture) page.lanes.items
-    → (bar : Bar) → Contains page.chart.now.bars bar → HasLane page.chart.now bar.thread.0 → BarIsDrawn page.plan.now page.chart.now (scale_of page) picture bar
+place_of : (lane : LaneBand) (what : BarKind) (level : ℕ)
+    → (bar_place lane what level ≡ bar_top lane level) ⊎
+    (bar_place lane what level ≡ pixels (bar_bottom lane level + 2))
+place_of lane (bars.Holds l mode) level = inl refl
+place_of lane (bars.Waits q) level = inl refl
+place_of lane (bars.TakenOff q) level = inl refl
+place_of lane (bars.Woken q) level = inl refl
+place_of lane bars.Walks level = inr refl
+
+pub bars_drawn : (page : Page) (picture : List ℕ) → HasRoom page → HasLanes page page.chart.now
+    → All (BarsAreDrawn page picture) page.lanes.items
+    → (bar : Bar) → Contains page.chart.now.bars bar → HasLane page.chart.now bar.thread.0
+    → BarIsDrawn page.plan.now page.chart.now (scale_of page) picture bar
 bars_drawn page picture room has drawn bar in_chart lt =
-    let of = has bar in_chart lt in
-    let fit : Fits page of.lane = room.fits bar.thread.0 of.lane of.is in
-    let lane : BarsAreDrawn page picture of.lane = All-contains (BarsAreDrawn page picture) page.lanes.items of.lane drawn (among page.lanes.items bar.thread.0 of.lane of.is) in
-    elim of.has [
-      | inl (level, at) ↦ (let within : level < length of.lane.bars.levels.items = at.within in
-          let below : pixels (bar_bottom of.lane level + 20) ≤ of.lane.bottom.0 = fit.bars level (omega arith) in
-          bar_drawn page picture of.lane bar (bar_top of.lane level) room of.is (omega (arith, fit.begins, fit.begin_fits)) (omega arith) (lane.levels level bar at))
-      | inr (level, reached, walk) ↦ (let below : pixels (bar_bottom of.lane level + 20) ≤ of.lane.bottom.0 = fit.bars level reached in
-          bar_drawn page picture of.lane bar (pixels (bar_bottom of.lane level + 2)) room of.is (omega (arith, fit.begins, fit.begin_fits)) (omega arith)
-          (All-contains (λ w. IsDrawnAt page picture (pixels (bar_bottom of.lane w.1 + 2)) w.0) of.lane.bars.walks.items (bar, level) lane.walks walk))
+    let at = has bar.thread.0 lt in
+    let lane = at.lane in
+    let fit : Fits page lane = room.fits bar.thread.0 lane at.is in
+    let laid : IsLaid lane.bars bar =
+    All-contains (IsLaid lane.bars) _ bar at.bars
+    (of_own (λ (b : Bar). b.thread.0) page.chart.now.bars bar in_chart) in
+    let level = laid.0 in
+    let below : pixels (bar_bottom lane level + 20) ≤ lane.bottom.0 = fit.bars level laid.1 in
+    let stands : BarIsOn page lane picture (bar, level) =
+    All-contains (BarIsOn page lane picture) lane.bars.laid.items (bar, level)
+    (All-contains (BarsAreDrawn page picture) page.lanes.items lane drawn
+    (among page.lanes.items bar.thread.0 lane at.is)) laid.2 in
+    elim (place_of lane bar.what level) [
+      | inl e ↦ bar_drawn page picture lane bar (bar_place lane bar.what level) room at.is
+          (omega (arith, e, fit.begins, fit.begin_fits)) (omega (arith, e)) stands
+      | inr e ↦ bar_drawn page picture lane bar (bar_place lane bar.what level) room at.is
+          (omega (arith, e, fit.begins, fit.begin_fits)) (omega (arith, e)) stands
     ]
 
 -- 3. Priorities
@@ -94,101 +116,116 @@ bars_drawn page picture room has drawn bar in_chart lt =
 -- a step of a lane that has a strip
 loan_drawn : (page : Page) (picture : List ℕ) (lane : LaneBand) (strip : Px) (step : PrioSpan) → HasRoom page
     → slice_get page.lanes.items step.thread.0 ≡ Some lane
-    → lane.strip ≡ Some strip → HasStep lane step → LoansAreDrawn page picture lane → step.effective ≢ step.base
+    → lane.strip ≡ Some strip → Contains lane.steps.items step → LoansAreDrawn page picture lane
+    → step.effective ≢ step.base
     → LoanIsDrawn page.chart.now (scale_of page) picture step
 loan_drawn page picture lane strip step room is has_strip has drawn lent =
     let fit : Fits page lane = room.fits step.thread.0 lane is in
     let at : strip_of (slice_get page.lanes.items step.thread.0) ≡ strip.0 = ap strip_of is ∙ ap begin_of has_strip in
     let place : (prio : ℕ) → IsInLane (scale_of page) step.thread.0
-    (pixels (strip_of (slice_get page.lanes.items step.thread.0) + rank_in page.prios.items prio * pitch_of (length page.prios.items))) =
+    (pixels (strip_of (slice_get page.lanes.items step.thread.0) + rank_in page.prios.items prio * pitch_of
+    (length page.prios.items))) =
     λ prio. in_lane page step.thread.0 lane _ room is
     (omega (arith, at, fit.strip_begins strip has_strip, fit.strip_fits strip has_strip))
     (omega (arith, at, fit.strip_ends strip prio has_strip)) in
     record {
       top_in_lane = place step.effective.0;
       base_in_lane = place step.base.0;
-      stands = All-contains (IsLentAt page picture strip.0) lane.steps.items step (drawn strip has_strip) has.among at
-          lent;
+      stands = All-contains (IsLentAt page picture strip.0) lane.steps.items step (drawn strip has_strip) has at lent;
     }
 
--- a step of a lane that has none says the same as all others of the thread
-says_as : (lane : LaneBand) (step other : PrioSpan) → lane.strip ≡ None → HasStep lane step → HasStep lane other
-    → SaysAs step other
-says_as lane step other none has others = elim (slice_get_cases lane.steps.items 0).1 [
-  | inl (first, within, is, read) ↦ (let all = has.flat.0 none first is in
-      let this : SaysAs first step = All-contains (SaysAs first) lane.steps.items step all has.among in
-      let that : SaysAs first other = All-contains (SaysAs first) lane.steps.items other all others.among in
-      (that.0 ∙ sym this.0, that.1 ∙ sym this.1))
-  | inr (past, none_there) ↦ (let some : has.among.0 < length lane.steps.items = has.among.1 in absurd (omega arith))
+-- the first step of a lane that has one
+first_of : (lane : LaneBand) (step : PrioSpan) → Contains lane.steps.items step
+    → (first : PrioSpan) × (slice_get lane.steps.items 0 ≡ Some first)
+first_of lane step has = elim (slice_get_cases lane.steps.items 0).1 [
+  | inl (first, within, is, read) ↦ (first, is)
+  | inr (past, none) ↦ (let some : has.0 < length lane.steps.items = has.1 in absurd (omega arith))
 ]
+
+-- a step of a lane whose steps are the same says what all others say
+says_as : (lane : LaneBand) (step other : PrioSpan) → AreSame lane.steps.items → Contains lane.steps.items step
+    → Contains lane.steps.items other → SaysAs step other
+says_as lane step other same has others =
+    let first = first_of lane step has in
+    let all = same first.0 first.1 in
+    let this : SaysAs first.0 step = All-contains (SaysAs first.0) lane.steps.items step all has in
+    let that : SaysAs first.0 other = All-contains (SaysAs first.0) lane.steps.items other all others in
+    (that.0 ∙ sym this.0, that.1 ∙ sym this.1)
 
 number_drawn : (page : Page) (picture : List ℕ) (lane : LaneBand) (step : PrioSpan) → HasRoom page
     → slice_get page.lanes.items step.thread.0 ≡ Some lane
-    → lane.strip ≡ None → HasStep lane step → PrioIsOn picture lane → PrioIsDrawn (scale_of page) picture step
-number_drawn page picture lane step room is none has drawn = elim (slice_get_cases lane.steps.items 0).1 [
-  | inl (first, within, at, read) ↦
-      (let this : SaysAs first step = All-contains (SaysAs first) lane.steps.items step (has.flat.0 none first at)
-      has.among in
-      let fit : Fits page lane = room.fits step.thread.0 lane is in
-      let below : pixels (bar_bottom lane 0 + 20) ≤ lane.bottom.0 = fit.bars 0 (omega arith) in
-      let y : ℕ = pixels (pixels (lane.begin.0 + 36) + 20) in
-      record {
-        y = y;
-        in_lane = in_lane page step.thread.0 lane y room is (omega (arith, fit.begins, fit.begin_fits))
-            (omega (arith, below));
-        stands = told picture _ _ (ap (λ (o : Option Px). words_bytes (codes "gray") 24 y (shown_words o first)) none
-            ∙ ap (λ (p : Prio). words_bytes (codes "gray") 24 y (prio_words p.0 first.base.0)) (sym this.0)
-            ∙ ap (λ (p : Prio). words_bytes (codes "gray") 24 y (prio_words step.effective.0 p.0)) (sym this.1))
-            (drawn first at);
-      })
-  | inr (past, none_there) ↦ (let some : has.among.0 < length lane.steps.items = has.among.1 in absurd (omega arith))
-]
+    → lane.strip ≡ None → AreSame lane.steps.items → Contains lane.steps.items step → PrioIsOn picture lane
+    → PrioIsDrawn (scale_of page) picture step
+number_drawn page picture lane step room is none same has drawn =
+    let at = first_of lane step has in
+    let first = at.0 in
+    let this : SaysAs first step = All-contains (SaysAs first) lane.steps.items step (same first at.1) has in
+    let fit : Fits page lane = room.fits step.thread.0 lane is in
+    let below : pixels (bar_bottom lane 0 + 20) ≤ lane.bottom.0 = fit.bars 0 (omega arith) in
+    let y : ℕ = pixels (pixels (lane.begin.0 + 36) + 20) in
+    record {
+      y = y;
+      in_lane = in_lane page step.thread.0 lane y room is (omega (arith, fit.begins, fit.begin_fits))
+          (omega (arith, below));
+      stands = told picture _ _ (ap (λ (o : Option Px). words_bytes (codes "gray") 24 y (shown_words o first)) none
+          ∙ ap (λ (p : Prio). words_bytes (codes "gray") 24 y (prio_words p.0 first.base.0)) (sym this.0)
+          ∙ ap (λ (p : Prio). words_bytes (codes "gray") 24 y (prio_words step.effective.0 p.0)) (sym this.1))
+          (drawn first at.1);
+    }
 
 some_or_none : {X : Type 0} (o : Option X) → ((x : X) × (o ≡ Some x)) ⊎ (o ≡ None)
 some_or_none None = inr refl
 some_or_none (Some x) = inl (x, refl)
 
--- the lane of a thread whose priorities don't change has no strip
-no_strip : (page : Page) (lane : LaneBand) (step : PrioSpan) → slice_get page.lanes.items step.thread.0 ≡ Some lane
-    → HasOwn page page.chart.now → HasStep lane step
-    → IsFlat page.chart.now step → lane.strip ≡ None
-no_strip page lane step is own has flat =
-    let said : (other : PrioSpan) → Contains lane.steps.items other → SaysAs step other =
-    λ other on. (let of = own step.thread.0 lane is other on in
-    All-contains (λ o. o.thread ≡ step.thread → SaysAs step o) page.chart.now.steps other flat of.0
-    (ap (λ (n : ℕ). record { 0 = n }) of.1)) in
-    has.flat.1 (λ first at k d within.
-    let this = said first (among lane.steps.items 0 first at) in
-    let that = said (get_or lane.steps.items k d) (Contains-get_or lane.steps.items k d within) in
-    (that.0 ∙ sym this.0, that.1 ∙ sym this.1))
+-- the steps of a thread whose priorities don't change are the same
+are_same : (chart : Chart) (step : PrioSpan) → IsFlat chart step
+    → AreSame (of_thread (λ other. other.thread.0) step.thread.0 chart.steps)
+are_same chart step flat =
+    let is_own : PrioSpan → Bool = λ other. other.thread.0 == step.thread.0 in
+    let own = of_thread (λ (other : PrioSpan). other.thread.0) step.thread.0 chart.steps in
+    let Own : PrioSpan → Type 0 = λ other. Contains chart.steps other × (is_own other ≡ true) in
+    let owned : All Own own = λ k d lt. (
+      All-filter is_own (Contains chart.steps) chart.steps (All-contains_itself chart.steps) k d lt,
+      filter_passes is_own chart.steps k d lt,
+    ) in
+    let numbered : ℕ → ThreadNo = λ n. record { 0 = n } in
+    let said : All (SaysAs step) own = All-weaker Own (SaysAs step)
+    (λ other has. All-contains (λ (o : PrioSpan). o.thread ≡ step.thread → SaysAs step o) chart.steps other flat has.0
+    (ap numbered ((Decides-eqb other.thread.0 step.thread.0).0 has.1))) own owned in
+    λ first at. (let this = All-contains (SaysAs step) own first said (among own 0 first at) in
+    All-weaker (SaysAs step) (SaysAs first) (λ other that. (that.0 ∙ sym this.0, that.1 ∙ sym this.1)) own said)
 
-pub prios_drawn : (page : Page) (picture : List ℕ) → HasRoom page → HasSteps page page.chart.now
-    → HasOwn page page.chart.now → All (FrameIsOn page picture) page.lanes.items
+pub prios_drawn : (page : Page) (picture : List ℕ) → HasRoom page → HasLanes page page.chart.now
+    → All (FrameIsOn page picture) page.lanes.items
     → (step : PrioSpan) → Contains page.chart.now.steps step → HasLane page.chart.now step.thread.0
     → IsFlat page.chart.now step → PrioIsDrawn (scale_of page) picture step
-prios_drawn page picture room has own frame step in_chart lt flat =
-    let of = has step in_chart lt in
-    let on : Contains page.lanes.items of.lane = among page.lanes.items step.thread.0 of.lane of.is in
-    number_drawn page picture of.lane step room of.is (no_strip page of.lane step of.is own of.has flat) of.has
-    (All-contains (FrameIsOn page picture) page.lanes.items of.lane frame on).prio
+prios_drawn page picture room has frame step in_chart lt flat =
+    let at = has step.thread.0 lt in
+    let Own : List PrioSpan → Type 0 = λ xs. Contains xs step in
+    let same : AreSame at.lane.steps.items = subst AreSame (sym at.steps) (are_same page.chart.now step flat) in
+    number_drawn page picture at.lane step room at.is (at.flat.1 same) same
+    (subst Own (sym at.steps) (of_own (λ (s : PrioSpan). s.thread.0) page.chart.now.steps step in_chart))
+    (All-contains (FrameIsOn page picture) page.lanes.items at.lane frame
+    (among page.lanes.items step.thread.0 at.lane at.is)).prio
 
-pub loans_drawn : (page : Page) (picture : List ℕ) → HasRoom page → HasSteps page page.chart.now
+pub loans_drawn : (page : Page) (picture : List ℕ) → HasRoom page → HasLanes page page.chart.now
     → All (LoansAreDrawn page picture) page.lanes.items
     → (step : PrioSpan) → Contains page.chart.now.steps step → HasLane page.chart.now step.thread.0
     → Changes page.chart.now step → step.effective ≢ step.base → LoanIsDrawn page.chart.now (scale_of page) picture step
 loans_drawn page picture room has drawn step in_chart lt changes lent =
-    let of = has step in_chart lt in
-    let lane = of.lane in
-    let on : Contains page.lanes.items lane = among page.lanes.items step.thread.0 lane of.is in
+    let chart = page.chart.now in
+    let at = has step.thread.0 lt in
+    let lane = at.lane in
+    let within : (other : PrioSpan) → Contains chart.steps other → other.thread ≡ step.thread
+    → Contains lane.steps.items other =
+    λ other in_it same. (let Own : List PrioSpan → Type 0 = λ xs. Contains xs other in
+    let Of : ThreadNo → Type 0 = λ n. Contains (of_thread (λ s. s.thread.0) n.0 chart.steps) other in
+    subst Own (sym at.steps) (subst Of same (of_own (λ (s : PrioSpan). s.thread.0) chart.steps other in_it))) in
     elim (some_or_none lane.strip) [
-      | inl (strip, is) ↦ loan_drawn page picture lane strip step room of.is is of.has
-          (All-contains (LoansAreDrawn page picture) page.lanes.items lane drawn on) lent
-      | inr none ↦ absurd (changes (λ k d within same.
-          let other = get_or page.chart.now.steps k d in
-          let there : slice_get page.lanes.items other.thread.0 ≡ Some lane =
-          ap (λ (t : ThreadNo). slice_get page.lanes.items t.0) same ∙ of.is in
-          let of_other = has other (Contains-get_or page.chart.now.steps k d within)
-          (subst (λ (t : ThreadNo). HasLane page.chart.now t.0) (sym same) lt) in
-          let own : of_other.lane ≡ lane = same_Some of_other.lane lane (sym of_other.is ∙ there) in
-          says_as lane step other none of.has (subst (λ l. HasStep l other) own of_other.has)))
+      | inl (strip, is) ↦ loan_drawn page picture lane strip step room at.is is (within step in_chart refl)
+          (All-contains (LoansAreDrawn page picture) page.lanes.items lane drawn
+          (among page.lanes.items step.thread.0 lane at.is)) lent
+      | inr none ↦ absurd (changes (λ k d below same.
+          says_as lane step (get_or chart.steps k d) (at.flat.0 none) (within step in_chart refl)
+          (within (get_or chart.steps k d) (Contains-get_or chart.steps k d below) same)))
     ]

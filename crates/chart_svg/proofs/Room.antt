@@ -16,7 +16,8 @@ use Rattle.chart_svg.specs.declared.pixels.Px.{Px}
 -- 1. Lanes
 
 rank-le : (prios : List Prio) (prio : ℕ) → rank_in prios prio ≤ length prios
-rank-le prios prio = omega (arith, length-filter (λ other. nat_lt other.0 prio) prios, count_by-le-length (λ other. nat_lt other.0 prio) prios)
+rank-le prios prio = omega
+    (arith, length-filter (λ other. nat_lt other.0 prio) prios, count_by-le-length (λ other. nat_lt other.0 prio) prios)
 
 -- a strip that begins below the bars ends before the lane does
 strip_room : (end y rank gaps pitch bottom : ℕ) → y ≡ pixels (end + 5) → rank ≤ gaps + 1 → pitch ≤ 15
@@ -27,12 +28,15 @@ strip_room end y rank gaps pitch bottom is le small room =
 
 -- a lane that was lent to
 pub fits_lent : (page : Page) (lane : LaneBand) (end strip : Px) → lane.top.0 ≤ lane.begin.0 → lane.begin.0 ≤ 4294967295
-    → ((level : ℕ) → level ≤ length lane.bars.levels.items - 1 → pixels (bar_bottom lane level + 4) ≤ end.0) → lane.strip ≡ Some strip → strip.0 ≡ pixels (end.0 + 5)
-    → lane.bottom.0 ≡ pixels (pixels (end.0 + pixels (pitch_of (length page.prios.items) * (length page.prios.items - 1))) + 27)
+    → ((level : ℕ) → level ≤ length lane.bars.ends.items - 1 → pixels (bar_bottom lane level + 4) ≤ end.0)
+    → lane.strip ≡ Some strip → strip.0 ≡ pixels (end.0 + 5)
+    → lane.bottom.0 ≡ pixels
+    (pixels (end.0 + pixels (pitch_of (length page.prios.items) * (length page.prios.items - 1))) + 27)
     → Fits page lane
 fits_lent page lane end strip top begin bars is place bottom =
     let first : pixels (bar_bottom lane 0 + 4) ≤ end.0 = bars 0 (omega arith) in
-    let same : (y : Px) → lane.strip ≡ Some y → y.0 ≡ pixels (end.0 + 5) = λ y e. (let h : strip ≡ y = cc in sym (ap (λ p. p.0) h) ∙ place) in
+    let same : (y : Px) → lane.strip ≡ Some y
+    → y.0 ≡ pixels (end.0 + 5) = λ y e. (let h : strip ≡ y = cc in sym (ap (λ p. p.0) h) ∙ place) in
     record {
       begins = top;
       begin_fits = begin;
@@ -41,11 +45,15 @@ fits_lent page lane end strip top begin bars is place bottom =
       bars = λ level below. (let bar : pixels (bar_bottom lane level + 4) ≤ end.0 = bars level below in omega arith);
       strip_begins = λ y e. (let at : y.0 ≡ pixels (end.0 + 5) = same y e in omega arith);
       strip_fits = λ y e. (let at : y.0 ≡ pixels (end.0 + 5) = same y e in omega arith);
-      strip_ends = λ y prio e. (let rank : rank_in page.prios.items prio ≤ length page.prios.items = rank-le page.prios.items prio in
+      strip_ends = λ y prio e.
+          (let rank : rank_in page.prios.items prio ≤ length page.prios.items = rank-le page.prios.items prio in
           let le : rank_in page.prios.items prio ≤ (length page.prios.items - 1) + 1 = omega arith in
           let small : pitch_of (length page.prios.items) ≤ 15 = omega arith in
-          let room : pixels (pixels (end.0 + pixels (pitch_of (length page.prios.items) * (length page.prios.items - 1))) + 27) ≤ lane.bottom.0 = omega arith in
-          strip_room end.0 y.0 (rank_in page.prios.items prio) (length page.prios.items - 1) (pitch_of (length page.prios.items)) lane.bottom.0 (same y e) le small room);
+          let room : pixels (pixels
+          (end.0 + pixels (pitch_of (length page.prios.items) * (length page.prios.items - 1))) + 27) ≤
+          lane.bottom.0 = omega arith in
+          strip_room end.0 y.0 (rank_in page.prios.items prio) (length page.prios.items - 1)
+          (pitch_of (length page.prios.items)) lane.bottom.0 (same y e) le small room);
     }
 
 fits_still : (old new : Page) (lane : LaneBand) → new.prios ≡ old.prios → Fits old lane → Fits new lane
@@ -87,12 +95,15 @@ pub room_more : (old new : Page) (lane : LaneBand) → new.lanes.items ≡ old.l
     → lane.top.0 ≡ old.bottom.0 → Fits old lane → HasRoom old → HasRoom new
 room_more old new lane pushed prios bottom top fit h =
     let read : (t : ℕ) (own : LaneBand) → slice_get new.lanes.items t ≡ Some own
-    → ((t < length old.lanes.items) × (slice_get old.lanes.items t ≡ Some own)) ⊎ ((t ≡ length old.lanes.items) × (lane ≡ own)) =
+    → ((t < length old.lanes.items) × (slice_get old.lanes.items t ≡ Some own)) ⊎
+    ((t ≡ length old.lanes.items) × (lane ≡ own)) =
     λ t own is. slice_get-push old.lanes.items lane t own (ap (λ xs. slice_get xs t) (sym pushed) ∙ is) in
     let tops : (t : ℕ) → t ≤ length old.lanes.items → lane_top new t ≡ lane_top old t =
-    λ t le. ap (λ xs. top_of new.bottom.0 (slice_get xs t)) pushed ∙ top_more old.lanes.items lane old.bottom.0 new.bottom.0 t top le in
+    λ t le. ap (λ xs. top_of new.bottom.0 (slice_get xs t)) pushed
+    ∙ top_more old.lanes.items lane old.bottom.0 new.bottom.0 t top le in
     let last : lane_top new (length old.lanes.items + 1) ≡ new.bottom.0 =
-    top_past new.lanes.items (length old.lanes.items + 1) new.bottom.0 (omega (arith, ap length pushed, length-append old.lanes.items (lane ∷ []))) in
+    top_past new.lanes.items (length old.lanes.items + 1) new.bottom.0
+    (omega (arith, ap length pushed, length-append old.lanes.items (lane ∷ []))) in
     record {
       bottom_fits = omega (arith, fit.bottom_fits);
       fits = λ t own is. elim (read t own is) [
@@ -101,6 +112,7 @@ room_more old new lane pushed prios bottom top fit h =
       ];
       ends = λ t own is. elim (read t own is) [
         | inl (lt, was) ↦ h.ends t own was ∙ sym (tops (t + 1) (omega arith))
-        | inr (e, same) ↦ ap (λ l. l.bottom.0) (sym same) ∙ sym bottom ∙ sym last ∙ ap (λ n. lane_top new (n + 1)) (sym e)
+        | inr (e, same) ↦ ap (λ l. l.bottom.0) (sym same) ∙ sym bottom ∙ sym last
+            ∙ ap (λ n. lane_top new (n + 1)) (sym e)
       ];
     }

@@ -22,9 +22,9 @@ use Rattle.lock_model.specs.declared.plan.Mode.TheVariants.{Excl, Shared}
 use Rattle.lock_model.specs.declared.plan.Plan.{Plan}
 use Rattle.lock_model.specs.declared.plan.QueueName.TheVariants.{Lock, Chan}
 use Rattle.chart_svg.specs.declared.shapes.Area.{Area}
+use Rattle.chart_svg.specs.declared.shapes.Class.{Class}
 use Rattle.chart_svg.specs.declared.shapes.Figure.{Figure}
 use Rattle.chart_svg.specs.declared.shapes.Figure.TheVariants.{Up, Down, Cross}
-use Rattle.chart_svg.specs.declared.tags.Class.{Class}
 
 -- 1. What stands in a text
 
@@ -33,10 +33,6 @@ pub record Stands (text part : List ℕ) : Type 0 where
   pub before : List ℕ
   pub behind : List ℕ
   pub is : text ≡ before ++ (part ++ behind)
-
--- what stood in the old text stands in the new one
-abbrev pub Keeps : List ℕ → List ℕ → Type 0
-Keeps old new = (part : List ℕ) → Stands old part → Stands new part
 
 -- 2. Shapes, each of a class. What a shape says is shown where it is pointed at.
 

@@ -1,8 +1,10 @@
 -- Where the lanes of a page are, and what stands in them.
-use Rattle.std.specs.Prelude.{◌≡◌, ◌≢◌, ◌↔◌, ℕ, ◌+◌, ◌-◌, ◌*◌, ◌/◌, ◌<◌, ◌≤◌, ◌⊎◌, nat_lt, min, max, List, [], ◌∷◌, ◌++◌, length, slice_get, slice_index_or, codes, decimal, Contains, All, Option, Some, None}
+use Rattle.std.specs.Prelude.{◌≡◌, ◌≢◌, ◌↔◌, ℕ, ◌+◌, ◌-◌, ◌*◌, ◌/◌, ◌<◌, ◌≤◌, ◌==◌, nat_lt, min, max, List, [], ◌∷◌, ◌++◌, length, slice_get, codes, decimal, Contains, All, Option, Some, None}
 use Rattle.std.specs.Global.{Vec}
 use Rattle.std.specs.List.{filter}
 use Rattle.chart_layout.specs.declared.layout.Bar.{Bar}
+use Rattle.chart_layout.specs.declared.layout.BarKind.{BarKind}
+use Rattle.chart_layout.specs.declared.layout.BarKind.TheVariants.{Holds, Waits, TakenOff, Woken, Walks}
 use Rattle.chart_layout.specs.declared.layout.Chart.{Chart}
 use Rattle.chart_layout.specs.declared.layout.Lane.{Lane as ChartLane}
 use Rattle.chart_layout.specs.declared.layout.PrioSpan.{PrioSpan}
@@ -60,6 +62,14 @@ bar_top lane level = pixels (pixels (lane.begin.0 + 27) + level * lane.pitch)
 abbrev pub bar_bottom : LaneBand → ℕ → ℕ
 bar_bottom lane level = pixels (bar_top lane level + 18)
 
+-- the top of a bar on a level: a walk is a line below the wait from which it begins
+abbrev pub bar_place : LaneBand → BarKind → ℕ → ℕ
+bar_place lane (Holds l mode) level = bar_top lane level
+bar_place lane (Waits q) level = bar_top lane level
+bar_place lane (TakenOff q) level = bar_top lane level
+bar_place lane (Woken q) level = bar_top lane level
+bar_place lane Walks level = pixels (bar_bottom lane level + 2)
+
 -- what stands in a lane stands between its top and its bottom: marks, the line of its thread, bars on all levels with a
 -- walk below them, and each priority of the strip
 pub record Fits (page : Page) (lane : LaneBand) : Type 0 where
@@ -67,7 +77,7 @@ pub record Fits (page : Page) (lane : LaneBand) : Type 0 where
   pub begin_fits : lane.begin.0 ≤ 4294967295
   pub bottom_fits : lane.bottom.0 ≤ 4294967295
   pub has_room : pixels (lane.begin.0 + 48) ≤ lane.bottom.0
-  pub bars : (level : ℕ) → level ≤ length lane.bars.levels.items - 1
+  pub bars : (level : ℕ) → level ≤ length lane.bars.ends.items - 1
       → pixels (bar_bottom lane level + 20) ≤ lane.bottom.0
   pub strip_begins : (y : Px) → lane.strip ≡ Some y → lane.top.0 ≤ y.0
   pub strip_fits : (y : Px) → lane.strip ≡ Some y → y.0 ≤ 4294967295
@@ -84,87 +94,82 @@ pub record HasRoom (page : Page) : Type 0 where
 
 -- 3. What is of a thread
 
--- the thing is in the list at the place
-pub record IsAt {X : Type 0} (lists : List (Vec X)) (place : ℕ) (x : X) : Type 0 where
-  pub list : Vec X
-  pub within : place < length lists
-  pub is : slice_index_or lists place list ≡ list
-  pub has : Contains list.items x
+-- the things of a thread, in order
+abbrev pub of_thread : {X : Type 0} → (X → ℕ) → ℕ → List X → List X
+of_thread number t things = filter (λ thing. number thing == t) things
 
--- the thing of a thread is in the lane of the thread
-pub record IsOf {X : Type 0} (Has : LaneBand → X → Type 0) (lanes : List LaneBand) (t : ℕ) (x : X)
-    : Type 0 where
-  pub lane : LaneBand
-  pub is : slice_get lanes t ≡ Some lane
-  pub has : Has lane x
+-- the things in a list, if there is one
+abbrev pub items_of : {X : Type 0} → Option (Vec X) → List X
+items_of None = []
+items_of (Some list) = list.items
 
--- a page has the lanes of a chart, in order
-abbrev pub HasLanes : Page → Chart → Type 0
-HasLanes page chart = (t : ℕ) (lane : ChartLane) → slice_get chart.lanes t ≡ Some lane
-    → IsOf (λ own named. own.thread ≡ named.thread) page.lanes.items t lane
-
--- 4. Bars
+-- those in the list at a place
+abbrev pub list_at : {X : Type 0} → List (Vec X) → ℕ → List X
+list_at lists place = items_of (slice_get lists place)
 
 -- the bar lies on some level, or is a walk below one
 abbrev pub IsLaid : Packed → Bar → Type 0
-IsLaid packed bar =
-    ((level : ℕ) × IsAt packed.levels.items level bar)
-    ⊎ ((level : ℕ) × (level ≤ length packed.levels.items - 1)
-    × Contains packed.walks.items (bar, level))
+IsLaid packed bar = (level : ℕ) × (level ≤ length packed.ends.items - 1)
+    × Contains packed.laid.items (bar, level)
 
--- each bar of a chart whose thread has a lane is laid in that lane
-abbrev pub HasBars : Page → Chart → Type 0
-HasBars page chart = (bar : Bar) → Contains chart.bars bar → bar.thread.0 < length chart.lanes
-    → IsOf (λ lane. IsLaid lane.bars) page.lanes.items bar.thread.0 bar
+-- all steps say the priorities of the first
+abbrev pub AreSame : List PrioSpan → Type 0
+AreSame steps = (first : PrioSpan) → slice_get steps 0 ≡ Some first → All (SaysAs first) steps
+
+-- the t-th lane is that of the thread that the chart names there; these bars are laid in it, and it has these steps, and
+-- no strip exactly where they are all the same
+pub record LaneAt (lanes : List LaneBand) (named : List ChartLane) (t : ℕ) (own_bars : List Bar)
+    (own_steps : List PrioSpan) : Type 0 where
+  pub lane : LaneBand
+  pub own : ChartLane
+  pub is : slice_get lanes t ≡ Some lane
+  pub of : slice_get named t ≡ Some own
+  pub thread : lane.thread ≡ own.thread
+  pub bars : All (IsLaid lane.bars) own_bars
+  pub steps : lane.steps.items ≡ own_steps
+  pub flat : lane.strip ≡ None ↔ AreSame lane.steps.items
+
+-- a page has the lanes of a chart, in order, each with the bars and the steps of its thread
+abbrev pub HasLanes : Page → Chart → Type 0
+HasLanes page chart = (t : ℕ) → t < length chart.lanes
+    → LaneAt page.lanes.items chart.lanes t (of_thread (λ bar. bar.thread.0) t chart.bars)
+    (of_thread (λ step. step.thread.0) t chart.steps)
+
+-- the lanes are one more, with these bars and steps of its thread
+pub record HasLaneMore (old new : List LaneBand) (own : ThreadNo) (own_bars : List Bar)
+    (own_steps : List PrioSpan) : Type 0 where
+  pub lane : LaneBand
+  pub pushed : new ≡ old ++ lane ∷ []
+  pub thread : lane.thread ≡ own
+  pub bars : All (IsLaid lane.bars) own_bars
+  pub steps : lane.steps.items ≡ own_steps
+  pub flat : lane.strip ≡ None ↔ AreSame lane.steps.items
+
+-- 4. Bars
+
+-- what the bar is written as with its top there
+abbrev pub bar_bytes : Page → ℕ → Bar → List ℕ
+bar_bytes page top bar = rect_bytes (bar_class bar.what)
+    (bar_area (scale_of page) page.chart.now bar top) (bar_title page.plan.now page.chart.now bar)
 
 -- the bar stands in the picture with its top there
 abbrev pub IsDrawnAt : Page → List ℕ → ℕ → Bar → Type 0
-IsDrawnAt page picture top bar =
-    Stands picture (rect_bytes (bar_class bar.what)
-    (bar_area (scale_of page) page.chart.now bar top) (bar_title page.plan.now page.chart.now bar))
+IsDrawnAt page picture top bar = Stands picture (bar_bytes page top bar)
 
--- all bars of a lane stand in the picture, those of each level, and the walks below theirs
-pub record BarsAreDrawn (page : Page) (picture : List ℕ) (lane : LaneBand) : Type 0 where
-  pub levels : (level : ℕ) (bar : Bar) → IsAt lane.bars.levels.items level bar
-      → IsDrawnAt page picture (bar_top lane level) bar
-  pub walks : All (λ walk. IsDrawnAt page picture (pixels (bar_bottom lane walk.1 + 2)) walk.0)
-      lane.bars.walks.items
+-- a bar on its level in a lane stands there
+abbrev pub BarIsOn : Page → LaneBand → List ℕ → Bar × ℕ → Type 0
+BarIsOn page lane picture at =
+    IsDrawnAt page picture (bar_place lane at.0.what at.1) at.0
+
+-- all bars of a lane stand there
+abbrev pub BarsAreDrawn : Page → List ℕ → LaneBand → Type 0
+BarsAreDrawn page picture lane = All (BarIsOn page lane picture) lane.bars.laid.items
 
 -- 5. Steps and loans
 
 -- the priorities by which the threads of a chart run, and their own, are among those of a page
 abbrev pub HasPrios : List Prio → List PrioSpan → Type 0
 HasPrios prios steps = All (λ step. Contains prios step.effective × Contains prios step.base) steps
-
--- all steps say the priorities of the first
-abbrev pub AreSame : List PrioSpan → Type 0
-AreSame steps = (first : PrioSpan) → slice_get steps 0 ≡ Some first → All (SaysAs first) steps
-
--- the step is among those of the lane, which has no strip exactly where they are all the same
-pub record HasStep (lane : LaneBand) (step : PrioSpan) : Type 0 where
-  pub among : Contains lane.steps.items step
-  pub flat : lane.strip ≡ None ↔ AreSame lane.steps.items
-
--- the lanes are one more, with the bars and the steps of its thread
-pub record HasLaneMore (old new : List LaneBand) (thread : ThreadNo) (bars : List Bar)
-    (steps : List PrioSpan) : Type 0 where
-  pub lane : LaneBand
-  pub pushed : new ≡ old ++ lane ∷ []
-  pub named : lane.thread ≡ thread
-  pub has_bars : All (IsLaid lane.bars) bars
-  pub has_steps : All (HasStep lane) steps
-  pub own_steps : lane.steps.items ≡ steps
-
--- each step of a chart whose thread has a lane is in that lane
-abbrev pub HasSteps : Page → Chart → Type 0
-HasSteps page chart = (step : PrioSpan) → Contains chart.steps step
-    → step.thread.0 < length chart.lanes → IsOf HasStep page.lanes.items step.thread.0 step
-
--- each step of a lane is one of the chart, of the thread that has the lane
-abbrev pub HasOwn : Page → Chart → Type 0
-HasOwn page chart = (t : ℕ) (lane : LaneBand) → slice_get page.lanes.items t ≡ Some lane
-    → (step : PrioSpan) → Contains lane.steps.items step
-    → Contains chart.steps step × (step.thread.0 ≡ t)
 
 -- a loan stands in the picture if the strip of its thread's lane begins there
 abbrev pub IsLentAt : Page → List ℕ → ℕ → PrioSpan → Type 0

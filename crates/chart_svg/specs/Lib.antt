@@ -2,4 +2,3 @@ pub mod Drawn
 pub mod Lanes
 pub mod Pages
 pub mod Shapes
-pub mod Tags

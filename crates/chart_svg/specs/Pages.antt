@@ -1,14 +1,13 @@
 -- What is drawn of a page: its arrows and marks, and the names and ends of its threads.
-use Rattle.std.specs.Prelude.{◌≡◌, ⊤, ℕ, ◌+◌, ◌<◌, ◌≤◌, nat_lt, if◌then◌else◌, List, length, slice_get, codes, All, Contains, Option, Some, None}
+use Rattle.std.specs.Prelude.{◌≡◌, ⊤, ℕ, ◌+◌, ◌<◌, ◌≤◌, nat_lt, if◌then◌else◌, List, length, slice_get, codes, All, Option, Some, None}
 use Rattle.chart_layout.specs.declared.layout.Arrow.{Arrow}
 use Rattle.chart_layout.specs.declared.layout.Chart.{Chart}
 use Rattle.chart_layout.specs.declared.layout.Lane.{Lane as ChartLane}
 use Rattle.chart_layout.specs.declared.layout.PrioSpan.{PrioSpan}
 use Rattle.chart_layout.specs.declared.layout.TurnMark.{TurnMark}
 use Rattle.lock_model.specs.Plans.{thread_name}
-use Rattle.chart_svg.specs.Drawn.{arrow_title, figure_bytes, head_class, head_figure, line_bytes, line_class, pixels, prio_words, row_begin, turn_at, words_bytes, ArrowIsDrawn, IsInLane, MarkIsDrawn, Scale, Stands}
+use Rattle.chart_svg.specs.Drawn.{arrow_title, figure_bytes, head_class, head_figure, line_bytes, line_class, pixels, prio_words, row_begin, turn_at, words_bytes, IsInLane, MarkIsDrawn, Scale, Stands}
 use Rattle.chart_svg.specs.Lanes.{scale_of, BarsAreDrawn, Fits, LoansAreDrawn}
-use Rattle.chart_svg.specs.declared.arrows.Placed.{Placed}
 use Rattle.chart_svg.specs.declared.page.LaneBand.{LaneBand}
 use Rattle.chart_svg.specs.declared.page.Page.{Page}
 use Rattle.chart_svg.specs.declared.pixels.Px.{Px}
@@ -28,33 +27,20 @@ abbrev pub HasEnds : Page → Arrow → Type 0
 HasEnds page arrow =
     (arrow.from.0 < length page.lanes.items) × (arrow.to.0 < length page.lanes.items)
 
--- the arrow begins in the one lane and ends in the other, to which its head points
-pub record IsPlaced (page : Page) (placed : Placed) : Type 0 where
-  pub begins : IsInLane (scale_of page) placed.arrow.from.0 placed.begin.0
-  pub ends : IsInLane (scale_of page) placed.arrow.to.0 placed.tip.0
-  pub head : placed.head ≡ head_figure (scale_of page) placed.arrow
+-- the arrow begins in the one lane and ends in the other; its line stands in the one text, and its head in the other
+pub record ArrowStands (page : Page) (lines heads : List ℕ) (arrow : Arrow) : Type 0 where
+  pub begin : ℕ
+  pub tip : ℕ
+  pub begins : IsInLane (scale_of page) arrow.from.0 begin
+  pub ends : IsInLane (scale_of page) arrow.to.0 tip
+  pub line : Stands lines (line_bytes (line_class arrow.kind)
+      (turn_at (scale_of page) page.chart.now arrow.turn) begin tip)
+  pub head : Stands heads (figure_bytes (head_class arrow.kind) (head_figure (scale_of page) arrow)
+      (turn_at (scale_of page) page.chart.now arrow.turn) tip (arrow_title page.plan.now arrow))
 
--- an arrow whose lanes are there is among those that are placed
-abbrev pub IsAmong : Page → List Placed → Arrow → Type 0
-IsAmong page placed arrow = HasEnds page arrow
-    → (one : Placed) × Contains placed one × (one.arrow ≡ arrow)
-
--- the line of a placed arrow stands in the picture
-abbrev pub LineIsDrawn : Page → List ℕ → Placed → Type 0
-LineIsDrawn page picture placed = Stands picture (line_bytes (line_class placed.arrow.kind)
-    (turn_at (scale_of page) page.chart.now placed.arrow.turn) placed.begin.0 placed.tip.0)
-
--- its head stands there
-abbrev pub HeadIsDrawn : Page → List ℕ → Placed → Type 0
-HeadIsDrawn page picture placed =
-    Stands picture (figure_bytes (head_class placed.arrow.kind) placed.head
-    (turn_at (scale_of page) page.chart.now placed.arrow.turn) placed.tip.0
-    (arrow_title page.plan.now placed.arrow))
-
--- the arrow is drawn if its lanes are there
-abbrev pub ArrowIsOn : Page → List ℕ → Arrow → Type 0
-ArrowIsOn page picture arrow = HasEnds page arrow
-    → ArrowIsDrawn page.plan.now page.chart.now (scale_of page) picture arrow
+-- it does so if its lanes are there
+abbrev pub ArrowIsOn : Page → List ℕ → List ℕ → Arrow → Type 0
+ArrowIsOn page lines heads arrow = HasEnds page arrow → ArrowStands page lines heads arrow
 
 -- 2. Marks
 
@@ -69,7 +55,7 @@ MarkIsOn page picture mark = mark.thread.0 < length page.lanes.items
 pub record LanesAreDrawn (page : Page) (picture : List ℕ) : Type 0 where
   pub bars : All (BarsAreDrawn page picture) page.lanes.items
   pub loans : All (LoansAreDrawn page picture) page.lanes.items
-  pub arrows : All (ArrowIsOn page picture) page.chart.now.arrows
+  pub arrows : All (ArrowIsOn page picture picture) page.chart.now.arrows
   pub marks : All (MarkIsOn page picture) page.chart.now.marks
 
 -- 4. Names and ends of threads

@@ -1,9 +1,12 @@
--- What shapes are written as that say nothing, or that go any way.
-use Rattle.std.specs.Prelude.{ℕ, List, ◌++◌, codes, decimal}
+-- What shapes are written as.
+use Rattle.std.specs.Prelude.{ℕ, List, ◌++◌, Some, None, codes, decimal, flat_map}
 use Rattle.chart_escape.specs.Markup.{escaped}
+use Rattle.chart_svg.specs.Drawn.{class_bytes, dot_bytes, rect_bytes, words_bytes}
 use Rattle.chart_svg.specs.declared.shapes.Area.{Area}
+use Rattle.chart_svg.specs.declared.shapes.Shape.{Shape}
+use Rattle.chart_svg.specs.declared.shapes.Shape.TheVariants as shape
 
--- a rectangle
+-- a rectangle that says nothing
 abbrev pub plain_rect_bytes : List ℕ → Area → List ℕ
 plain_rect_bytes class area =
     codes "<rect class='" ++ class
@@ -24,9 +27,21 @@ curve_bytes class path said =
     codes "<path class='" ++ class ++ codes "' d='" ++ escaped path
     ++ codes "'><title>" ++ escaped said ++ codes "</title></path>\n"
 
--- a number at a point
-abbrev pub label_bytes : List ℕ → ℕ → ℕ → ℕ → List ℕ
-label_bytes class x y number =
-    codes "<text class='" ++ class
-    ++ codes "' x='" ++ decimal x ++ codes "' y='" ++ decimal y
-    ++ codes "'>" ++ decimal number ++ codes "</text>\n"
+-- any shape
+abbrev pub shape_bytes : Shape → List ℕ
+shape_bytes (shape.Rect class area None) = plain_rect_bytes (class_bytes class) area
+shape_bytes (shape.Rect class area (Some said)) = rect_bytes (class_bytes class) area said.items
+shape_bytes (shape.Dot class at said) = dot_bytes (class_bytes class) at.0.0 at.1.0 said.items
+shape_bytes (shape.Line class from to) =
+    stroke_bytes (class_bytes class) from.0.0 from.1.0 to.0.0 to.1.0
+shape_bytes (shape.Curve class path said) = curve_bytes (class_bytes class) path.items said.items
+shape_bytes (shape.Words class at words) =
+    words_bytes (class_bytes class) at.0.0 at.1.0 words.items
+
+-- shapes, one behind the other
+abbrev pub shapes_bytes : List Shape → List ℕ
+shapes_bytes shapes = flat_map shape_bytes shapes
+
+-- how the element is called that is the picture, with its last byte first, as a reader keeps it
+abbrev pub picture : List ℕ
+picture = codes "gvs"

@@ -1,76 +1,101 @@
 //! The arrows from lane to lane, in the column of their turn. Their lines pass behind bars; their heads and words stand
 //! before all of these.
-ghost use Rattle.std.specs.Prelude.{◌≡◌, ◌-◌, ◌≤◌, if◌then◌else◌, length, All, IfOk, MatchOption, OnOk};
-ghost use Rattle.chart_escape.specs.Reader.{AddsElements, IsBetweenTags};
-ghost use Rattle.chart_svg.specs.Drawn.{arrow_title, class_bytes, head_class, line_class, to_word, Keeps};
-ghost use Rattle.chart_svg.specs.Lanes.{Fits, HasRoom};
-ghost use Rattle.chart_svg.specs.Pages.{HasEnds, HasPlaces, HeadIsDrawn, IsAmong, IsPlaced, IsWithin, LineIsDrawn};
+ghost use Rattle.std.specs.Prelude.{◌≡◌, ◌-◌, ◌≤◌, if◌then◌else◌, length, slice_get, All, IfOk, Some};
+ghost use Rattle.chart_svg.specs.Drawn.{arrow_title, class_bytes, figure_bytes, head_class, line_bytes, line_class, to_word, turn_at};
+ghost use Rattle.chart_svg.specs.Lanes.{scale_of, Fits, HasRoom};
+ghost use Rattle.chart_svg.specs.Pages.{ArrowIsOn, ArrowStands, HasPlaces, IsWithin};
+ghost use Rattle.chart_svg.specs.Shapes.{shape_bytes, shapes_bytes};
 ghost use Rattle.chart_svg.specs.declared.shapes.Figure.TheVariants.{Up, Down};
 
-use crate::packing::{covering, is_wait};
+use crate::packing::is_wait;
 use crate::page::{LaneBand, Page};
 use crate::pixels::{Px, count};
-use crate::shapes::{Figure, push_figure, push_line, push_words};
-use crate::tags::Class;
+use crate::shapes::{Class, Figure, Shape, Shapes};
 use chart_layout::{Arrow, ArrowKind, BarKind, Saying};
 use chart_words::push_arrow;
 use lock_model::LockNo;
 use std::alloc::{AllocError, Global};
 
-/// An arrow of a page, and where it is.
-#[derive(Clone, Copy, Debug)]
-pub struct Placed {
-    arrow: Arrow,
-    /// Where its line begins, and where it and its head end.
-    begin: Px,
-    tip: Px,
-    head: Figure,
-    /// Where its words stand, beside its begin.
-    words: Px,
+/// The arrows of a page, as shapes.
+#[derive(Drop)]
+pub struct ArrowShapes {
+    pub lines: Vec<Shape>,
+    /// Their heads, and their words where there is room for words.
+    pub heads: Vec<Shape>,
+}
+
+impl ArrowShapes {
+    fn none(alloc: Global) -> ArrowShapes {
+        ArrowShapes {
+            lines: Vec::new(alloc),
+            heads: Vec::new(alloc),
+        }
+    }
 }
 
 /// The arrows of a page, those whose lanes are there.
-pub fn place_arrows(alloc: Global, page: &Page<'_>) -> Result<Vec<Placed>, AllocError>
+pub fn arrows(alloc: Global, page: &Page<'_>) -> Result<ArrowShapes, AllocError>
     requires { HasRoom page.now }
-    ensures all { IfOk result (λ placed. All (IsAmong page.now placed.items)
-        page.now.chart.now.arrows) }
-    ensures placed { IfOk result (λ placed. All (IsPlaced page.now) placed.items) }
+    ensures { IfOk result (λ arrows. All (ArrowIsOn page.now (shapes_bytes arrows.lines.items)
+        (shapes_bytes arrows.heads.items)) page.now.chart.now.arrows) }
 {
-    let mut placed = Vec::new(alloc);
+    let mut arrows = ArrowShapes::none(alloc);
     for arrow in page.chart.arrows.as_slice() {
-        if let Some(one) = place(page, *arrow) {
-            placed.push(one)?;
-        }
+        let mut one = one_arrow(alloc, page, *arrow)?;
+        arrows.lines.append(&mut one.lines)?;
+        arrows.heads.append(&mut one.heads)?;
     }
-    Ok(placed)
+    Ok(arrows)
 }
 
-// Where an arrow is, if its lanes are there.
-fn place(page: &Page<'_>, arrow: Arrow) -> Option<Placed>
+fn one_arrow(alloc: Global, page: &Page<'_>, arrow: Arrow) -> Result<ArrowShapes, AllocError>
     requires { HasRoom page.now }
-    ensures { MatchOption result (HasEnds page.now arrow → ⊥)
-        (λ placed. (placed.arrow ≡ arrow) × IsPlaced page.now placed) }
+    ensures { IfOk result (λ arrows. ArrowIsOn page.now (shapes_bytes arrows.lines.items)
+        (shapes_bytes arrows.heads.items) arrow) }
 {
-    let from = page.lane_of(arrow.from)?;
-    let to = page.lane_of(arrow.to)?;
-    let goes_up = to.top.0 < from.top.0;
-    Some(Placed {
-        arrow,
-        begin: begin_of(arrow, from, goes_up),
-        tip: tip_of(page, arrow, to, goes_up),
-        head: head_of(goes_up),
-        words: words_of(from, goes_up),
-    })
+    let Some(from) = page.lane_of(arrow.from) else {
+        return Ok(ArrowShapes::none(alloc));
+    };
+    let Some(to) = page.lane_of(arrow.to) else {
+        return Ok(ArrowShapes::none(alloc));
+    };
+    arrow_between(alloc, page, arrow, from, to)
 }
 
-fn head_of(goes_up: bool) -> Figure
+fn arrow_between(
+    alloc: Global,
+    page: &Page<'_>,
+    arrow: Arrow,
+    from: &LaneBand,
+    to: &LaneBand,
+) -> Result<ArrowShapes, AllocError>
+    requires room { HasRoom page.now }
+    requires begins { slice_get page.now.lanes.items arrow.from.0 ≡ Some from.now }
+    requires ends { slice_get page.now.lanes.items arrow.to.0 ≡ Some to.now }
+    ensures { IfOk result (λ arrows. ArrowStands page.now (shapes_bytes arrows.lines.items)
+        (shapes_bytes arrows.heads.items) arrow) }
+{
+    let goes_up = to.top.0 < from.top.0;
+    let begin = begin_of(arrow, from, goes_up);
+    let tip = tip_of(page, arrow, to, goes_up);
+    let mut arrows = ArrowShapes::none(alloc);
+    arrows.lines.push(line_of(page, arrow, begin, tip))?;
+    arrows
+        .heads
+        .push(head_of(alloc, page, arrow, figure_of(goes_up), tip)?)?;
+    let mut words = words_of(alloc, page, arrow, height_of(from, goes_up))?;
+    arrows.heads.append(&mut words)?;
+    Ok(arrows)
+}
+
+fn figure_of(goes_up: bool) -> Figure
     ensures { result ≡ (if goes_up then Up else Down) }
 {
     if goes_up { Figure::Up } else { Figure::Down }
 }
 
-// Above or below the lane from which it comes.
-fn words_of(from: &LaneBand, goes_up: bool) -> Px {
+// The height of its words: above or below the lane from which it comes.
+fn height_of(from: &LaneBand, goes_up: bool) -> Px {
     if goes_up {
         from.top.minus(3)
     } else {
@@ -78,64 +103,30 @@ fn words_of(from: &LaneBand, goes_up: bool) -> Px {
     }
 }
 
-/// Pushes the lines of arrows.
-pub fn push_arrows(out: &mut Vec<u8>, page: &Page<'_>, placed: &[Placed]) -> Result<(), AllocError>
-    requires { IsBetweenTags out.old.items }
-    ensures whole { OnOk result (AddsElements out.old.items out.new.items) }
-    ensures keeps { OnOk result (Keeps out.old.items out.new.items) }
-    ensures drawn { OnOk result (All (LineIsDrawn page.now out.new.items) placed.now) }
+fn line_of(page: &Page<'_>, arrow: Arrow, begin: Px, tip: Px) -> Shape
+    ensures { shape_bytes result ≡ line_bytes (line_class arrow.kind)
+        (turn_at (scale_of page.now) page.now.chart.now arrow.turn) begin.0 tip.0 }
 {
-    for one in placed {
-        push_arrow_line(out, page, *one)?;
-    }
-    Ok(())
+    let x = page.turn_at(arrow.turn);
+    Shape::Line(line_class(arrow.kind), (x, begin), (x, tip))
 }
 
-/// Pushes the heads of arrows, and their words where there is room for words.
-pub fn push_arrow_heads(
+// A head without its words.
+fn head_of(
     alloc: Global,
-    out: &mut Vec<u8>,
     page: &Page<'_>,
-    placed: &[Placed],
-) -> Result<(), AllocError>
-    requires { IsBetweenTags out.old.items }
-    ensures whole { OnOk result (AddsElements out.old.items out.new.items) }
-    ensures keeps { OnOk result (Keeps out.old.items out.new.items) }
-    ensures drawn { OnOk result (All (HeadIsDrawn page.now out.new.items) placed.now) }
+    arrow: Arrow,
+    figure: Figure,
+    tip: Px,
+) -> Result<Shape, AllocError>
+    ensures { IfOk result (λ shape. shape_bytes shape
+        ≡ figure_bytes (head_class arrow.kind) figure
+        (turn_at (scale_of page.now) page.now.chart.now arrow.turn) tip.0
+        (arrow_title page.now.plan.now arrow)) }
 {
-    for one in placed {
-        push_arrow_head(alloc, out, page, *one)?;
-    }
-    Ok(())
-}
-
-fn push_arrow_line(out: &mut Vec<u8>, page: &Page<'_>, placed: Placed) -> Result<(), AllocError>
-    requires { IsBetweenTags out.old.items }
-    ensures whole { OnOk result (AddsElements out.old.items out.new.items) }
-    ensures keeps { OnOk result (Keeps out.old.items out.new.items) }
-    ensures drawn { OnOk result (LineIsDrawn page.now out.new.items placed) }
-{
-    let x = page.turn_at(placed.arrow.turn);
-    let class = line_class(placed.arrow.kind);
-    push_line(out, class, (x, placed.begin), (x, placed.tip))
-}
-
-fn push_arrow_head(
-    alloc: Global,
-    out: &mut Vec<u8>,
-    page: &Page<'_>,
-    placed: Placed,
-) -> Result<(), AllocError>
-    requires { IsBetweenTags out.old.items }
-    ensures whole { OnOk result (AddsElements out.old.items out.new.items) }
-    ensures keeps { OnOk result (Keeps out.old.items out.new.items) }
-    ensures drawn { OnOk result (HeadIsDrawn page.now out.new.items placed) }
-{
-    let tip = (page.turn_at(placed.arrow.turn), placed.tip);
-    let said = said_of(alloc, page, placed.arrow)?;
-    let class = head_class(placed.arrow.kind);
-    push_figure(alloc, out, class, placed.head, tip, &said)?;
-    push_own_words(alloc, out, page, placed)
+    let said = said_of(alloc, page, arrow)?;
+    let at = (page.turn_at(arrow.turn), tip);
+    Shape::figure(alloc, head_class(arrow.kind), figure, at, said)
 }
 
 fn line_class(kind: ArrowKind) -> Class
@@ -184,30 +175,22 @@ fn to_word(kind: ArrowKind) -> &'static [u8]
     }
 }
 
-// Beside its begin, where there is room for words.
-fn push_own_words(
-    alloc: Global,
-    out: &mut Vec<u8>,
-    page: &Page<'_>,
-    placed: Placed,
-) -> Result<(), AllocError>
-    requires { IsBetweenTags out.old.items }
-    ensures whole { OnOk result (AddsElements out.old.items out.new.items) }
-    ensures keeps { OnOk result (Keeps out.old.items out.new.items) }
-{
+// Its words beside its begin, where there is room for words.
+fn words_of(alloc: Global, page: &Page<'_>, arrow: Arrow, y: Px) -> Shapes {
+    let mut shapes = Vec::new(alloc);
     if !page.has_words {
-        return Ok(());
+        return Ok(shapes);
     }
-    let class = match placed.arrow.kind {
-        ArrowKind::Lends { before, prio } if before == prio => return Ok(()),
+    let class = match arrow.kind {
+        ArrowKind::Lends { before, prio } if before == prio => return Ok(shapes),
         ArrowKind::Lends { .. } => Class::of("lend"),
         ArrowKind::Wakes => Class::of("wake"),
-        ArrowKind::BlockedOn | ArrowKind::Behind | ArrowKind::Refused => return Ok(()),
+        ArrowKind::BlockedOn | ArrowKind::Behind | ArrowKind::Refused => return Ok(shapes),
     };
-    let x = page.turn_at(placed.arrow.turn).plus(5);
     let mut words = Vec::new(alloc);
-    push_arrow(&mut words, placed.arrow)?;
-    push_words(out, class, x, placed.words, &words)
+    push_arrow(&mut words, arrow)?;
+    shapes.push(Shape::Words(class, (page.turn_at(arrow.turn).plus(5), y), words))?;
+    Ok(shapes)
 }
 
 // Where an arrow begins: one that goes up above the words of the lane's marks, and one of a refusal
@@ -277,13 +260,16 @@ enum Sought {
 
 // The level of the bar that covers the row.
 fn level_of(lane: &LaneBand, row: u32, sought: Sought) -> u32
-    ensures { result ≤ length lane.now.bars.levels.items - 1 }
+    ensures { result ≤ length lane.now.bars.ends.items - 1 }
 {
-    let level = lane.bars.levels.iter().position(|bars| match covering(bars, row) {
-        Some(bar) => is_sought(bar.what, sought),
-        None => false,
-    });
-    count(level.unwrap_or(0))
+    for level in 0..count(lane.bars.ends.len()) {
+        if let Some(bar) = lane.bars.covering(level, row) {
+            if is_sought(bar.what, sought) {
+                return level;
+            }
+        }
+    }
+    0
 }
 
 fn is_sought(what: BarKind, sought: Sought) -> bool {

@@ -1,86 +1,40 @@
 //! The bars of a lane.
-ghost use Rattle.std.specs.Prelude.{◌≡◌, ℕ, ◌+◌, ◌++◌, All, IfOk, OnOk};
-ghost use Rattle.chart_layout.specs.declared.layout.Bar.{Bar};
-ghost use Rattle.chart_escape.specs.Reader.{AddsElements, IsBetweenTags};
-ghost use Rattle.chart_svg.specs.Drawn.{bar_area, bar_class, bar_height, bar_title, class_bytes, lasting_words, pixels, Keeps};
-ghost use Rattle.chart_svg.specs.Lanes.{bar_bottom, bar_top, scale_of, BarsAreDrawn, IsAt, IsDrawnAt};
+ghost use Rattle.std.specs.Prelude.{◌≡◌, ◌++◌, All, IfOk, OnOk};
+ghost use Rattle.chart_svg.specs.Drawn.{bar_area, bar_class, bar_height, bar_title, class_bytes, lasting_words};
+ghost use Rattle.chart_svg.specs.Lanes.{bar_bytes, scale_of, BarsAreDrawn, IsDrawnAt};
+ghost use Rattle.chart_svg.specs.Shapes.{shape_bytes, shapes_bytes};
 
+use crate::packing::is_walk;
 use crate::page::{LaneBand, Page};
-use crate::pixels::{Px, count, width_of};
-use crate::shapes::{Area, push_rect, push_rect_said, push_words};
-use crate::tags::Class;
+use crate::pixels::{Px, width_of};
+use crate::shapes::{Area, Class, Shape, Shapes};
 use chart_layout::{Bar, BarKind, Chart, End, Saying};
 use chart_words::{push_bar, queue_name};
 use lock_model::{Mode, QueueName, ThreadNo, push_number};
 use std::alloc::{AllocError, Global};
 
-/// Pushes the bars of all lanes.
-pub fn push_bars(alloc: Global, out: &mut Vec<u8>, page: &Page<'_>) -> Result<(), AllocError>
-    requires { IsBetweenTags out.old.items }
-    ensures whole { OnOk result (AddsElements out.old.items out.new.items) }
-    ensures keeps { OnOk result (Keeps out.old.items out.new.items) }
-    ensures drawn { OnOk result
-        (All (BarsAreDrawn page.now out.new.items) page.now.lanes.items) }
+/// The bars of all lanes.
+pub fn bars(alloc: Global, page: &Page<'_>) -> Shapes
+    ensures { IfOk result (λ shapes.
+        All (BarsAreDrawn page.now (shapes_bytes shapes.items)) page.now.lanes.items) }
 {
+    let mut shapes = Vec::new(alloc);
     for lane in &page.lanes {
-        push_levels(alloc, out, page, lane)?;
-        push_walks(alloc, out, page, lane)?;
+        shapes.append(&mut bars_of(alloc, page, lane)?)?;
     }
-    Ok(())
+    Ok(shapes)
 }
 
-fn push_levels(
-    alloc: Global,
-    out: &mut Vec<u8>,
-    page: &Page<'_>,
-    lane: &LaneBand,
-) -> Result<(), AllocError>
-    requires { IsBetweenTags out.old.items }
-    ensures whole { OnOk result (AddsElements out.old.items out.new.items) }
-    ensures keeps { OnOk result (Keeps out.old.items out.new.items) }
-    ensures drawn { OnOk result ((level : ℕ) (bar : Bar) → IsAt lane.now.bars.levels.items level bar
-        → IsDrawnAt page.now out.new.items (bar_top lane.now level) bar) }
+fn bars_of(alloc: Global, page: &Page<'_>, lane: &LaneBand) -> Shapes
+    ensures { IfOk result (λ shapes.
+        BarsAreDrawn page.now (shapes_bytes shapes.items) lane.now) }
 {
-    for (level, bars) in lane.bars.levels.iter().enumerate() {
-        push_level(alloc, out, page, bars, lane.bar_top(count(level)))?;
+    let mut shapes = Vec::new(alloc);
+    for (bar, level) in &lane.bars.laid {
+        let top = lane.bar_place(bar.what, *level);
+        shapes.append(&mut one_bar(alloc, page, *bar, top)?)?;
     }
-    Ok(())
-}
-
-fn push_level(
-    alloc: Global,
-    out: &mut Vec<u8>,
-    page: &Page<'_>,
-    bars: &[Bar],
-    top: Px,
-) -> Result<(), AllocError>
-    requires { IsBetweenTags out.old.items }
-    ensures whole { OnOk result (AddsElements out.old.items out.new.items) }
-    ensures keeps { OnOk result (Keeps out.old.items out.new.items) }
-    ensures drawn { OnOk result (All (IsDrawnAt page.now out.new.items top.0) bars.now) }
-{
-    for bar in bars {
-        push_one(alloc, out, page, *bar, top)?;
-    }
-    Ok(())
-}
-
-fn push_walks(
-    alloc: Global,
-    out: &mut Vec<u8>,
-    page: &Page<'_>,
-    lane: &LaneBand,
-) -> Result<(), AllocError>
-    requires { IsBetweenTags out.old.items }
-    ensures whole { OnOk result (AddsElements out.old.items out.new.items) }
-    ensures keeps { OnOk result (Keeps out.old.items out.new.items) }
-    ensures drawn { OnOk result (All (λ walk. IsDrawnAt page.now out.new.items
-        (pixels (bar_bottom lane.now walk.1 + 2)) walk.0) lane.now.bars.walks.items) }
-{
-    for (bar, level) in &lane.bars.walks {
-        push_walk(alloc, out, page, *bar, lane.bar_bottom(*level).plus(2))?;
-    }
-    Ok(())
+    Ok(shapes)
 }
 
 // What is said where a bar is pointed at: `low holds bus, turn 0 to 7`.
@@ -120,53 +74,43 @@ fn push_lasting(out: &mut Vec<u8>, chart: &Chart, bar: Bar) -> Result<(), AllocE
     }
 }
 
-fn push_one(
-    alloc: Global,
-    out: &mut Vec<u8>,
-    page: &Page<'_>,
-    bar: Bar,
-    top: Px,
-) -> Result<(), AllocError>
-    requires { IsBetweenTags out.old.items }
-    ensures whole { OnOk result (AddsElements out.old.items out.new.items) }
-    ensures keeps { OnOk result (Keeps out.old.items out.new.items) }
-    ensures drawn { OnOk result (IsDrawnAt page.now out.new.items top.0 bar) }
+fn one_bar(alloc: Global, page: &Page<'_>, bar: Bar, top: Px) -> Shapes
+    ensures { IfOk result (λ shapes. IsDrawnAt page.now (shapes_bytes shapes.items) top.0 bar) }
 {
-    push_rect(out, Class::of("paper"), area_of(page, bar, top))?;
-    push_shape(alloc, out, page, bar, top)?;
-    push_own_words(alloc, out, page, bar, top)?;
-    push_never(out, page, bar, top)
+    let mut shapes = ground_of(alloc, page, bar, top)?;
+    shapes.push(shape_of(alloc, page, bar, top)?)?;
+    let mut words = if is_walk(bar.what) {
+        walk_words(alloc, page, bar, top)?
+    } else {
+        own_words(alloc, page, bar, top)?
+    };
+    shapes.append(&mut words)?;
+    Ok(shapes)
+}
+
+// The paper below a bar. A walk has none.
+fn ground_of(alloc: Global, page: &Page<'_>, bar: Bar, top: Px) -> Shapes {
+    let mut shapes = Vec::new(alloc);
+    if !is_walk(bar.what) {
+        shapes.push(Shape::Rect(Class::of("paper"), area_of(page, bar, top), None))?;
+    }
+    Ok(shapes)
 }
 
 // A bar without the words on it.
-fn push_shape(
-    alloc: Global,
-    out: &mut Vec<u8>,
-    page: &Page<'_>,
-    bar: Bar,
-    top: Px,
-) -> Result<(), AllocError>
-    requires { IsBetweenTags out.old.items }
-    ensures whole { OnOk result (AddsElements out.old.items out.new.items) }
-    ensures keeps { OnOk result (Keeps out.old.items out.new.items) }
-    ensures drawn { OnOk result (IsDrawnAt page.now out.new.items top.0 bar) }
+fn shape_of(alloc: Global, page: &Page<'_>, bar: Bar, top: Px) -> Result<Shape, AllocError>
+    ensures { IfOk result (λ shape. shape_bytes shape ≡ bar_bytes page.now top.0 bar) }
 {
-    let said = said_of(alloc, page, bar)?;
-    push_rect_said(out, class_of(bar.what), area_of(page, bar, top), &said)
+    Ok(Shape::Rect(
+        class_of(bar.what),
+        area_of(page, bar, top),
+        Some(said_of(alloc, page, bar)?),
+    ))
 }
 
-// The words on it, where it has room for them.
-fn push_own_words(
-    alloc: Global,
-    out: &mut Vec<u8>,
-    page: &Page<'_>,
-    bar: Bar,
-    top: Px,
-) -> Result<(), AllocError>
-    requires { IsBetweenTags out.old.items }
-    ensures whole { OnOk result (AddsElements out.old.items out.new.items) }
-    ensures keeps { OnOk result (Keeps out.old.items out.new.items) }
-{
+// The words on it, where it has room for them, and those behind it.
+fn own_words(alloc: Global, page: &Page<'_>, bar: Bar, top: Px) -> Shapes {
+    let mut shapes = Vec::new(alloc);
     let area = area_of(page, bar, top);
     let words = words_of(alloc, page, bar)?;
     let room = area.width.saturating_sub(8);
@@ -176,16 +120,14 @@ fn push_own_words(
         short_name(page, bar.what)
     };
     if width_of(fitting.len(), 72) <= room {
-        push_words(
-            out,
-            words_class(bar.what),
-            area.x.plus(6),
-            top.plus(13),
-            fitting,
-        )
-    } else {
-        Ok(())
+        let at = (area.x.plus(6), top.plus(13));
+        shapes.push(Shape::words(alloc, words_class(bar.what), at, fitting)?)?;
     }
+    if is_left(page, bar) {
+        let at = (area.x.plus(area.width).plus(6), top.plus(13));
+        shapes.push(Shape::words(alloc, Class::of("never"), at, b"never woken")?)?;
+    }
+    Ok(shapes)
 }
 
 // Where a bar is, whose top is there.
@@ -298,49 +240,24 @@ fn short_name<'c>(page: &Page<'c>, what: BarKind) -> &'c [u8] {
     }
 }
 
-// Behind a wait that the run's end leaves.
-fn push_never(out: &mut Vec<u8>, page: &Page<'_>, bar: Bar, top: Px) -> Result<(), AllocError>
-    requires { IsBetweenTags out.old.items }
-    ensures whole { OnOk result (AddsElements out.old.items out.new.items) }
-    ensures keeps { OnOk result (Keeps out.old.items out.new.items) }
-{
-    let is_last = bar.last == page.chart.turns;
+// Whether it is a wait that the run's end leaves.
+fn is_left(page: &Page<'_>, bar: Bar) -> bool {
     match (bar.what, &page.chart.end) {
-        (BarKind::Waits { .. }, End::Stuck { .. }) if is_last => {
-            let area = area_of(page, bar, top);
-            let x = area.x.plus(area.width).plus(6);
-            push_words(out, Class::of("never"), x, top.plus(13), b"never woken")
-        }
-        (BarKind::Waits { .. }, _)
-        | (BarKind::Holds { .. }, _)
-        | (BarKind::TakenOff { .. }, _)
-        | (BarKind::Woken { .. }, _)
-        | (BarKind::Walks, _) => Ok(()),
+        (BarKind::Waits { .. }, End::Stuck { .. }) => bar.last == page.chart.turns,
+        (BarKind::Waits { .. }, End::Done | End::Reversed | End::TooLong) => false,
+        (
+            BarKind::Holds { .. }
+            | BarKind::TakenOff { .. }
+            | BarKind::Woken { .. }
+            | BarKind::Walks,
+            _,
+        ) => false,
     }
 }
 
-// A thin line under the wait from which the walk begins.
-fn push_walk(
-    alloc: Global,
-    out: &mut Vec<u8>,
-    page: &Page<'_>,
-    bar: Bar,
-    top: Px,
-) -> Result<(), AllocError>
-    requires { IsBetweenTags out.old.items }
-    ensures whole { OnOk result (AddsElements out.old.items out.new.items) }
-    ensures keeps { OnOk result (Keeps out.old.items out.new.items) }
-    ensures drawn { OnOk result (IsDrawnAt page.now out.new.items top.0 bar) }
-{
-    push_shape(alloc, out, page, bar, top)?;
-    push_walk_words(out, page, bar, top)
-}
-
-fn push_walk_words(out: &mut Vec<u8>, page: &Page<'_>, bar: Bar, top: Px) -> Result<(), AllocError>
-    requires { IsBetweenTags out.old.items }
-    ensures whole { OnOk result (AddsElements out.old.items out.new.items) }
-    ensures keeps { OnOk result (Keeps out.old.items out.new.items) }
-{
+// What a walk is called, where it has room.
+fn walk_words(alloc: Global, page: &Page<'_>, bar: Bar, top: Px) -> Shapes {
+    let mut shapes = Vec::new(alloc);
     let area = area_of(page, bar, top);
     let words: &[u8] = if area.width > 90 {
         b"walks the chain"
@@ -348,8 +265,8 @@ fn push_walk_words(out: &mut Vec<u8>, page: &Page<'_>, bar: Bar, top: Px) -> Res
         b"walks"
     };
     if area.width > 34 {
-        push_words(out, Class::of("walk"), area.x.plus(4), top.plus(12), words)
-    } else {
-        Ok(())
+        let at = (area.x.plus(4), top.plus(12));
+        shapes.push(Shape::words(alloc, Class::of("walk"), at, words)?)?;
     }
+    Ok(shapes)
 }

@@ -1,13 +1,8 @@
 //! What stands below the lanes: numbered sentences, and the printed end.
-ghost use Rattle.std.specs.Prelude.{OnOk};
-ghost use Rattle.chart_escape.specs.Reader.{AddsElements, IsBetweenTags};
-ghost use Rattle.chart_svg.specs.Drawn.{Keeps};
-
-use crate::lines::{Line, push_lines, widest, wrap};
+use crate::lines::{Line, lines_at, widest, wrap};
 use crate::page::Page;
 use crate::pixels::{Px, count};
-use crate::shapes::push_words;
-use crate::tags::Class;
+use crate::shapes::{Class, Shape, Shapes};
 use chart_layout::End;
 use chart_words::{push_end, push_sentence};
 use std::alloc::{AllocError, Global};
@@ -56,18 +51,11 @@ fn said_of(alloc: Global, page: &Page<'_>) -> Result<Vec<Line>, AllocError> {
     for sentence in page.chart.sentences.as_slice() {
         let mut words = Vec::new(alloc);
         push_sentence(&mut words, page.plan, sentence)?;
-        wrap(
-            alloc,
-            &mut said,
-            Class::of("said"),
-            Some(sentence.turn),
-            &words,
-            MOST,
-        )?;
+        said.append(&mut wrap(alloc, Class::of("said"), Some(sentence.turn), &words, MOST)?)?;
     }
     let mut end = Vec::new(alloc);
     push_end(&mut end, page.plan, &page.chart.end)?;
-    wrap(alloc, &mut said, Class::of("end"), None, &end, MOST)?;
+    said.append(&mut wrap(alloc, Class::of("end"), None, &end, MOST)?)?;
     Ok(said)
 }
 
@@ -75,14 +63,8 @@ fn printed_of(alloc: Global, page: &Page<'_>) -> Result<Vec<Line>, AllocError> {
     let mut printed = Vec::new(alloc);
     for line in page.chart.printed.as_slice().split(|byte| *byte == b'\n') {
         if !line.is_empty() {
-            wrap(
-                alloc,
-                &mut printed,
-                line_class(&page.chart.end, line),
-                None,
-                line,
-                MOST,
-            )?;
+            let class = line_class(&page.chart.end, line);
+            printed.append(&mut wrap(alloc, class, None, line, MOST)?)?;
         }
     }
     Ok(printed)
@@ -103,21 +85,14 @@ fn line_class(end: &End, line: &[u8]) -> Class {
     }
 }
 
-/// Pushes what stands below the lanes.
-pub fn push_below(out: &mut Vec<u8>, below: &Below) -> Result<(), AllocError>
-    requires { IsBetweenTags out.old.items }
-    ensures whole { OnOk result (AddsElements out.old.items out.new.items) }
-    ensures keeps { OnOk result (Keeps out.old.items out.new.items) }
-{
-    let first = below.top.plus(20);
-    push_words(out, Class::of("head"), Px(24), below.top, b"What happened")?;
-    push_lines(out, &below.said, Px(56), first, 18)?;
-    push_words(
-        out,
-        Class::of("head"),
-        below.middle,
-        below.top,
-        b"At the end",
-    )?;
-    push_lines(out, &below.printed, below.middle, first, 16)
+/// What stands below the lanes.
+pub fn shapes_below(alloc: Global, below: &Below) -> Shapes {
+    let (left, middle, top) = (Px(24), below.middle, below.top);
+    let first = top.plus(20);
+    let mut shapes = Vec::new(alloc);
+    shapes.push(Shape::words(alloc, Class::of("head"), (left, top), b"What happened")?)?;
+    shapes.append(&mut lines_at(alloc, &below.said, Px(56), first, 18)?)?;
+    shapes.push(Shape::words(alloc, Class::of("head"), (middle, top), b"At the end")?)?;
+    shapes.append(&mut lines_at(alloc, &below.printed, middle, first, 16)?)?;
+    Ok(shapes)
 }

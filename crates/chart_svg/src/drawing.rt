@@ -1,20 +1,21 @@
 //! The whole picture.
-ghost use Rattle.std.specs.Prelude.{IfOk, OnOk};
-ghost use Rattle.chart_escape.specs.Reader.{AddsElements, IsBetweenTags, IsWellFormed};
-ghost use Rattle.chart_svg.specs.Drawn.{Draws, Keeps};
+ghost use Rattle.std.specs.Prelude.{IfOk};
+ghost use Rattle.chart_escape.specs.Reader.{IsWellFormed};
+ghost use Rattle.chart_svg.specs.Drawn.{Draws};
 ghost use Rattle.chart_svg.specs.Lanes.{HasRoom};
 ghost use Rattle.chart_svg.specs.Pages.{LanesAreDrawn};
+ghost use Rattle.chart_svg.specs.Shapes.{shapes_bytes};
 
-use crate::arrows::{place_arrows, push_arrow_heads, push_arrows};
-use crate::bars::push_bars;
-use crate::below::{Below, push_below};
-use crate::frame::{push_begin, push_frame, push_paper};
-use crate::head::{TitleBlock, push_head};
-use crate::marks::{push_marks, push_reasons};
+use crate::arrows::arrows;
+use crate::bars::bars;
+use crate::below::{Below, shapes_below};
+use crate::frame::{close_picture, frame, paper, push_begin};
+use crate::head::{TitleBlock, shapes_above};
+use crate::marks::{marks, reasons};
 use crate::page::Page;
-use crate::strips::{push_strip_words, push_strips};
+use crate::shapes::{Shape, Shapes, push_shapes};
+use crate::strips::{strip_words, strips};
 use crate::style::push_style;
-use crate::tags::close_picture;
 use chart_layout::Chart;
 use lock_model::Plan;
 use std::alloc::{AllocError, Global};
@@ -40,32 +41,32 @@ pub fn svg(
     let below = Below::make(alloc, &page)?;
     let width = page.right().plus(118).max(below.right).max(head.width());
     let size = (width.0, below.bottom.0);
+    let mut shapes = Vec::new(alloc);
+    shapes.push(paper(size))?;
+    shapes.append(&mut shapes_above(alloc, &page, &head, width.minus(24))?)?;
+    shapes.append(&mut frame(alloc, &page)?)?;
+    shapes.append(&mut shapes_in_lanes(alloc, &page)?)?;
+    shapes.append(&mut shapes_below(alloc, &below)?)?;
     let mut out = Vec::new(alloc);
     push_begin(&mut out, &page, size, title, subtitle)?;
     push_style(alloc, &mut out, plan)?;
-    push_paper(&mut out, size)?;
-    push_head(alloc, &mut out, &page, &head, width.minus(24))?;
-    push_frame(alloc, &mut out, &page)?;
-    push_lanes(alloc, &mut out, &page)?;
-    push_below(&mut out, &below)?;
+    push_shapes(&mut out, &shapes)?;
     close_picture(&mut out)?;
     Ok(out)
 }
 
 // What stands in the lanes, the words in front.
-fn push_lanes(alloc: Global, out: &mut Vec<u8>, page: &Page<'_>) -> Result<(), AllocError>
-    requires between { IsBetweenTags out.old.items }
-    requires room { HasRoom page.now }
-    ensures whole { OnOk result (AddsElements out.old.items out.new.items) }
-    ensures keeps { OnOk result (Keeps out.old.items out.new.items) }
-    ensures drawn { OnOk result (LanesAreDrawn page.now out.new.items) }
+fn shapes_in_lanes(alloc: Global, page: &Page<'_>) -> Shapes
+    requires { HasRoom page.now }
+    ensures { IfOk result (λ shapes. LanesAreDrawn page.now (shapes_bytes shapes.items)) }
 {
-    let placed = place_arrows(alloc, page)?;
-    push_strips(alloc, out, page)?;
-    push_arrows(out, page, &placed)?;
-    push_bars(alloc, out, page)?;
-    push_strip_words(alloc, out, page)?;
-    push_arrow_heads(alloc, out, page, &placed)?;
-    push_marks(alloc, out, page)?;
-    push_reasons(alloc, out, page)
+    let mut arrows = arrows(alloc, page)?;
+    let mut shapes = strips(alloc, page)?;
+    shapes.append(&mut arrows.lines)?;
+    shapes.append(&mut bars(alloc, page)?)?;
+    shapes.append(&mut strip_words(alloc, page)?)?;
+    shapes.append(&mut arrows.heads)?;
+    shapes.append(&mut marks(alloc, page)?)?;
+    shapes.append(&mut reasons(alloc, page)?)?;
+    Ok(shapes)
 }

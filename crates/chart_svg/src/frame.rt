@@ -1,15 +1,14 @@
 //! What stands round the lanes: the begin of the file, the names of the threads and the numbers of the turns.
-ghost use Rattle.std.specs.Prelude.{◌≡◌, ◌<◌, ◌∷◌, true, option_map, Some, All, IfOk, OnOk};
-ghost use Rattle.chart_escape.specs.Reader.{at, is_in_tag, read, AddsElements, Between, InText, IsBetweenTags};
-ghost use Rattle.chart_svg.specs.Drawn.{prio_words, Keeps};
-ghost use Rattle.chart_svg.specs.Pages.{shown_words, stop_at, FrameIsOn, NameIsOn, PrioIsOn, StopsAt};
-ghost use Rattle.chart_svg.specs.Tags.{picture};
+ghost use Rattle.std.specs.Prelude.{◌≡◌, ◌+◌, ◌<◌, [], ◌∷◌, ◌++◌, codes, option_map, Some, All, IfOk, OnOk};
+ghost use Rattle.chart_escape.specs.Reader.{at, read, AddsElements, Between, InText, IsBetweenTags, IsWellFormed};
+ghost use Rattle.chart_svg.specs.Drawn.{line_bytes, pixels, prio_words};
+ghost use Rattle.chart_svg.specs.Pages.{shown_words, stop_at, FrameIsOn, PrioIsOn, StopsAt};
+ghost use Rattle.chart_svg.specs.Shapes.{picture, shape_bytes, shapes_bytes};
 
 use crate::page::{LaneBand, Page};
 use crate::pixels::{Px, width_of};
-use crate::shapes::{Area, push_label, push_line, push_rect, push_words};
-use crate::tags::{Attribute, Class, begin_picture, open_picture, push_attribute, push_view};
-use chart_escape::{Piece, push_elements};
+use crate::shapes::{Area, Class, Shape, Shapes};
+use chart_escape::{Piece, push_elements, push_pieces};
 use chart_layout::PrioSpan;
 use chart_words::end_headline;
 use lock_model::{Prio, ThreadNo, push_number};
@@ -27,42 +26,54 @@ pub fn push_begin(
     ensures { OnOk result (read out.new.items
         ≡ at (InText Between) (picture ∷ (read out.old.items).elements)) }
 {
-    open_picture(out)?;
-    push_size(out, size.0, size.1)?;
-    push_attribute(out, Attribute::Left, page.left.0)?;
-    push_attribute(out, Attribute::Column, page.column)?;
-    push_attribute(out, Attribute::Top, page.top.0)?;
-    push_attribute(out, Attribute::Bottom, page.bottom.0)?;
-    begin_picture(out)?;
-    push_title(out, title)?;
-    push_description(out, subtitle, end_headline(&page.chart.end))
+    open_picture(out, page, size)?;
+    push_heading(out, title, subtitle, end_headline(&page.chart.end))
 }
 
-fn push_size(out: &mut Vec<u8>, width: u32, height: u32) -> Result<(), AllocError>
-    requires { is_in_tag (read out.old.items).place ≡ true }
-    ensures { OnOk result (read out.new.items ≡ read out.old.items) }
-{
-    push_attribute(out, Attribute::Width, width)?;
-    push_attribute(out, Attribute::Height, height)?;
-    push_view(out, width, height)
-}
-
-fn push_title(out: &mut Vec<u8>, title: &str) -> Result<(), AllocError>
+// Opens the picture, of that size, which says where the columns and the lanes of a page are.
+fn open_picture(out: &mut Vec<u8>, page: &Page<'_>, size: (u32, u32)) -> Result<(), AllocError>
     requires { IsBetweenTags out.old.items }
-    ensures { OnOk result (AddsElements out.old.items out.new.items) }
+    ensures { OnOk result (read out.new.items
+        ≡ at (InText Between) (picture ∷ (read out.old.items).elements)) }
 {
-    push_elements(
+    let (width, height) = (u64::from(size.0), u64::from(size.1));
+    push_pieces(
         out,
         &[
-            Piece::Own("<title>"),
-            Piece::Text(title.as_bytes()),
-            Piece::Own("</title>\n"),
+            Piece::Own("<svg xmlns='http://www.w3.org/2000/svg' width='"),
+            Piece::Number(width),
+            Piece::Own("' height='"),
+            Piece::Number(height),
+            Piece::Own("' viewBox='0 0 "),
+            Piece::Number(width),
+            Piece::Own(" "),
+            Piece::Number(height),
+            Piece::Own("' data-left='"),
+            Piece::Number(u64::from(page.left.0)),
+            Piece::Own("' data-column='"),
+            Piece::Number(u64::from(page.column)),
+            Piece::Own("' data-top='"),
+            Piece::Number(u64::from(page.top.0)),
+            Piece::Own("' data-bottom='"),
+            Piece::Number(u64::from(page.bottom.0)),
+            Piece::Own("'>\n"),
         ],
     )
 }
 
-fn push_description<'a>(
+/// Closes the picture.
+pub fn close_picture(out: &mut Vec<u8>) -> Result<(), AllocError>
+    requires { read out.old.items ≡ at (InText Between) (picture ∷ []) }
+    ensures whole { OnOk result (IsWellFormed out.new.items) }
+    ensures pushed { OnOk result (out.new.items ≡ out.old.items ++ codes "</svg>\n") }
+{
+    push_pieces(out, &[Piece::Own("</svg>\n")])
+}
+
+// What is read aloud of the picture.
+fn push_heading<'a>(
     out: &mut Vec<u8>,
+    title: &'a str,
     subtitle: &'a str,
     end: &'a str,
 ) -> Result<(), AllocError>
@@ -72,7 +83,9 @@ fn push_description<'a>(
     push_elements(
         out,
         &[
-            Piece::Own("<desc>"),
+            Piece::Own("<title>"),
+            Piece::Text(title.as_bytes()),
+            Piece::Own("</title>\n<desc>"),
             Piece::Text(subtitle.as_bytes()),
             Piece::Own(" The run ended so: "),
             Piece::Text(end.as_bytes()),
@@ -81,44 +94,36 @@ fn push_description<'a>(
     )
 }
 
-/// Pushes the paper, of that size.
-pub fn push_paper(out: &mut Vec<u8>, size: (u32, u32)) -> Result<(), AllocError>
-    requires { IsBetweenTags out.old.items }
-    ensures { OnOk result (AddsElements out.old.items out.new.items) }
-{
+/// The paper, of that size.
+pub fn paper(size: (u32, u32)) -> Shape {
     let all = Area {
         x: Px(0),
         y: Px(0),
         width: size.0,
         height: size.1,
     };
-    push_rect(out, Class::of("paper"), all)
+    Shape::Rect(Class::of("paper"), all, None)
 }
 
-/// Pushes the columns with the numbers of the turns, and the names of the lanes.
-pub fn push_frame(alloc: Global, out: &mut Vec<u8>, page: &Page<'_>) -> Result<(), AllocError>
-    requires { IsBetweenTags out.old.items }
-    ensures whole { OnOk result (AddsElements out.old.items out.new.items) }
-    ensures keeps { OnOk result (Keeps out.old.items out.new.items) }
-    ensures lanes { OnOk result (All (FrameIsOn page.now out.new.items) page.now.lanes.items) }
+/// The columns with the numbers of the turns, and the names of the lanes.
+pub fn frame(alloc: Global, page: &Page<'_>) -> Shapes
+    ensures { IfOk result (λ shapes.
+        All (FrameIsOn page.now (shapes_bytes shapes.items)) page.now.lanes.items) }
 {
-    push_zebra(out, page)?;
-    push_axis(out, page)?;
-    push_turns(out, page)?;
+    let mut shapes = zebra(alloc, page)?;
+    shapes.append(&mut turns(alloc, page)?)?;
     for lane in &page.lanes {
-        push_lane(alloc, out, page, lane)?;
+        shapes.append(&mut lane_frame(alloc, page, lane)?)?;
     }
-    push_hint(out, page)
+    shapes.append(&mut hint(alloc, page)?)?;
+    Ok(shapes)
 }
 
 // Every other column is shaded.
-fn push_zebra(out: &mut Vec<u8>, page: &Page<'_>) -> Result<(), AllocError>
-    requires { IsBetweenTags out.old.items }
-    ensures whole { OnOk result (AddsElements out.old.items out.new.items) }
-    ensures keeps { OnOk result (Keeps out.old.items out.new.items) }
-{
+fn zebra(alloc: Global, page: &Page<'_>) -> Shapes {
+    let mut shapes = Vec::new(alloc);
     if !page.has_words {
-        return Ok(());
+        return Ok(shapes);
     }
     for turn in page.chart.first..page.chart.last {
         if turn % 2 == 0 {
@@ -128,38 +133,26 @@ fn push_zebra(out: &mut Vec<u8>, page: &Page<'_>) -> Result<(), AllocError>
                 width: page.column,
                 height: page.bottom.plus(2).from(page.top),
             };
-            push_rect(out, Class::of("zebra"), area)?;
+            shapes.push(Shape::Rect(Class::of("zebra"), area, None))?;
         }
     }
-    Ok(())
+    Ok(shapes)
 }
 
-// The line below the lanes.
-fn push_axis(out: &mut Vec<u8>, page: &Page<'_>) -> Result<(), AllocError>
-    requires { IsBetweenTags out.old.items }
-    ensures whole { OnOk result (AddsElements out.old.items out.new.items) }
-    ensures keeps { OnOk result (Keeps out.old.items out.new.items) }
-{
-    let y = page.bottom;
-    push_line(out, Class::of("axis"), (page.left, y), (page.right(), y))?;
-    push_words(out, Class::of("gray"), Px(24), y.plus(15), b"turn")
-}
-
-// The numbers of the turns below it.
-fn push_turns(out: &mut Vec<u8>, page: &Page<'_>) -> Result<(), AllocError>
-    requires { IsBetweenTags out.old.items }
-    ensures whole { OnOk result (AddsElements out.old.items out.new.items) }
-    ensures keeps { OnOk result (Keeps out.old.items out.new.items) }
-{
-    let y = page.bottom.plus(15);
+// The line below the lanes, and the numbers of the turns below it.
+fn turns(alloc: Global, page: &Page<'_>) -> Shapes {
+    let (top, y) = (page.bottom, page.bottom.plus(15));
+    let mut shapes = Vec::new(alloc);
+    shapes.push(Shape::Line(Class::of("axis"), (page.left, top), (page.right(), top)))?;
+    shapes.push(Shape::words(alloc, Class::of("gray"), (Px(24), y), b"turn")?)?;
     let every = turns_apart(page);
     for turn in page.chart.first..page.chart.last {
         if turn % every == 0 {
-            let x = page.turn_at(turn);
-            push_label(out, Class::of("turn"), x, y, u64::from(turn))?;
+            let at = (page.turn_at(turn), y);
+            shapes.push(Shape::number(alloc, Class::of("turn"), at, turn)?)?;
         }
     }
-    Ok(())
+    Ok(shapes)
 }
 
 // How many turns lie from one number to the next, so that they have room.
@@ -177,91 +170,69 @@ fn turns_apart(page: &Page<'_>) -> u32
 }
 
 // The name of a lane's thread, its priority, and its line.
-fn push_lane(
-    alloc: Global,
-    out: &mut Vec<u8>,
-    page: &Page<'_>,
-    lane: &LaneBand,
-) -> Result<(), AllocError>
-    requires { IsBetweenTags out.old.items }
-    ensures whole { OnOk result (AddsElements out.old.items out.new.items) }
-    ensures keeps { OnOk result (Keeps out.old.items out.new.items) }
-    ensures name { OnOk result (NameIsOn page.now out.new.items lane.now) }
-    ensures prio { OnOk result (PrioIsOn out.new.items lane.now) }
-    ensures stop { OnOk result (StopsAt out.new.items lane.now (stop_at page.now lane.now.thread.0)) }
-{
-    push_name(alloc, out, page, lane)?;
-    push_own_line(out, page, lane)
-}
-
-fn push_name(
-    alloc: Global,
-    out: &mut Vec<u8>,
-    page: &Page<'_>,
-    lane: &LaneBand,
-) -> Result<(), AllocError>
-    requires { IsBetweenTags out.old.items }
-    ensures whole { OnOk result (AddsElements out.old.items out.new.items) }
-    ensures keeps { OnOk result (Keeps out.old.items out.new.items) }
-    ensures name { OnOk result (NameIsOn page.now out.new.items lane.now) }
-    ensures prio { OnOk result (PrioIsOn out.new.items lane.now) }
+fn lane_frame(alloc: Global, page: &Page<'_>, lane: &LaneBand) -> Shapes
+    ensures { IfOk result (λ shapes. FrameIsOn page.now (shapes_bytes shapes.items) lane.now) }
 {
     let name = page.plan.thread_name(lane.thread);
-    push_words(out, Class::of("name"), Px(24), lane.line().plus(4), name)?;
-    push_priority(alloc, out, lane)
+    let mut shapes = Vec::new(alloc);
+    shapes.push(Shape::words(
+        alloc,
+        Class::of("name"),
+        (Px(24), lane.line().plus(4)),
+        name,
+    )?)?;
+    shapes.append(&mut priority(alloc, lane)?)?;
+    shapes.append(&mut own_line(alloc, page, lane)?)?;
+    Ok(shapes)
 }
 
 // The line of a lane's thread, to its end.
-fn push_own_line(out: &mut Vec<u8>, page: &Page<'_>, lane: &LaneBand) -> Result<(), AllocError>
-    requires { IsBetweenTags out.old.items }
-    ensures whole { OnOk result (AddsElements out.old.items out.new.items) }
-    ensures keeps { OnOk result (Keeps out.old.items out.new.items) }
-    ensures stop { OnOk result (StopsAt out.new.items lane.now (stop_at page.now lane.now.thread.0)) }
+fn own_line(alloc: Global, page: &Page<'_>, lane: &LaneBand) -> Shapes
+    ensures { IfOk result (λ shapes.
+        StopsAt (shapes_bytes shapes.items) lane.now (stop_at page.now lane.now.thread.0)) }
 {
-    let y = lane.line();
     match end_of(page, lane.thread) {
-        Some(x) => {
-            push_line(out, Class::of("line"), (page.left, y), (x, y))?;
-            push_stop(out, x, lane)
+        Some(x) => ended_line(alloc, page, lane, x),
+        None => {
+            let y = lane.line();
+            let mut shapes = Vec::new(alloc);
+            shapes.push(Shape::Line(Class::of("line"), (page.left, y), (page.right(), y)))?;
+            Ok(shapes)
         }
-        None => push_line(out, Class::of("line"), (page.left, y), (page.right(), y)),
     }
 }
 
-// A stroke across the line, and a word.
-fn push_stop(out: &mut Vec<u8>, x: Px, lane: &LaneBand) -> Result<(), AllocError>
-    requires { IsBetweenTags out.old.items }
-    ensures whole { OnOk result (AddsElements out.old.items out.new.items) }
-    ensures keeps { OnOk result (Keeps out.old.items out.new.items) }
-    ensures stands { OnOk result (StopsAt out.new.items lane.now (Some x.0)) }
+// One that ends there: a stroke across it, and a word.
+fn ended_line(alloc: Global, page: &Page<'_>, lane: &LaneBand, x: Px) -> Shapes
+    ensures { IfOk result (λ shapes. StopsAt (shapes_bytes shapes.items) lane.now (Some x.0)) }
 {
-    push_words(
-        out,
-        Class::of("gray"),
-        x.plus(5),
-        lane.line().plus(4),
-        b"done",
-    )?;
-    let (begin, end) = (lane.begin.plus(25), lane.begin.plus(47));
-    push_line(out, Class::of("stops"), (x, begin), (x, end))
+    let y = lane.line();
+    let mut shapes = Vec::new(alloc);
+    shapes.push(Shape::Line(Class::of("line"), (page.left, y), (x, y)))?;
+    shapes.push(Shape::words(alloc, Class::of("gray"), (x.plus(5), y.plus(4)), b"done")?)?;
+    shapes.push(stroke(lane, x))?;
+    Ok(shapes)
+}
+
+fn stroke(lane: &LaneBand, x: Px) -> Shape
+    ensures { shape_bytes result ≡ line_bytes (codes "stops") x.0
+        (pixels (lane.now.begin.0 + 25)) (pixels (lane.now.begin.0 + 47)) }
+{
+    Shape::Line(
+        Class::of("stops"),
+        (x, lane.begin.plus(25)),
+        (x, lane.begin.plus(47)),
+    )
 }
 
 // Below the first lane's priority: which of two goes first.
-fn push_hint(out: &mut Vec<u8>, page: &Page<'_>) -> Result<(), AllocError>
-    requires { IsBetweenTags out.old.items }
-    ensures whole { OnOk result (AddsElements out.old.items out.new.items) }
-    ensures keeps { OnOk result (Keeps out.old.items out.new.items) }
-{
-    match page.lanes.first() {
-        Some(lane) => push_words(
-            out,
-            Class::of("hint"),
-            Px(24),
-            lane.line().plus(32),
-            b"smaller goes first",
-        ),
-        None => Ok(()),
+fn hint(alloc: Global, page: &Page<'_>) -> Shapes {
+    let mut shapes = Vec::new(alloc);
+    if let Some(lane) = page.lanes.first() {
+        let at = (Px(24), lane.line().plus(32));
+        shapes.push(Shape::words(alloc, Class::of("hint"), at, b"smaller goes first")?)?;
     }
+    Ok(shapes)
 }
 
 /// Where a thread came to its end, where that is on the page.
@@ -278,17 +249,16 @@ pub fn end_of(page: &Page<'_>, t: ThreadNo) -> Option<Px>
 }
 
 // Its priority, as the lane's first step says it.
-fn push_priority(alloc: Global, out: &mut Vec<u8>, lane: &LaneBand) -> Result<(), AllocError>
-    requires { IsBetweenTags out.old.items }
-    ensures whole { OnOk result (AddsElements out.old.items out.new.items) }
-    ensures keeps { OnOk result (Keeps out.old.items out.new.items) }
-    ensures prio { OnOk result (PrioIsOn out.new.items lane.now) }
+fn priority(alloc: Global, lane: &LaneBand) -> Shapes
+    ensures { IfOk result (λ shapes. PrioIsOn (shapes_bytes shapes.items) lane.now) }
 {
+    let mut shapes = Vec::new(alloc);
     let Some(step) = lane.steps.first() else {
-        return Ok(());
+        return Ok(shapes);
     };
     let words = prio_words(alloc, shown_prio(lane.strip, *step), step.base)?;
-    push_words(out, Class::of("gray"), Px(24), lane.line().plus(20), &words)
+    shapes.push(Shape::Words(Class::of("gray"), (Px(24), lane.line().plus(20)), words))?;
+    Ok(shapes)
 }
 
 // The one by which it runs, or its own one where a strip shows the other.

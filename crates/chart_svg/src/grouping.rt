@@ -1,7 +1,7 @@
 //! What is of threads, in a list for each thread.
 
-ghost use Rattle.std.specs.Prelude.{◌≡◌, ◌<◌, ◌⊎◌, ℕ, vec_len, All, Contains, IfOk, OnOk};
-ghost use Rattle.chart_svg.specs.Lanes.{IsAt};
+ghost use Rattle.std.specs.Prelude.{◌≡◌, ◌<◌, ◌==◌, ℕ, [], ◌∷◌, ◌++◌, cond, vec_len, IfOk, OnOk};
+ghost use Rattle.chart_svg.specs.Lanes.{list_at, of_thread};
 
 use chart_layout::{Bar, PrioSpan};
 use lock_model::ThreadNo;
@@ -38,10 +38,8 @@ pub fn by_thread<T: OfThread>(
     things: &[T],
 ) -> Result<Vec<Vec<T>>, AllocError>
     ensures len { IfOk result (λ lists. vec_len lists ≡ threads) }
-    ensures has { IfOk result (λ lists. All (λ thing. T.number thing < threads
-        → IsAt lists.items (T.number thing) thing) things.now) }
-    ensures own { IfOk result (λ lists. (at : ℕ) (thing : T) → IsAt lists.items at thing
-        → Contains things.now thing × (T.number thing ≡ at)) }
+    ensures own { IfOk result (λ lists. (t : ℕ) → t < threads
+        → list_at lists.items t ≡ of_thread T.number t things.now) }
 {
     let mut lists = empty_lists(alloc, threads)?;
     for thing in things {
@@ -52,7 +50,7 @@ pub fn by_thread<T: OfThread>(
 
 fn empty_lists<T: Copy>(alloc: Global, n: usize) -> Result<Vec<Vec<T>>, AllocError>
     ensures len { IfOk result (λ lists. vec_len lists ≡ n) }
-    ensures none { IfOk result (λ lists. (at : ℕ) (thing : T) → IsAt lists.items at thing → ⊥) }
+    ensures none { IfOk result (λ lists. (t : ℕ) → list_at lists.items t ≡ []) }
 {
     let mut lists = Vec::new(alloc);
     for _ in 0..n {
@@ -61,14 +59,11 @@ fn empty_lists<T: Copy>(alloc: Global, n: usize) -> Result<Vec<Vec<T>>, AllocErr
     Ok(lists)
 }
 
-/// Puts a thing behind those of the list at a place, if there is one.
-pub fn put_at<T: Copy>(lists: &mut Vec<Vec<T>>, place: usize, thing: T) -> Result<(), AllocError>
+// Puts a thing behind those of the list at a place, if there is one.
+fn put_at<T: Copy>(lists: &mut Vec<Vec<T>>, place: usize, thing: T) -> Result<(), AllocError>
     ensures len { vec_len lists.new ≡ vec_len lists.old }
-    ensures keeps { OnOk result ((at : ℕ) (other : T)
-        → IsAt lists.old.items at other → IsAt lists.new.items at other) }
-    ensures puts { OnOk result (place < vec_len lists.old → IsAt lists.new.items place thing) }
-    ensures only { OnOk result ((at : ℕ) (other : T) → IsAt lists.new.items at other
-        → IsAt lists.old.items at other ⊎ ((at ≡ place) × (other ≡ thing))) }
+    ensures puts { OnOk result ((t : ℕ) → t < vec_len lists.old → list_at lists.new.items t
+        ≡ list_at lists.old.items t ++ cond (place == t) (thing ∷ []) []) }
 {
     match lists.get_mut(place) {
         Some(list) => {

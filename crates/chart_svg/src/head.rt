@@ -1,12 +1,8 @@
 //! What stands above the lanes: the titles, how the run ended, and which of its turns are shown.
-ghost use Rattle.std.specs.Prelude.{OnOk};
-ghost use Rattle.chart_escape.specs.Reader.{AddsElements, IsBetweenTags};
-
-use crate::lines::{Line, push_lines, widest, wrap};
+use crate::lines::{Line, lines_at, widest, wrap};
 use crate::page::Page;
 use crate::pixels::{Px, count};
-use crate::shapes::push_words;
-use crate::tags::Class;
+use crate::shapes::{Class, Shape, Shapes};
 use chart_layout::End;
 use chart_words::end_headline;
 use lock_model::push_number;
@@ -24,24 +20,8 @@ pub struct TitleBlock {
 
 impl TitleBlock {
     pub fn make(alloc: Global, title: &str, subtitle: &str) -> Result<TitleBlock, AllocError> {
-        let mut titles = Vec::new(alloc);
-        wrap(
-            alloc,
-            &mut titles,
-            Class::of("title"),
-            None,
-            title.as_bytes(),
-            90,
-        )?;
-        let mut subtitles = Vec::new(alloc);
-        wrap(
-            alloc,
-            &mut subtitles,
-            Class::of("sub"),
-            None,
-            subtitle.as_bytes(),
-            150,
-        )?;
+        let titles = wrap(alloc, Class::of("title"), None, title.as_bytes(), 90)?;
+        let subtitles = wrap(alloc, Class::of("sub"), None, subtitle.as_bytes(), 150)?;
         let under = Px(32).plus_times(count(titles.len()), 24);
         let bottom = under.plus_times(count(subtitles.len()), 18).plus(4);
         Ok(TitleBlock {
@@ -60,22 +40,17 @@ impl TitleBlock {
     }
 }
 
-/// Pushes the titles, and at the right how the run ended.
-pub fn push_head(
-    alloc: Global,
-    out: &mut Vec<u8>,
-    page: &Page<'_>,
-    head: &TitleBlock,
-    right: Px,
-) -> Result<(), AllocError>
-    requires { IsBetweenTags out.old.items }
-    ensures { OnOk result (AddsElements out.old.items out.new.items) }
-{
-    push_lines(out, &head.titles, Px(24), Px(34), 24)?;
-    push_lines(out, &head.subtitles, Px(24), head.under, 18)?;
+/// The titles, and at the right how the run ended.
+pub fn shapes_above(alloc: Global, page: &Page<'_>, head: &TitleBlock, right: Px) -> Shapes {
+    let mut shapes = lines_at(alloc, &head.titles, Px(24), Px(34), 24)?;
+    shapes.append(&mut lines_at(alloc, &head.subtitles, Px(24), head.under, 18)?)?;
     let end = end_headline(&page.chart.end).as_bytes();
-    push_words(out, end_class(&page.chart.end), right, Px(34), end)?;
-    push_window(alloc, out, page, right, head.under)
+    let class = end_class(&page.chart.end);
+    shapes.push(Shape::words(alloc, class, (right, Px(34)), end)?)?;
+    if let Some(words) = window_words(alloc, page)? {
+        shapes.push(Shape::Words(Class::of("right"), (right, head.under), words))?;
+    }
+    Ok(shapes)
 }
 
 fn end_class(end: &End) -> Class {
@@ -87,19 +62,10 @@ fn end_class(end: &End) -> Class {
 }
 
 // Which turns are shown, where they aren't all.
-fn push_window(
-    alloc: Global,
-    out: &mut Vec<u8>,
-    page: &Page<'_>,
-    right: Px,
-    y: Px,
-) -> Result<(), AllocError>
-    requires { IsBetweenTags out.old.items }
-    ensures { OnOk result (AddsElements out.old.items out.new.items) }
-{
+fn window_words(alloc: Global, page: &Page<'_>) -> Result<Option<Vec<u8>>, AllocError> {
     let chart = page.chart;
     if chart.first == 0 && chart.last >= chart.turns {
-        return Ok(());
+        return Ok(None);
     }
     let has_turns = chart.first < chart.last;
     let begin: &[u8] = if has_turns { b"turns" } else { b"row" };
@@ -111,5 +77,5 @@ fn push_window(
     }
     words.extend_from_slice(b" of")?;
     push_number(&mut words, u64::from(chart.turns))?;
-    push_words(out, Class::of("right"), right, y, &words)
+    Ok(Some(words))
 }

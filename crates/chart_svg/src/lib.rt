@@ -6,7 +6,7 @@
 //! - `grouping`: what is of threads, in a list for each thread.
 //! - `packing`: which bars of a lane stand below others, so that none overlap.
 //! - `page`: where all columns and lanes are.
-//! - `shapes`: the few elements that a picture is made of.
+//! - `shapes`: the few shapes that a picture is a list of, and the elements as which they are written.
 //! - `style`: colours and fonts, for light and dark.
 //! - `lines`: text in lines, which are broken at blanks.
 //! - `head`: what stands above the lanes: titles, and how it ended.
@@ -30,6 +30,5 @@ mod pixels;
 mod shapes;
 mod strips;
 mod style;
-mod tags;
 
 pub use drawing::svg;

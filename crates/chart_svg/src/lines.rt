@@ -1,11 +1,6 @@
 //! Text in lines, which are broken at blanks.
-ghost use Rattle.std.specs.Prelude.{OnOk};
-ghost use Rattle.chart_escape.specs.Reader.{AddsElements, IsBetweenTags};
-ghost use Rattle.chart_svg.specs.Drawn.{Keeps};
-
 use crate::pixels::{Px, width_of};
-use crate::shapes::{push_label, push_words};
-use crate::tags::Class;
+use crate::shapes::{Class, Shape, Shapes};
 use std::alloc::{AllocError, Global};
 use std::mem;
 
@@ -17,15 +12,15 @@ pub struct Line {
     words: Vec<u8>,
 }
 
-/// Puts text behind the lines, in lines of at most so many bytes. A longer word is cut.
+/// Text in lines of at most so many bytes, the first with the number. A longer word is cut.
 pub fn wrap(
     alloc: Global,
-    lines: &mut Vec<Line>,
     class: Class,
     number: Option<u32>,
     text: &[u8],
     most: usize,
-) -> Result<(), AllocError> {
+) -> Result<Vec<Line>, AllocError> {
+    let mut lines = Vec::new(alloc);
     let mut number = number;
     let mut words = Vec::new(alloc);
     let text = with_blanks(alloc, text, most)?;
@@ -48,7 +43,7 @@ pub fn wrap(
         number,
         words,
     })?;
-    Ok(())
+    Ok(lines)
 }
 
 // The text with blanks in words of more bytes than so many. No letter is cut.
@@ -84,33 +79,16 @@ pub fn widest(lines: &[Line], tenths: u32) -> u32 {
     most
 }
 
-/// Pushes lines that lie so far apart, the first of them there.
-pub fn push_lines(
-    out: &mut Vec<u8>,
-    lines: &[Line],
-    x: Px,
-    y: Px,
-    pitch: u32,
-) -> Result<(), AllocError>
-    requires { IsBetweenTags out.old.items }
-    ensures whole { OnOk result (AddsElements out.old.items out.new.items) }
-    ensures keeps { OnOk result (Keeps out.old.items out.new.items) }
-{
+/// Lines that lie so far apart, the first of them there.
+pub fn lines_at(alloc: Global, lines: &[Line], x: Px, y: Px, pitch: u32) -> Shapes {
+    let mut shapes = Vec::new(alloc);
     let mut y = y;
     for line in lines {
-        push_one(out, line, x, y)?;
+        if let Some(number) = line.number {
+            shapes.push(Shape::number(alloc, Class::of("nr"), (x.minus(10), y), number)?)?;
+        }
+        shapes.push(Shape::words(alloc, line.class, (x, y), &line.words)?)?;
         y = y.plus(pitch);
     }
-    Ok(())
-}
-
-fn push_one(out: &mut Vec<u8>, line: &Line, x: Px, y: Px) -> Result<(), AllocError>
-    requires { IsBetweenTags out.old.items }
-    ensures whole { OnOk result (AddsElements out.old.items out.new.items) }
-    ensures keeps { OnOk result (Keeps out.old.items out.new.items) }
-{
-    if let Some(number) = line.number {
-        push_label(out, Class::of("nr"), x.minus(10), y, u64::from(number))?;
-    }
-    push_words(out, line.class, x, y, &line.words)
+    Ok(shapes)
 }

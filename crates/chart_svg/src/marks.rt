@@ -1,15 +1,14 @@
 //! The marks of the turns, with their words where there is room for words.
-ghost use Rattle.std.specs.Prelude.{◌≡◌, ◌+◌, ◌++◌, All, IfOk, OnOk};
-ghost use Rattle.chart_escape.specs.Reader.{AddsElements, IsBetweenTags};
-ghost use Rattle.chart_svg.specs.Drawn.{class_bytes, dot_class, mark_bytes, mark_title, note_of, pixels, turn_at, Keeps, Stands};
-ghost use Rattle.chart_svg.specs.Lanes.{scale_of, HasRoom};
+ghost use Rattle.std.specs.Prelude.{◌≡◌, ◌++◌, All, IfOk, OnOk};
+ghost use Rattle.chart_svg.specs.Drawn.{class_bytes, dot_class, mark_bytes, mark_title, note_of};
+ghost use Rattle.chart_svg.specs.Lanes.{HasRoom};
 ghost use Rattle.chart_svg.specs.Pages.{MarkIsOn};
+ghost use Rattle.chart_svg.specs.Shapes.{shape_bytes, shapes_bytes};
 
-use crate::lines::{Line, push_lines, wrap};
-use crate::page::{LaneBand, Page};
+use crate::lines::{Line, lines_at, wrap};
+use crate::page::Page;
 use crate::pixels::{Px, count, width_of};
-use crate::shapes::{Figure, push_dot, push_figure, push_words};
-use crate::tags::Class;
+use crate::shapes::{Class, Figure, Shape, Shapes};
 use chart_layout::{MarkKind, TurnMark};
 use chart_words::{push_lost, push_mark, push_note, push_refusal};
 use lock_model::push_digits;
@@ -18,97 +17,60 @@ use std::alloc::{AllocError, Global};
 /// From one line of a reason to the next.
 const LINE_HEIGHT: u32 = 12;
 
-/// Pushes all marks.
-pub fn push_marks(alloc: Global, out: &mut Vec<u8>, page: &Page<'_>) -> Result<(), AllocError>
-    requires between { IsBetweenTags out.old.items }
-    requires room { HasRoom page.now }
-    ensures whole { OnOk result (AddsElements out.old.items out.new.items) }
-    ensures keeps { OnOk result (Keeps out.old.items out.new.items) }
-    ensures drawn { OnOk result (All (MarkIsOn page.now out.new.items) page.now.chart.now.marks) }
+/// All marks.
+pub fn marks(alloc: Global, page: &Page<'_>) -> Shapes
+    requires { HasRoom page.now }
+    ensures { IfOk result (λ shapes.
+        All (MarkIsOn page.now (shapes_bytes shapes.items)) page.now.chart.now.marks) }
 {
+    let mut shapes = Vec::new(alloc);
     for mark in page.chart.marks.as_slice() {
-        push_one(alloc, out, page, *mark)?;
+        shapes.append(&mut one_mark(alloc, page, *mark)?)?;
     }
-    Ok(())
+    Ok(shapes)
 }
 
-fn push_one(
-    alloc: Global,
-    out: &mut Vec<u8>,
-    page: &Page<'_>,
-    mark: TurnMark,
-) -> Result<(), AllocError>
-    requires between { IsBetweenTags out.old.items }
-    requires room { HasRoom page.now }
-    ensures whole { OnOk result (AddsElements out.old.items out.new.items) }
-    ensures keeps { OnOk result (Keeps out.old.items out.new.items) }
-    ensures drawn { OnOk result (MarkIsOn page.now out.new.items mark) }
+fn one_mark(alloc: Global, page: &Page<'_>, mark: TurnMark) -> Shapes
+    requires { HasRoom page.now }
+    ensures { IfOk result (λ shapes. MarkIsOn page.now (shapes_bytes shapes.items) mark) }
 {
-    match page.lane_of(mark.thread) {
-        Some(lane) => push_in_lane(alloc, out, page, mark, lane),
-        None => Ok(()),
-    }
-}
-
-fn push_in_lane(
-    alloc: Global,
-    out: &mut Vec<u8>,
-    page: &Page<'_>,
-    mark: TurnMark,
-    lane: &LaneBand,
-) -> Result<(), AllocError>
-    requires { IsBetweenTags out.old.items }
-    ensures whole { OnOk result (AddsElements out.old.items out.new.items) }
-    ensures keeps { OnOk result (Keeps out.old.items out.new.items) }
-    ensures stands { OnOk result (Stands out.new.items (mark_bytes page.now.plan.now mark
-        (turn_at (scale_of page.now) page.now.chart.now mark.turn)
-        (pixels (lane.now.begin.0 + 19)))) }
-{
+    let Some(lane) = page.lane_of(mark.thread) else {
+        return Ok(Vec::new(alloc));
+    };
     let x = page.turn_at(mark.turn);
-    push_shape(alloc, out, page, mark, (x, lane.marks()))?;
-    push_own_words(alloc, out, page, mark, (x, lane.words()))
+    let mut shapes = Vec::new(alloc);
+    shapes.push(shape_of(alloc, page, mark, (x, lane.marks()))?)?;
+    shapes.append(&mut own_words(alloc, page, mark, (x, lane.words()))?)?;
+    Ok(shapes)
 }
 
 // The words of a mark, where there is room for words, and where they don't stand before its reason.
-fn push_own_words(
-    alloc: Global,
-    out: &mut Vec<u8>,
-    page: &Page<'_>,
-    mark: TurnMark,
-    at: (Px, Px),
-) -> Result<(), AllocError>
-    requires { IsBetweenTags out.old.items }
-    ensures whole { OnOk result (AddsElements out.old.items out.new.items) }
-    ensures keeps { OnOk result (Keeps out.old.items out.new.items) }
-{
-    if !page.has_words || page.has_reason(mark) {
-        return Ok(());
+fn own_words(alloc: Global, page: &Page<'_>, mark: TurnMark, at: (Px, Px)) -> Shapes {
+    let mut shapes = Vec::new(alloc);
+    if page.has_words && !page.has_reason(mark) {
+        let mut words = Vec::new(alloc);
+        push_mark(&mut words, page.plan, mark.what)?;
+        let fitting = fitting(&words, page.column);
+        shapes.push(Shape::words(alloc, word_class(mark.what), at, fitting)?)?;
     }
-    let mut words = Vec::new(alloc);
-    push_mark(&mut words, page.plan, mark.what)?;
-    let fitting = fitting(&words, page.column);
-    push_words(out, word_class(mark.what), at.0, at.1, fitting)
+    Ok(shapes)
 }
 
 // A mark without its words.
-fn push_shape(
+fn shape_of(
     alloc: Global,
-    out: &mut Vec<u8>,
     page: &Page<'_>,
     mark: TurnMark,
     at: (Px, Px),
-) -> Result<(), AllocError>
-    requires { IsBetweenTags out.old.items }
-    ensures whole { OnOk result (AddsElements out.old.items out.new.items) }
-    ensures keeps { OnOk result (Keeps out.old.items out.new.items) }
-    ensures stands { OnOk result (Stands out.new.items
-        (mark_bytes page.now.plan.now mark at.0.0 at.1.0)) }
+) -> Result<Shape, AllocError>
+    ensures { IfOk result (λ shape. shape_bytes shape
+        ≡ mark_bytes page.now.plan.now mark at.0.0 at.1.0) }
 {
     let said = said_of(alloc, page, mark)?;
     if mark.what.is_refusal() {
-        push_figure(alloc, out, Class::of("cross"), Figure::Cross, at, &said)
+        Shape::figure(alloc, Class::of("cross"), Figure::Cross, at, said)
     } else {
-        push_dot(out, dot_class(mark.what), at.0, at.1, &said)
+        Ok(Shape::Dot(dot_class(mark.what), at, said))
     }
 }
 
@@ -165,20 +127,18 @@ fn push_own_note(out: &mut Vec<u8>, page: &Page<'_>, what: MarkKind) -> Result<(
     }
 }
 
-/// Pushes the words of refusals, each with its reason, above the words of other marks.
-pub fn push_reasons(alloc: Global, out: &mut Vec<u8>, page: &Page<'_>) -> Result<(), AllocError>
-    requires { IsBetweenTags out.old.items }
-    ensures whole { OnOk result (AddsElements out.old.items out.new.items) }
-    ensures keeps { OnOk result (Keeps out.old.items out.new.items) }
-{
+/// The words of refusals, each with its reason, above the words of other marks.
+pub fn reasons(alloc: Global, page: &Page<'_>) -> Shapes {
+    let mut shapes = Vec::new(alloc);
     for mark in &page.reasons {
         if let Some(lane) = page.lane_of(mark.thread) {
             let lines = reason_lines(alloc, page, *mark)?;
             let first = lane.begin.minus(height_of(&lines)).plus(11);
-            push_lines(out, &lines, page.turn_at(mark.turn), first, LINE_HEIGHT)?;
+            let x = page.turn_at(mark.turn);
+            shapes.append(&mut lines_at(alloc, &lines, x, first, LINE_HEIGHT)?)?;
         }
     }
-    Ok(())
+    Ok(shapes)
 }
 
 /// How high lines of reasons are.
@@ -204,14 +164,5 @@ pub fn reason_lines(
     }
     let room = page.column.saturating_mul(2).saturating_sub(12);
     let most = room.saturating_mul(10) / 58;
-    let mut lines = Vec::new(alloc);
-    wrap(
-        alloc,
-        &mut lines,
-        Class::of("no"),
-        None,
-        &words,
-        most as usize,
-    )?;
-    Ok(lines)
+    wrap(alloc, Class::of("no"), None, &words, most as usize)
 }

@@ -2,11 +2,10 @@
 //! a level overlap: a bar comes on the first level that is free there, and one of a thread that was taken off its queue
 //! or woken on that of its wait.
 
-ghost use Rattle.std.specs.Prelude.{◌-◌, ◌≤◌, vec_len, All, IfOk, OnOk};
+ghost use Rattle.std.specs.Prelude.{◌≡◌, ◌-◌, ◌≤◌, vec_len, All, IfOk, OnOk};
 ghost use Rattle.chart_layout.specs.declared.layout.Bar.{Bar};
 ghost use Rattle.chart_svg.specs.Lanes.{IsLaid};
 
-use crate::grouping::put_at;
 use crate::pixels::count;
 use chart_layout::{Bar, BarKind};
 use std::alloc::{AllocError, Global};
@@ -14,33 +13,34 @@ use std::alloc::{AllocError, Global};
 /// The bars of a lane.
 #[derive(Drop)]
 pub struct Packed {
-    /// Those of each level, in order of their rows.
-    pub levels: Vec<Vec<Bar>>,
-    /// The walks, each with the level of the wait that it goes with.
-    pub walks: Vec<(Bar, u32)>,
+    /// By level and row, each with its level; behind them the walks, each with the level of the wait that it goes with.
+    pub laid: Vec<(Bar, u32)>,
+    /// The last row of each level.
+    pub ends: Vec<u32>,
 }
 
 impl Packed {
     // One bar more. A thread waits on that level, and the level of its wait is returned.
-    fn lay(&mut self, alloc: Global, waits_on: u32, bar: Bar) -> Result<u32, AllocError>
-        requires { waits_on ≤ vec_len self.old.levels - 1 }
+    fn lay(&mut self, waits_on: u32, bar: Bar) -> Result<u32, AllocError>
+        requires { waits_on ≤ vec_len self.old.ends - 1 }
         ensures keeps { OnOk result ((other : Bar) → IsLaid self.old other → IsLaid self.new other) }
         ensures lays { OnOk result (IsLaid self.new bar) }
-        ensures waits { IfOk result (λ level. level ≤ vec_len self.new.levels - 1) }
+        ensures waits { IfOk result (λ level. level ≤ vec_len self.new.ends - 1) }
     {
         if is_walk(bar.what) {
-            self.walks.push((bar, waits_on))?;
+            self.laid.push((bar, waits_on))?;
             return Ok(waits_on);
         }
         let level = self.level_of(waits_on, bar);
-        self.put(alloc, level as usize, bar)?;
+        self.reach(level, bar.last)?;
+        self.laid.push((bar, level))?;
         Ok(if is_wait(bar.what) { level } else { waits_on })
     }
 
     // On which level a bar comes.
     fn level_of(&self, waits_on: u32, bar: Bar) -> u32
-        requires { waits_on ≤ vec_len self.now.levels - 1 }
-        ensures { result ≤ vec_len self.now.levels }
+        requires { waits_on ≤ vec_len self.now.ends - 1 }
+        ensures { result ≤ vec_len self.now.ends }
     {
         if is_off(bar.what) && self.is_free(waits_on, bar.first) {
             waits_on
@@ -49,46 +49,58 @@ impl Packed {
         }
     }
 
-    // One bar more on a level, which may be the next one.
-    fn put(&mut self, alloc: Global, level: usize, bar: Bar) -> Result<(), AllocError>
-        ensures keeps { OnOk result ((other : Bar) → IsLaid self.old other → IsLaid self.new other) }
-        ensures puts { OnOk result (IsLaid self.new bar) }
-        ensures long { OnOk result (level ≤ vec_len self.old.levels
-            → level ≤ vec_len self.new.levels - 1) }
-        ensures grows { OnOk result (vec_len self.old.levels ≤ vec_len self.new.levels) }
+    // A level, which may be the next one, has bars to that row.
+    fn reach(&mut self, level: u32, row: u32) -> Result<(), AllocError>
+        ensures same { self.new.laid ≡ self.old.laid }
+        ensures long { OnOk result (level ≤ vec_len self.old.ends
+            → level ≤ vec_len self.new.ends - 1) }
+        ensures grows { OnOk result (vec_len self.old.ends ≤ vec_len self.new.ends) }
     {
-        if level < self.levels.len() {
-            put_at(&mut self.levels, level, bar)
+        if (level as usize) < self.ends.len() {
+            self.ends[level as usize] = row;
         } else {
-            let mut bars = Vec::new(alloc);
-            bars.push(bar)?;
-            self.levels.push(bars)?;
-            Ok(())
+            self.ends.push(row)?;
         }
+        Ok(())
     }
 
     // Whether no bar of the level reaches that row.
     fn is_free(&self, level: u32, row: u32) -> bool {
-        match self.levels.get(level as usize) {
-            Some(bars) => ends_before(bars, row),
+        match self.ends.get(level as usize) {
+            Some(end) => *end < row,
             None => true,
         }
     }
 
     fn first_free(&self, row: u32) -> u32
-        ensures { result ≤ vec_len self.now.levels }
+        ensures { result ≤ vec_len self.now.ends }
     {
-        match self.levels.iter().position(|bars| ends_before(bars, row)) {
+        match self.ends.iter().position(|end| *end < row) {
             Some(level) => count(level),
-            None => count(self.levels.len()),
+            None => count(self.ends.len()),
         }
     }
-}
 
-fn ends_before(bars: &[Bar], row: u32) -> bool {
-    match bars.last() {
-        Some(bar) => bar.last < row,
-        None => true,
+    /// Whether there are walks.
+    pub fn has_walks(&self) -> bool {
+        match self.laid.last() {
+            Some((bar, _)) => is_walk(bar.what),
+            None => false,
+        }
+    }
+
+    /// The bar of a level that covers the row.
+    pub fn covering(&self, level: u32, row: u32) -> Option<Bar> {
+        let begun = self.laid.partition_point(|(bar, on)| {
+            let group = group_of(bar.what, *on);
+            group < level || (group == level && bar.first <= row)
+        });
+        let (bar, on) = self.laid.get(begun.checked_sub(1)?)?;
+        if group_of(bar.what, *on) == level && row <= bar.last {
+            Some(*bar)
+        } else {
+            None
+        }
     }
 }
 
@@ -99,25 +111,27 @@ pub fn pack(alloc: Global, bars: &[Bar]) -> Result<Packed, AllocError>
     let mut sorted = Vec::from_slice(alloc, bars)?;
     sorted.sort_by_key(|bar| (bar.first, is_walk(bar.what)))?;
     let mut packed = Packed {
-        levels: Vec::new(alloc),
-        walks: Vec::new(alloc),
+        laid: Vec::new(alloc),
+        ends: Vec::new(alloc),
     };
     let mut waits_on = 0;
     for bar in &sorted {
-        let level = packed.lay(alloc, waits_on, *bar)?;
+        let level = packed.lay(waits_on, *bar)?;
         waits_on = level;
     }
+    packed
+        .laid
+        .sort_by_key(|(bar, level)| group_of(bar.what, *level))?;
     Ok(packed)
 }
 
-/// The bar of a level that covers the row.
-pub fn covering(bars: &[Bar], row: u32) -> Option<Bar> {
-    let begun = bars.partition_point(|bar| bar.first <= row);
-    let bar = bars.get(begun.checked_sub(1)?)?;
-    if row <= bar.last { Some(*bar) } else { None }
+// The bars of a level stand together, and so do the walks, behind all others.
+fn group_of(what: BarKind, level: u32) -> u32 {
+    if is_walk(what) { 0xffff_ffff } else { level }
 }
 
-fn is_walk(what: BarKind) -> bool {
+/// Whether it is the walk of a wait.
+pub fn is_walk(what: BarKind) -> bool {
     match what {
         BarKind::Walks => true,
         BarKind::Holds { .. }

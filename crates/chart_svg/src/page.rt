@@ -1,14 +1,14 @@
 //! Where all columns and lanes are. A column is a turn, and its mark stands in the middle of it; a row of the run goes
 //! from the middle of one column to the middle of the next.
-ghost use Rattle.std.specs.Prelude.{◌≡◌, ◌↔◌, false, ℕ, ◌+◌, ◌-◌, ◌*◌, ◌≤◌, length, All, IfOk, OnOk, slice_get, MatchOption, Some};
+ghost use Rattle.std.specs.Prelude.{◌≡◌, ◌↔◌, false, ℕ, ◌+◌, ◌-◌, ◌*◌, ◌≤◌, length, All, IfOk, OnOk, slice_get, MatchOption, None, Some};
 ghost use Rattle.chart_svg.specs.Drawn.{pixels, right_edge, row_begin, row_end, turn_at, SaysAs};
-ghost use Rattle.chart_svg.specs.Lanes.{bar_bottom, bar_top, pitch_of, rank_in, scale_of, AreSame, Fits, HasBars, HasLaneMore, HasLanes, HasOwn, HasPrios, HasRoom, HasStep, HasSteps, IsLaid};
+ghost use Rattle.chart_svg.specs.Lanes.{bar_bottom, bar_place, bar_top, pitch_of, rank_in, scale_of, AreSame, Fits, HasLaneMore, HasLanes, HasPrios, HasRoom};
 
 use crate::grouping::by_thread;
 use crate::marks::{height_of, reason_lines};
 use crate::packing::{Packed, pack};
 use crate::pixels::{Px, count, width_of};
-use chart_layout::{Arrow, ArrowKind, Bar, Chart, PrioSpan, Saying, Sentence, TurnMark};
+use chart_layout::{Arrow, ArrowKind, Bar, BarKind, Chart, PrioSpan, Saying, Sentence, TurnMark};
 use chart_words::{push_arrow, push_mark};
 use lock_model::{ClassNo, LockNo, Plan, Prio, ThreadNo};
 use std::alloc::{AllocError, Global};
@@ -87,6 +87,19 @@ impl LaneBand {
         self.bar_top(level).plus(18)
     }
 
+    /// The top of a bar on a level: a walk is a thin line below the wait from which it begins.
+    pub fn bar_place(&self, what: BarKind, level: u32) -> Px
+        ensures { result.0 ≡ bar_place self.now what level }
+    {
+        match what {
+            BarKind::Holds { .. }
+            | BarKind::Waits { .. }
+            | BarKind::TakenOff { .. }
+            | BarKind::Woken { .. } => self.bar_top(level),
+            BarKind::Walks => self.bar_bottom(level).plus(2),
+        }
+    }
+
     // Its strip below its bars, where its priorities change, and the end of the lane.
     fn put_strip(&mut self, page: &Page<'_>)
         requires begins { self.old.top.0 ≤ self.old.begin.0 }
@@ -94,7 +107,7 @@ impl LaneBand {
         ensures same { self.new
             ≡ record self.old { strip = self.new.strip; bottom = self.new.bottom } }
         ensures fits { Fits page.now self.new }
-        ensures steps { All (HasStep self.new) self.new.steps.items }
+        ensures flat { self.new.strip ≡ None ↔ AreSame self.new.steps.items }
     {
         let end = self.bars_end();
         if self.changes() {
@@ -108,11 +121,11 @@ impl LaneBand {
 
     // Below its last bars, and the walks there.
     fn bars_end(&self) -> Px
-        ensures { (level : ℕ) → level ≤ length self.now.bars.levels.items - 1
+        ensures { (level : ℕ) → level ≤ length self.now.bars.ends.items - 1
             → pixels (bar_bottom self.now level + 4) ≤ result.0 }
     {
-        let room = if self.bars.walks.is_empty() { 4 } else { 13 };
-        self.bar_bottom(count(self.bars.levels.len()).saturating_sub(1))
+        let room = if self.bars.has_walks() { 13 } else { 4 };
+        self.bar_bottom(count(self.bars.ends.len()).saturating_sub(1))
             .plus(room)
     }
 
@@ -139,9 +152,6 @@ impl<'c> Page<'c> {
         ensures width { IfOk result (λ page. 9 ≤ page.column) }
         ensures room { IfOk result HasRoom }
         ensures lanes { IfOk result (λ page. HasLanes page chart.now) }
-        ensures bars { IfOk result (λ page. HasBars page chart.now) }
-        ensures steps { IfOk result (λ page. HasSteps page chart.now) }
-        ensures own { IfOk result (λ page. HasOwn page chart.now) }
         ensures prios { IfOk result (λ page. HasPrios page.prios.items chart.now.steps) }
     {
         let columns = chart.last.saturating_sub(chart.first).max(1);
@@ -176,9 +186,6 @@ impl<'c> Page<'c> {
             ≡ record self.old { lanes = self.new.lanes; bottom = self.new.bottom } }
         ensures room { OnOk result (HasRoom self.new) }
         ensures lanes { OnOk result (HasLanes self.new self.old.chart.now) }
-        ensures bars { OnOk result (HasBars self.new self.old.chart.now) }
-        ensures steps { OnOk result (HasSteps self.new self.old.chart.now) }
-        ensures own { OnOk result (HasOwn self.new self.old.chart.now) }
     {
         let lanes = self.chart.lanes.as_slice();
         let bars = by_thread(alloc, lanes.len(), self.chart.bars.as_slice())?;
@@ -205,8 +212,17 @@ impl<'c> Page<'c> {
             (HasLaneMore self.old.lanes.items self.new.lanes.items thread bars.now steps.now) }
     {
         let begin = self.bottom.plus(self.reasons_height(alloc, thread)?);
-        let mut lane = lane_at(alloc, thread, begin, bars, steps)?;
-        lane.top = self.bottom;
+        let bars = pack(alloc, bars)?;
+        let mut lane = LaneBand {
+            thread,
+            top: self.bottom,
+            begin,
+            bottom: begin,
+            pitch: if bars.has_walks() { 33 } else { 22 },
+            strip: None,
+            bars,
+            steps: Vec::from_slice(alloc, steps)?,
+        };
         lane.put_strip(self);
         self.bottom = lane.bottom;
         self.lanes.push(lane)?;
@@ -335,32 +351,6 @@ impl<'c> Page<'c> {
     {
         self.prios.iter().filter(|other| other.0 < prio.0).count()
     }
-}
-
-// A lane whose marks' words begin there, without its strip.
-fn lane_at(
-    alloc: Global,
-    thread: ThreadNo,
-    begin: Px,
-    bars: &[Bar],
-    steps: &[PrioSpan],
-) -> Result<LaneBand, AllocError>
-    ensures thread { IfOk result (λ lane. lane.thread ≡ thread) }
-    ensures begin { IfOk result (λ lane. lane.begin ≡ begin) }
-    ensures bars { IfOk result (λ lane. All (IsLaid lane.bars) bars.now) }
-    ensures steps { IfOk result (λ lane. lane.steps.items ≡ steps.now) }
-{
-    let packed = pack(alloc, bars)?;
-    Ok(LaneBand {
-        thread,
-        top: begin,
-        begin,
-        bottom: begin,
-        pitch: if packed.walks.is_empty() { 22 } else { 33 },
-        strip: None,
-        bars: packed,
-        steps: Vec::from_slice(alloc, steps)?,
-    })
 }
 
 // Beside the longest name, and the number of a loan with which the window begins, which may be there

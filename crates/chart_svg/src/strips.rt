@@ -1,103 +1,96 @@
 //! The strips of priorities, in the lanes whose priorities change: a line where the thread runs, and a loan as a filled
 //! step. More important is up.
-ghost use Rattle.std.specs.Prelude.{◌≡◌, ◌++◌, codes, decimal, All, IfOk, OnOk};
-ghost use Rattle.chart_escape.specs.Reader.{AddsElements, IsBetweenTags};
-ghost use Rattle.chart_svg.specs.Drawn.{loan_area, Keeps};
+ghost use Rattle.std.specs.Prelude.{◌≡◌, ◌++◌, codes, decimal, All, IfOk};
+ghost use Rattle.chart_svg.specs.Drawn.{loan_area};
 ghost use Rattle.chart_svg.specs.Lanes.{scale_of, IsLentAt, LoansAreDrawn};
+ghost use Rattle.chart_svg.specs.Shapes.{shapes_bytes};
 
 use crate::frame::end_of;
 use crate::page::{LaneBand, Page, prios_of};
 use crate::pixels::{Px, width_of};
-use crate::shapes::{
-    Area, begin_path, push_curve, push_label, push_line, push_rect_said, push_words,
-};
-use crate::tags::Class;
+use crate::shapes::{Area, Class, Shape, Shapes, begin_path};
 use chart_layout::PrioSpan;
 use lock_model::{Prio, push_digits, push_number};
 use std::alloc::{AllocError, Global};
 
-/// Pushes the strips of all lanes, without the words of their loans.
-pub fn push_strips(alloc: Global, out: &mut Vec<u8>, page: &Page<'_>) -> Result<(), AllocError>
-    requires { IsBetweenTags out.old.items }
-    ensures whole { OnOk result (AddsElements out.old.items out.new.items) }
-    ensures keeps { OnOk result (Keeps out.old.items out.new.items) }
-    ensures drawn { OnOk result
-        (All (LoansAreDrawn page.now out.new.items) page.now.lanes.items) }
+/// The strips of all lanes, without the words of their loans.
+pub fn strips(alloc: Global, page: &Page<'_>) -> Shapes
+    ensures { IfOk result (λ shapes.
+        All (LoansAreDrawn page.now (shapes_bytes shapes.items)) page.now.lanes.items) }
 {
+    let mut shapes = Vec::new(alloc);
     for lane in &page.lanes {
-        push_strip(alloc, out, page, lane)?;
+        shapes.append(&mut strip_of(alloc, page, lane)?)?;
     }
-    Ok(())
+    Ok(shapes)
 }
 
-fn push_strip(
-    alloc: Global,
-    out: &mut Vec<u8>,
-    page: &Page<'_>,
-    lane: &LaneBand,
-) -> Result<(), AllocError>
-    requires { IsBetweenTags out.old.items }
-    ensures whole { OnOk result (AddsElements out.old.items out.new.items) }
-    ensures keeps { OnOk result (Keeps out.old.items out.new.items) }
-    ensures drawn { OnOk result (LoansAreDrawn page.now out.new.items lane.now) }
+fn strip_of(alloc: Global, page: &Page<'_>, lane: &LaneBand) -> Shapes
+    ensures { IfOk result (λ shapes.
+        LoansAreDrawn page.now (shapes_bytes shapes.items) lane.now) }
 {
     let Some(strip) = lane.strip else {
-        return Ok(());
+        return Ok(Vec::new(alloc));
     };
-    if page.prio_pitch() < 9 {
-        push_ticks(out, page, strip, &prios_of(alloc, &lane.steps)?)?;
-    } else {
-        push_ticks(out, page, strip, &page.prios)?;
-    }
-    for step in &lane.steps {
-        push_loan(alloc, out, page, strip, *step)?;
-    }
-    push_run(alloc, out, page, strip, &lane.steps)
+    let mut shapes = ticks(alloc, page, lane, strip)?;
+    shapes.append(&mut loans(alloc, page, lane, strip)?)?;
+    shapes.append(&mut run(alloc, page, strip, &lane.steps)?)?;
+    Ok(shapes)
 }
 
-// Priorities at the left of a strip, where they have room.
-fn push_ticks(
-    out: &mut Vec<u8>,
-    page: &Page<'_>,
-    strip: Px,
-    prios: &[Prio],
-) -> Result<(), AllocError>
-    requires { IsBetweenTags out.old.items }
-    ensures whole { OnOk result (AddsElements out.old.items out.new.items) }
-    ensures keeps { OnOk result (Keeps out.old.items out.new.items) }
-{
+// Priorities at the left of a strip: all that have room there, or those of its own lane where all have none.
+fn ticks(alloc: Global, page: &Page<'_>, lane: &LaneBand, strip: Px) -> Shapes {
+    if page.prio_pitch() < 9 {
+        ticks_of(alloc, page, strip, &prios_of(alloc, &lane.steps)?)
+    } else {
+        ticks_of(alloc, page, strip, &page.prios)
+    }
+}
+
+// Those priorities, where they have room.
+fn ticks_of(alloc: Global, page: &Page<'_>, strip: Px, prios: &[Prio]) -> Shapes {
+    let mut shapes = Vec::new(alloc);
     let x = page.left.minus(6);
     let mut free = strip;
     for prio in prios {
         let y = page.prio_at(strip, *prio);
         if free <= y {
-            push_label(out, Class::of("tick"), x, y.plus(3), u64::from(prio.0))?;
+            shapes.push(Shape::number(
+                alloc,
+                Class::of("tick"),
+                (x, y.plus(3)),
+                u32::from(prio.0),
+            )?)?;
             free = y.plus(9);
         }
     }
-    Ok(())
+    Ok(shapes)
 }
 
-// The step of a loan.
-fn push_loan(
-    alloc: Global,
-    out: &mut Vec<u8>,
-    page: &Page<'_>,
-    strip: Px,
-    step: PrioSpan,
-) -> Result<(), AllocError>
-    requires { IsBetweenTags out.old.items }
-    ensures whole { OnOk result (AddsElements out.old.items out.new.items) }
-    ensures keeps { OnOk result (Keeps out.old.items out.new.items) }
-    ensures drawn { OnOk result (IsLentAt page.now out.new.items strip.0 step) }
+// The steps of the loans of a lane, whose strip begins there.
+fn loans(alloc: Global, page: &Page<'_>, lane: &LaneBand, strip: Px) -> Shapes
+    ensures { IfOk result (λ shapes.
+        All (IsLentAt page.now (shapes_bytes shapes.items) strip.0) lane.now.steps.items) }
 {
+    let mut shapes = Vec::new(alloc);
+    for step in &lane.steps {
+        shapes.append(&mut one_loan(alloc, page, strip, *step)?)?;
+    }
+    Ok(shapes)
+}
+
+fn one_loan(alloc: Global, page: &Page<'_>, strip: Px, step: PrioSpan) -> Shapes
+    ensures { IfOk result (λ shapes. IsLentAt page.now (shapes_bytes shapes.items) strip.0 step) }
+{
+    let mut shapes = Vec::new(alloc);
     if step.effective == step.base {
-        return Ok(());
+        return Ok(shapes);
     }
     let area = loan_area(page, strip, step);
     let (right, base) = (area.x.plus(area.width), area.y.plus(area.height));
-    push_rect_said(out, Class::of("loan"), area, &loan_words(alloc, step)?)?;
-    push_line(out, Class::of("base"), (area.x, base), (right, base))
+    shapes.push(Shape::Rect(Class::of("loan"), area, Some(loan_words(alloc, step)?)))?;
+    shapes.push(Shape::Line(Class::of("base"), (area.x, base), (right, base)))?;
+    Ok(shapes)
 }
 
 // From the priority as which it runs, down to its own.
@@ -123,73 +116,35 @@ fn loan_words(alloc: Global, step: PrioSpan) -> Result<Vec<u8>, AllocError>
     Ok(words)
 }
 
-/// Pushes the words of the loans of all lanes.
-pub fn push_strip_words(alloc: Global, out: &mut Vec<u8>, page: &Page<'_>) -> Result<(), AllocError>
-    requires { IsBetweenTags out.old.items }
-    ensures whole { OnOk result (AddsElements out.old.items out.new.items) }
-    ensures keeps { OnOk result (Keeps out.old.items out.new.items) }
-{
+/// The words of the loans of all lanes, where there is room for them.
+pub fn strip_words(alloc: Global, page: &Page<'_>) -> Shapes {
+    let mut shapes = Vec::new(alloc);
     for lane in &page.lanes {
         if let Some(strip) = lane.strip {
-            push_words_of(alloc, out, page, strip, &lane.steps)?;
+            shapes.append(&mut own_words(alloc, page, strip, &lane.steps)?)?;
         }
     }
-    Ok(())
+    Ok(shapes)
 }
 
-fn push_words_of(
-    alloc: Global,
-    out: &mut Vec<u8>,
-    page: &Page<'_>,
-    strip: Px,
-    steps: &[PrioSpan],
-) -> Result<(), AllocError>
-    requires { IsBetweenTags out.old.items }
-    ensures whole { OnOk result (AddsElements out.old.items out.new.items) }
-    ensures keeps { OnOk result (Keeps out.old.items out.new.items) }
-{
+fn own_words(alloc: Global, page: &Page<'_>, strip: Px, steps: &[PrioSpan]) -> Shapes {
+    let mut shapes = Vec::new(alloc);
     for step in steps {
-        push_own_words(alloc, out, page, strip, *step)?;
+        let area = loan_area(page, strip, *step);
+        let words = loan_words(alloc, *step)?;
+        if area.height >= 12 && width_of(words.len(), 68) <= area.width {
+            let middle = area.y.plus(area.height / 2).plus(4);
+            shapes.push(Shape::Words(Class::of("as"), (area.x.plus(6), middle), words))?;
+        }
     }
-    Ok(())
-}
-
-// Those of a loan, where it has room for them.
-fn push_own_words(
-    alloc: Global,
-    out: &mut Vec<u8>,
-    page: &Page<'_>,
-    strip: Px,
-    step: PrioSpan,
-) -> Result<(), AllocError>
-    requires { IsBetweenTags out.old.items }
-    ensures whole { OnOk result (AddsElements out.old.items out.new.items) }
-    ensures keeps { OnOk result (Keeps out.old.items out.new.items) }
-{
-    let area = loan_area(page, strip, step);
-    let words = loan_words(alloc, step)?;
-    let middle = area.y.plus(area.height / 2).plus(4);
-    if area.height >= 12 && width_of(words.len(), 68) <= area.width {
-        push_words(out, Class::of("as"), area.x.plus(6), middle, &words)
-    } else {
-        Ok(())
-    }
+    Ok(shapes)
 }
 
 // The line along which the thread runs, to its end.
-fn push_run(
-    alloc: Global,
-    out: &mut Vec<u8>,
-    page: &Page<'_>,
-    strip: Px,
-    steps: &[PrioSpan],
-) -> Result<(), AllocError>
-    requires { IsBetweenTags out.old.items }
-    ensures whole { OnOk result (AddsElements out.old.items out.new.items) }
-    ensures keeps { OnOk result (Keeps out.old.items out.new.items) }
-{
+fn run(alloc: Global, page: &Page<'_>, strip: Px, steps: &[PrioSpan]) -> Shapes {
+    let mut shapes = Vec::new(alloc);
     let Some((first, others)) = steps.split_first() else {
-        return Ok(());
+        return Ok(shapes);
     };
     let begin = page.prio_at(strip, first.effective);
     let mut path = begin_path(alloc, page.left, begin)?;
@@ -199,7 +154,8 @@ fn push_run(
     }
     let end = end_of(page, first.thread).unwrap_or(page.right());
     push_corner(&mut path, b"H", end)?;
-    push_curve(out, Class::of("runs"), &path, b"")
+    shapes.push(Shape::Curve(Class::of("runs"), path, Vec::new(alloc)))?;
+    Ok(shapes)
 }
 
 // A piece of the line, to that x or y.

@@ -127,6 +127,7 @@ fn push_flow(
     push_ends(out, id, &name, from, to, track, time_of(arrow.turn))
 }
 
+#[tactic(auto, unfolding(crate::specs::Events::event_bytes))]
 fn push_ends(
     out: &mut Vec<u8>,
     id: u64,

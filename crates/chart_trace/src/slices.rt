@@ -111,6 +111,7 @@ fn push_named_turn(out: &mut Vec<u8>, mark: TurnMark, name: &[u8]) -> Result<(),
     push_slice(out, pid, TURNS, name, time_of(mark.turn), 1000)
 }
 
+#[tactic(auto, unfolding(crate::specs::Events::event_bytes))]
 fn push_slice(
     out: &mut Vec<u8>,
     pid: u64,
@@ -167,6 +168,7 @@ pub fn push_sentences(
     Ok(())
 }
 
+#[tactic(auto, unfolding(crate::specs::Events::event_bytes))]
 fn push_said(out: &mut Vec<u8>, pid: u64, words: &[u8], time: u64) -> Result<(), AllocError>
     requires { IsBehindItem out.old.items }
     ensures pushed { OnOk result (out.new.items
@@ -213,6 +215,7 @@ fn push_step(out: &mut Vec<u8>, step: PrioSpan) -> Result<(), AllocError>
     push_counter(out, pid, begin_of(step.first), height)
 }
 
+#[tactic(auto, unfolding(crate::specs::Events::event_bytes))]
 fn push_counter(out: &mut Vec<u8>, pid: u64, time: u64, height: u64) -> Result<(), AllocError>
     requires { IsBehindItem out.old.items }
     ensures pushed { OnOk result (out.new.items

@@ -91,6 +91,7 @@ fn push_end(out: &mut Vec<u8>, chart: &Chart) -> Result<(), AllocError>
     )
 }
 
+#[tactic(auto, unfolding(crate::specs::Events::event_bytes))]
 fn push_instant(out: &mut Vec<u8>, name: &[u8], time: u64) -> Result<(), AllocError>
     requires { AreBehind 0 out.old.items }
     ensures pushed { OnOk result (out.new.items

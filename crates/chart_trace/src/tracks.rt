@@ -151,6 +151,7 @@ fn is_other(before: Bar, bar: Bar) -> bool
     before.thread != bar.thread || track_of(before.what) != track_of(bar.what)
 }
 
+#[tactic(auto, unfolding(crate::specs::Events::event_bytes))]
 fn push_process(out: &mut Vec<u8>, pid: u64, name: &[u8]) -> Result<(), AllocError>
     requires { IsBehindItem out.old.items }
     ensures pushed { OnOk result (out.new.items
@@ -173,6 +174,7 @@ fn push_process(out: &mut Vec<u8>, pid: u64, name: &[u8]) -> Result<(), AllocErr
     )
 }
 
+#[tactic(auto, unfolding(crate::specs::Events::event_bytes))]
 fn push_track(out: &mut Vec<u8>, pid: u64, tid: u64, name: &[u8]) -> Result<(), AllocError>
     requires { IsBehindItem out.old.items }
     ensures pushed { OnOk result (out.new.items

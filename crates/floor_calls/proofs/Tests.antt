@@ -1,5 +1,5 @@
 -- Nothing stands against a call exactly where it may be made.
-use Rattle.std.proofs.Common.{◌≡◌, ◌≢◌, ℕ, Bool, true, false, List, [], ◌∷◌, Option, None, refl, sym, subst, ◌∙◌, arith}
+use Rattle.std.proofs.Common.{◌≡◌, ◌≢◌, ℕ, Bool, true, false, List, [], ◌∷◌, Option, Some, None, refl, sym, subst, ◌∙◌, arith}
 use Rattle.cond_vars.specs.Waits.{lock_of}
 use Rattle.floor_table.specs.Descriptions.{config_in}
 use Rattle.lock_model.specs.Holds.{Hold, NotHeld, Holds}
@@ -203,3 +203,13 @@ may_none (Wait d) x m =
     (later (λ s. omega (arith, s, m.1.room)) none))))))
 may_none End x m = later (unended x m.0) (later (idle x m.0) (later (λ h. h m.1) none))
 may_none GoOn x m = later (λ e. subst IsInCall e m) (later (λ r. subst IsInCall r m) none)
+
+-- a cause that was tested: where it is so it is the first of all, and else what is found behind it is
+
+pub at_first : {A : Type 0} {So : A → Type 0} {x : A} {xs : List A} {b : Bool} → (b ≡ true → So x) × (So x → b ≡ true)
+    → b ≡ true → IsFirst So (x ∷ xs) (Some x)
+at_first tested said = here (tested.0 said)
+
+pub behind : {A : Type 0} {So : A → Type 0} {x : A} {xs : List A} {found : Option A} {b : Bool}
+    → (b ≡ true → So x) × (So x → b ≡ true) → b ≡ false → IsFirst So xs found → IsFirst So (x ∷ xs) found
+behind tested unsaid rest = later (λ so. let z : true ≡ false = sym (tested.1 so) ∙ unsaid in cc) rest

@@ -1,5 +1,5 @@
-//! The calls that are made at once: edits and reads of tables, and those about priorities. Each is that of `lock_floor`,
-//! told in this crate's words, and its thread is at rest behind it.
+//! The calls that are made at once: edits and reads of tables, and those about priorities. Each is that of
+//! `lock_floor`, told in this crate's words, and its thread is at rest behind it.
 ghost use Rattle.std.specs.Prelude.{◌≤◌, ℕ, Option};
 ghost use Rattle.floor_calls.specs.Calls.{MakesAtOnce};
 ghost use Rattle.floor_calls.specs.Causes.{MayEdit, MayRead};

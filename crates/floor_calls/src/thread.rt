@@ -1,5 +1,5 @@
 //! A thread of a floor, as its caller has it, and what stands against a call of it.
-ghost use Rattle.std.specs.Prelude.{◌≡◌, ◌↔◌, ◌<◌, true, IfNone, IfSome, IsTrue, length};
+ghost use Rattle.std.specs.Prelude.{◌≡◌, ◌↔◌, ◌<◌, ◌∷◌, [], true, IfNone, IfSome, IsTrue, length};
 ghost use Rattle.std.specs.Arc.{arc_value};
 ghost use Rattle.std.specs.List.{Contains};
 ghost use Rattle.lock_floor.specs.Cells.{IsCellAt, IsCellOf};
@@ -10,8 +10,9 @@ ghost use Rattle.lock_model.specs.Words.{is_turnstile};
 ghost use Rattle.cond_vars.specs.Waits.{lock_of};
 ghost use Rattle.floor_table.specs.Descriptions.{config_in};
 ghost use Rattle.lock_model.specs.declared.plan.Kind.TheVariants.{Mtx, Sx};
-ghost use Rattle.floor_calls.specs.declared.requests.Cause.TheVariants.{NoMode};
-ghost use Rattle.floor_calls.specs.declared.requests.Request.TheVariants.{Take};
+ghost use Rattle.lock_model.specs.declared.plan.Mode.TheVariants.{Excl};
+ghost use Rattle.floor_calls.specs.declared.requests.Cause.TheVariants.{Ended, InCall, NoCell, NoChan, NoMode, NotHeld, Spent};
+ghost use Rattle.floor_calls.specs.declared.requests.Request.TheVariants.{End, GoOn, Read, Release, Show, Take, Wait};
 ghost use Rattle.floor_calls.specs.declared.stages.Stage.TheVariants as stages;
 ghost use Rattle.floor_calls.specs.Causes.{HoldsMutexOrRw, HoldsOtherThan, Says, causes};
 ghost use Rattle.floor_calls.specs.First.{IsFirst};
@@ -129,84 +130,233 @@ impl Thread {
 
     /// What stands against a call: of all that may, the first that is so. `None` comes exactly where the call may be
     /// made.
+    // Each list of causes is a chain of tests, inlined into a call: so no cause is written where none is so. An atomic
+    // step waits for what was written before it.
+    #[inline(always)]
     pub fn against(&self, request: Request) -> Option<Cause>
         ensures { IsFirst (λ cause. Says cause self.now) (causes request) result }
     {
         match request {
             Request::Take { l, mode } => self.against_gain(l, mode),
             Request::Try { l, mode } => self.against_gain(l, mode),
-            Request::Release { l, mode } => self.first(&[
-                Cause::Ended,
-                Cause::InCall,
-                Cause::NoLock(l),
-                Cause::NoMode(l, mode),
-                Cause::NotHeld(l, mode),
-                Cause::Spent,
-            ]),
-            Request::Edit { cell, change: _ } => self.first(&[
-                Cause::Ended,
-                Cause::InCall,
-                Cause::NoCell(cell),
-                Cause::NotHeld(cell.l, Mode::Excl),
-                Cause::Spent,
-            ]),
-            Request::Read { cell } => self.first(&[
-                Cause::Ended,
-                Cause::InCall,
-                Cause::NoCell(cell),
-                Cause::Unheld(cell.l),
-                Cause::Spent,
-            ]),
-            Request::SetBase { prio: _ } => {
-                self.first(&[Cause::Ended, Cause::InCall, Cause::Spent])
-            }
-            Request::Show => self.first(&[Cause::Ended, Cause::InCall, Cause::Spent]),
-            Request::WakeUp { c, all: _ } => self.first(&[
-                Cause::Ended,
-                Cause::InCall,
-                Cause::NoChan(c),
-                Cause::Spent,
-            ]),
-            Request::Wait { c } => self.first(&[
-                Cause::Ended,
-                Cause::InCall,
-                Cause::NoChan(c),
-                Cause::NotLast(c),
-                Cause::HoldsOthers(c),
-                Cause::HoldsMore,
-                Cause::Short,
-            ]),
-            Request::End => self.first(&[Cause::Ended, Cause::InCall, Cause::HoldsSome]),
-            Request::GoOn => self.first(&[Cause::Ended, Cause::AtRest]),
+            Request::Release { l, mode } => self.against_release(l, mode),
+            Request::Edit { cell, change: _ } => self.against_edit(cell),
+            Request::Read { cell } => self.against_read(cell),
+            Request::SetBase { prio: _ } => self.against_priorities(),
+            Request::Show => self.against_priorities(),
+            Request::WakeUp { c, all: _ } => self.against_wake(c),
+            Request::Wait { c } => self.against_wait(c),
+            Request::End => self.against_end(),
+            Request::GoOn => self.against_going_on(),
         }
     }
 
     // What stands against a take or a try of a lock in a mode.
     #[inline(always)]
     fn against_gain(&self, l: LockNo, mode: Mode) -> Option<Cause>
-        ensures { IsFirst (λ cause. Says cause self.now) (causes (Take l mode)) result }
+        ensures { IsFirst (λ cause. Says cause self.now)
+            (causes (Take l mode)) result }
     {
-        self.first(&[
-            Cause::Ended,
-            Cause::InCall,
-            Cause::NoLock(l),
-            Cause::NoMode(l, mode),
-            Cause::Held(l),
-            Cause::HoldsUnsleepable(l),
-            Cause::HoldsMost,
-            Cause::Spent,
-        ])
+        if self.is_so(Cause::Ended) {
+            return Some(Cause::Ended);
+        }
+        if self.is_so(Cause::InCall) {
+            return Some(Cause::InCall);
+        }
+        if self.is_so(Cause::NoLock(l)) {
+            return Some(Cause::NoLock(l));
+        }
+        if self.is_so(Cause::NoMode(l, mode)) {
+            return Some(Cause::NoMode(l, mode));
+        }
+        if self.is_so(Cause::Held(l)) {
+            return Some(Cause::Held(l));
+        }
+        if self.is_so(Cause::HoldsUnsleepable(l)) {
+            return Some(Cause::HoldsUnsleepable(l));
+        }
+        if self.is_so(Cause::HoldsMost) {
+            return Some(Cause::HoldsMost);
+        }
+        if self.is_so(Cause::Spent) {
+            return Some(Cause::Spent);
+        }
+        None
     }
 
-    // The first of the causes that is so.
+    // What stands against a release of a lock that is held in a mode.
     #[inline(always)]
-    fn first(&self, causes: &[Cause]) -> Option<Cause>
-        ensures { IsFirst (λ cause. Says cause self.now) causes.now result }
+    fn against_release(&self, l: LockNo, mode: Mode) -> Option<Cause>
+        ensures { IsFirst (λ cause. Says cause self.now)
+            (causes (Release l mode)) result }
     {
-        for cause in causes {
-            if self.is_so(*cause) {
-                return Some(*cause);
-            }
+        if self.is_so(Cause::Ended) {
+            return Some(Cause::Ended);
+        }
+        if self.is_so(Cause::InCall) {
+            return Some(Cause::InCall);
+        }
+        if self.is_so(Cause::NoLock(l)) {
+            return Some(Cause::NoLock(l));
+        }
+        if self.is_so(Cause::NoMode(l, mode)) {
+            return Some(Cause::NoMode(l, mode));
+        }
+        if self.is_so(Cause::NotHeld(l, mode)) {
+            return Some(Cause::NotHeld(l, mode));
+        }
+        if self.is_so(Cause::Spent) {
+            return Some(Cause::Spent);
+        }
+        None
+    }
+
+    // What stands against an edit of a cell.
+    #[inline(always)]
+    fn against_edit(&self, cell: TableCell) -> Option<Cause>
+        ensures { IsFirst (λ cause. Says cause self.now)
+            (Ended ∷ InCall ∷ NoCell cell ∷ NotHeld cell.l Excl ∷ Spent ∷ []) result }
+    {
+        if self.is_so(Cause::Ended) {
+            return Some(Cause::Ended);
+        }
+        if self.is_so(Cause::InCall) {
+            return Some(Cause::InCall);
+        }
+        if self.is_so(Cause::NoCell(cell)) {
+            return Some(Cause::NoCell(cell));
+        }
+        if self.is_so(Cause::NotHeld(cell.l, Mode::Excl)) {
+            return Some(Cause::NotHeld(cell.l, Mode::Excl));
+        }
+        if self.is_so(Cause::Spent) {
+            return Some(Cause::Spent);
+        }
+        None
+    }
+
+    // What stands against a read of it.
+    #[inline(always)]
+    fn against_read(&self, cell: TableCell) -> Option<Cause>
+        ensures { IsFirst (λ cause. Says cause self.now)
+            (causes (Read cell)) result }
+    {
+        if self.is_so(Cause::Ended) {
+            return Some(Cause::Ended);
+        }
+        if self.is_so(Cause::InCall) {
+            return Some(Cause::InCall);
+        }
+        if self.is_so(Cause::NoCell(cell)) {
+            return Some(Cause::NoCell(cell));
+        }
+        if self.is_so(Cause::Unheld(cell.l)) {
+            return Some(Cause::Unheld(cell.l));
+        }
+        if self.is_so(Cause::Spent) {
+            return Some(Cause::Spent);
+        }
+        None
+    }
+
+    // What stands against a call about priorities.
+    #[inline(always)]
+    fn against_priorities(&self) -> Option<Cause>
+        ensures { IsFirst (λ cause. Says cause self.now)
+            (causes Show) result }
+    {
+        if self.is_so(Cause::Ended) {
+            return Some(Cause::Ended);
+        }
+        if self.is_so(Cause::InCall) {
+            return Some(Cause::InCall);
+        }
+        if self.is_so(Cause::Spent) {
+            return Some(Cause::Spent);
+        }
+        None
+    }
+
+    // What stands against a wake of a condition variable or channel.
+    #[inline(always)]
+    fn against_wake(&self, c: ChanNo) -> Option<Cause>
+        ensures { IsFirst (λ cause. Says cause self.now)
+            (Ended ∷ InCall ∷ NoChan c ∷ Spent ∷ []) result }
+    {
+        if self.is_so(Cause::Ended) {
+            return Some(Cause::Ended);
+        }
+        if self.is_so(Cause::InCall) {
+            return Some(Cause::InCall);
+        }
+        if self.is_so(Cause::NoChan(c)) {
+            return Some(Cause::NoChan(c));
+        }
+        if self.is_so(Cause::Spent) {
+            return Some(Cause::Spent);
+        }
+        None
+    }
+
+    // What stands against a wait on it.
+    #[inline(always)]
+    fn against_wait(&self, c: ChanNo) -> Option<Cause>
+        ensures { IsFirst (λ cause. Says cause self.now)
+            (causes (Wait c)) result }
+    {
+        if self.is_so(Cause::Ended) {
+            return Some(Cause::Ended);
+        }
+        if self.is_so(Cause::InCall) {
+            return Some(Cause::InCall);
+        }
+        if self.is_so(Cause::NoChan(c)) {
+            return Some(Cause::NoChan(c));
+        }
+        if self.is_so(Cause::NotLast(c)) {
+            return Some(Cause::NotLast(c));
+        }
+        if self.is_so(Cause::HoldsOthers(c)) {
+            return Some(Cause::HoldsOthers(c));
+        }
+        if self.is_so(Cause::HoldsMore) {
+            return Some(Cause::HoldsMore);
+        }
+        if self.is_so(Cause::Short) {
+            return Some(Cause::Short);
+        }
+        None
+    }
+
+    // What stands against the thread's end.
+    #[inline(always)]
+    fn against_end(&self) -> Option<Cause>
+        ensures { IsFirst (λ cause. Says cause self.now)
+            (causes End) result }
+    {
+        if self.is_so(Cause::Ended) {
+            return Some(Cause::Ended);
+        }
+        if self.is_so(Cause::InCall) {
+            return Some(Cause::InCall);
+        }
+        if self.is_so(Cause::HoldsSome) {
+            return Some(Cause::HoldsSome);
+        }
+        None
+    }
+
+    // What stands against going on with a call.
+    #[inline(always)]
+    fn against_going_on(&self) -> Option<Cause>
+        ensures { IsFirst (λ cause. Says cause self.now)
+            (causes GoOn) result }
+    {
+        if self.is_so(Cause::Ended) {
+            return Some(Cause::Ended);
+        }
+        if self.is_so(Cause::AtRest) {
+            return Some(Cause::AtRest);
         }
         None
     }

@@ -1,7 +1,6 @@
 pub mod Waiting
 pub mod Operating
 pub mod Cutting
-pub mod Merging
 pub mod Running
 pub mod Ordered
 pub mod Histories

@@ -3,8 +3,6 @@ use Rattle.std.proofs.Common.{◌≡◌, ◌≢◌, ℕ, zero, suc, ◌+◌, ◌
 use Rattle.std.specs.FinMap.{entries}
 use Rattle.std.specs.Prelude.{if◌then◌else◌}
 use Rattle.std.specs.List.{range_with_len, list_any}
-use Rattle.std.specs.declared.alloc.Global.{Global}
-use Rattle.std.specs.declared.boxed.Box.{Box}
 use Rattle.std.proofs.lemmas.Bool.{cases_lt, ne_eqb}
 use Rattle.std.proofs.lemmas.List.{append-nil, take_all, drop_all, reverse-reverse, get_or-map, length-map, map-id}
 use Rattle.std.proofs.lemmas.List.FromFn.{length-map-range_with_len, get_or-map-range_with_len}
@@ -13,7 +11,7 @@ use Rattle.lock_model.specs.BusyWords.{BusyIsExplained}
 use Rattle.lock_model.specs.Config.{Config}
 use Rattle.lock_model.specs.Counts.{one, times}
 use Rattle.lock_model.specs.Halts.{HaltsAreHonest}
-use Rattle.lock_model.specs.History.{base_in, entries_of, tables_of}
+use Rattle.lock_model.specs.History.{base_in, entries_of}
 use Rattle.lock_model.specs.Law.{LeadsTo, Before, is_halt, FollowsOperations, EntriesFollowOperations}
 use Rattle.lock_model.specs.Legal.{IsLegalSoFar, IsLegal}
 use Rattle.lock_model.specs.Law as law
@@ -23,13 +21,9 @@ use Rattle.lock_model.specs.Text as text
 use Rattle.lock_model.specs.declared.event.Entry.{Entry}
 use Rattle.lock_model.specs.declared.plan.Op.{Op}
 use Rattle.lock_model.specs.declared.plan.Plan.{Plan}
-use Rattle.lock_history.specs.Endings.{ending_of, numbers_of}
-use Rattle.lock_history.specs.Outcomes.{outcome_seen, line_seen}
-use Rattle.lock_history.specs.declared.outcome.Outcome.{Outcome}
 use Rattle.lock_state.specs.Facts.Halts.{NobodyIsHalted}
 use Rattle.lock_state.specs.Run.{threads_of, whole_ending}
 use Rattle.ordered_plan_laws.proofs.Unhalted.{no_operations}
-use Rattle.thread_records.specs.declared.record.ThreadRec.{ThreadRec}
 use Rattle.floor_table.specs.Descriptions.{config_in, thread_part, description_of}
 use Rattle.floor_table.specs.declared.description.Description.{Description}
 use Rattle.floor_table.specs.Shares.{Share}
@@ -39,6 +33,7 @@ use Rattle.lock_floor.specs.Closings.{IsClosing}
 use Rattle.lock_floor.specs.Floors.{Floor, Pass}
 use Rattle.lock_floor.specs.Passes.{first_pass}
 use Rattle.lock_floor.specs.declared.closing.Closing.{Closing}
+use Rattle.floor_ends.specs.Outcomes.{bases_of, ending_left, outcome_left}
 use Rattle.floor_run.specs.Progress.{IsDone}
 use Rattle.floor_run.specs.Runs.{IsRunOf, has_halt, ending_of_run, outcome_of}
 use Rattle.floor_run.specs.Workers.{IsWhole}
@@ -95,10 +90,20 @@ not_stuck : (b : Bool) → (if b then text.IsReversed else text.IsDone) ≡ text
 not_stuck true e = absurd cc
 not_stuck false e = absurd cc
 
--- a thread's base twice, by its record and by a history
-abbrev pub its_base : Box ThreadRec Global → ℕ × ℕ
-its_base r = (r.value.base, r.value.base)
+-- how threads ended, by their history from its oldest entry on
+some_reversal : (es : List Entry) → list_any (λ e. is_reversal e.event) es ≡ has_reversal es
+some_reversal [] = refl
+some_reversal (e ∷ es) = ap (λ b. is_reversal e.event || b) (some_reversal es)
 
+same_ending : (es : List Entry) → ending_left es ≡ ending_of_run (reverse es)
+same_ending es =
+    let turned = IsPermutation-reverse es in
+    ap (λ (b : Bool). if b then text.IsStuck else (if list_any (λ (e : Entry). is_reversal e.event) es then text.IsReversed else text.IsDone))
+    (list_any-IsPermutation (λ (e : Entry). is_halt e.event) es (reverse es) turned)
+    ∙ ap (λ (b : Bool). if has_halt (reverse es) then text.IsStuck else (if b then text.IsReversed else text.IsDone))
+    (list_any-IsPermutation (λ (e : Entry). is_reversal e.event) es (reverse es) turned ∙ some_reversal (reverse es))
+
+-- a thread's base twice, by a history
 abbrev pub base_behind : Plan → List Entry → ℕ → ℕ × ℕ
 base_behind plan history t = (base_in (config_of plan) history t, base_in (config_of plan) history t)
 
@@ -158,26 +163,25 @@ module _ (plan : Plan) (chains : ℕ) (x : Closing)
 
   -- 3. What is printed
 
-  bases : map its_base x.recs.items ≡ map (base_behind plan history) (threads_of plan)
+  bases : map bases_of x.recs.items ≡ map (base_behind plan history) (threads_of plan)
   bases =
-      map_same x.recs.items its_base (base_behind plan history) 0
+      map_same x.recs.items bases_of (base_behind plan history) 0
       (λ k d lt. let its = (closing.home k d (omega (arith, lt, closing.count))).base
       ∙ ap (λ c. base_in c history k) same_plan in
-      let same : its_base (get_or x.recs.items k d) ≡ base_behind plan history k = λ j. (its j, its j) in
+      let same : bases_of (get_or x.recs.items k d) ≡ base_behind plan history k = λ j. (its j, its j) in
       same ∙ ap (base_behind plan history) (omega arith))
       ∙ ap (λ n. map (base_behind plan history) (range_with_len 0 n)) count
 
-  pub outcome_same : (o : Outcome) → o.history ≡ reverse history → o.queues ≡ [] → numbers_of o.finals ≡ map its_base x.recs.items → o.tables.present ≡ tables_of (reverse o.history)
-      → ending_of o.last ≡ ending_of_run (reverse o.history) → outcome_seen o ≡ outcome_of plan history
-  outcome_same o history_is queues finals tables ending =
-      let back : reverse o.history ≡ history = ap reverse history_is ∙ reverse-reverse history in
-      let present : entries o.tables.present ≡ entries (tables_of history) = ap entries (tables ∙ ap tables_of back) in
+  -- what floor_ends prints of the floor is the run's outcome
+  pub left_same : (es : List Entry) → es ≡ reverse history → outcome_left x es ≡ outcome_of plan history
+  left_same es merged =
+      let back : reverse es ≡ history = ap reverse merged ∙ reverse-reverse history in
       λ j. record {
-        history = history_is j;
-        queues = ap (map line_seen) queues j;
-        finals = (finals ∙ bases) j;
-        tables = present j;
-        ending = (ending ∙ ap ending_of_run back) j;
+        history = merged j;
+        queues = [];
+        finals = bases j;
+        tables = ap entries closing.tables j;
+        ending = (same_ending es ∙ ap ending_of_run back) j;
       }
 
   -- it ended stuck only where the halt word was set
@@ -201,20 +205,7 @@ module _ (plan : Plan) (chains : ℕ) (x : Closing)
     halted = λ stuck. was_halted (ap (λ (p : text.Outcome). p.ending) (sym same) ∙ stuck);
   }
 
--- 4. Histories from the oldest entry on
-
-pub some_reversal : (es : List Entry) → list_any (λ e. is_reversal e.event) es ≡ has_reversal es
-some_reversal [] = refl
-some_reversal (e ∷ es) = ap (λ b. is_reversal e.event || b) (some_reversal es)
-
-pub same_halt : (es : List Entry) → has_halt (reverse es) ≡ has_halt es
-same_halt es = sym (list_any-IsPermutation (λ (e : Entry). is_halt e.event) es (reverse es) (IsPermutation-reverse es))
-
-pub same_reversal : (es : List Entry) → has_reversal (reverse es) ≡ has_reversal es
-same_reversal es =
-    sym (some_reversal (reverse es)) ∙ sym (list_any-IsPermutation (λ (e : Entry). is_reversal e.event) es (reverse es) (IsPermutation-reverse es)) ∙ some_reversal es
-
--- 5. What is gathered
+-- 4. What is gathered
 
 -- a list whose items were changed in their places
 pub written_back : {A : Type 0} (xs ys : List A) (n : ℕ) → length ys ≡ length xs → n ≡ length xs → take n (ys ++ drop (length ys) xs) ≡ ys

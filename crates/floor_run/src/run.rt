@@ -1,28 +1,25 @@
 //! Running all threads of a plan.
-ghost use Rattle.std.specs.Prelude.{◌≡◌, ℕ, ◌≤◌, ◌<◌, ◌++◌, length, map, reverse, slice_index_or, IfOk};
+ghost use Rattle.std.specs.Prelude.{◌≡◌, ℕ, ◌≤◌, ◌<◌, ◌++◌, length, map, slice_index_or, IfOk};
 ghost use Rattle.lock_model.specs.Operations.{IsProper};
 ghost use Rattle.lock_model.specs.OrderedPlans.{IsOrdered};
-ghost use Rattle.lock_model.specs.Takes.{has_reversal};
 ghost use Rattle.lock_model.specs.Text as text;
-ghost use Rattle.lock_history.specs.Endings.{numbers_of, ending_of};
 ghost use Rattle.lock_history.specs.Outcomes.{outcome_seen};
 ghost use Rattle.lock_state.specs.Run.{threads_of};
 ghost use Rattle.floor_table.specs.Descriptions.{IsFor, description_of};
 ghost use Rattle.lock_floor.specs.Closings.{IsClosing};
 ghost use Rattle.lock_floor.specs.Passes.{IsKeeperOf, IsFinished};
 ghost use Rattle.floor_run.specs.Progress.{IsNew, IsDone};
-ghost use Rattle.floor_run.specs.Runs.{IsRunOf, has_halt, ending_of_run, outcome_of};
+ghost use Rattle.floor_run.specs.Runs.{IsRunOf, outcome_of};
 
 use crate::worker::work;
 use lock_floor::{Closing, Floor, Keeper, Pass};
-use lock_history::{Last, Outcome, merge, replay};
+use lock_history::Outcome;
 use lock_io::Gate;
-use lock_model::{Entry, Plan, Prio, Sequence};
+use lock_model::Plan;
 use std::alloc::{AllocError, Global};
 use std::sync::Wait;
 use std::thread;
 use std::thread::Threads;
-use thread_records::ThreadRec;
 
 /// Runs the plan: one worker for each of its threads, all beside each other, on one floor, which is closed when all
 /// have come to their end. Gives what is to be printed of the run, and what is left of the floor. It takes no memory
@@ -111,54 +108,5 @@ fn outcome_of(
         (x : IsClosing (description_of plan.now chains) (threads_of plan.now) closing.now)
         → outcome_seen o ≡ outcome_of plan.now x.history) }
 {
-    let history = merge(alloc, closing.logs())?;
-    let tables = replay(alloc, &history)?;
-    let finals = finals(alloc, closing.recs())?;
-    let last = last_of(history.as_slice());
-    Ok(Outcome {
-        history,
-        queues: Sequence::from_vec(Vec::new(alloc)),
-        finals: Sequence::from_vec(finals),
-        tables,
-        last,
-    })
-}
-
-// Each thread's base priority, and its effective one, which is the same where nobody waits.
-fn finals(alloc: Global, recs: &[Box<ThreadRec>]) -> Result<Vec<(Prio, Prio)>, AllocError>
-    ensures { IfOk result (λ pairs. numbers_of pairs.items
-        ≡ map (λ r. (r.value.base, r.value.base)) recs.now) }
-{
-    let mut pairs = Vec::with_capacity(alloc, recs.len())?;
-    for rec in recs {
-        pairs.push((rec.base(), rec.base()))?;
-    }
-    Ok(pairs)
-}
-
-// How a run of threads ended, by its history.
-fn last_of(history: &[Entry]) -> Last
-    ensures { ending_of result ≡ ending_of_run (reverse history.now) }
-{
-    if has_halt(history) {
-        Last::Stuck
-    } else if has_reversal(history) {
-        Last::Reversed
-    } else {
-        Last::Done
-    }
-}
-
-// Whether an entry tells of a halt.
-fn has_halt(history: &[Entry]) -> bool
-    ensures { result ≡ has_halt history.now }
-{
-    history.iter().any(|e| e.event.is_halt())
-}
-
-// Whether an entry is the refusal of a take.
-fn has_reversal(history: &[Entry]) -> bool
-    ensures { result ≡ has_reversal history.now }
-{
-    history.iter().any(|e| e.event.is_reversal())
+    floor_ends::outcome_of(alloc, closing)
 }

@@ -4,7 +4,6 @@
 //! - `history`: the entries of all threads, in order of their tickets.
 //! - `tables`: the value at each key of a lock's table.
 //! - `merging`: the history that logs make.
-//! - `replaying`: the tables that a history leaves.
 //! - `outcome`: what a run leaves to be printed.
 //! - `text`: the printed text of a run, that of a script that is only read, and that of a fault in one.
 #![tactic(auto)]
@@ -13,7 +12,6 @@ mod history;
 mod log;
 mod merging;
 mod outcome;
-mod replaying;
 mod tables;
 mod text;
 
@@ -21,6 +19,5 @@ pub use history::History;
 pub use log::Log;
 pub use merging::merge;
 pub use outcome::{Last, Outcome, QueueLine};
-pub use replaying::replay;
 pub use tables::Tables;
 pub use text::{last_word, print, print_counts, print_fault};

@@ -44,6 +44,18 @@ impl Model for Tables {
     ghost invariant = { λ t. IsStrictlySortedBy place_cmp (keys t.slots) };
 }
 
+/// A copy has the same room and the same values. It takes time in the number of the keys that there is room for, and
+/// fails where memory runs out.
+impl Clone for Tables {
+    ghost is_clone = { λ x y. y ≡ x };
+
+    fn clone(&self) -> Result<Tables, AllocError> {
+        Ok(Tables {
+            slots: self.slots.clone()?,
+        })
+    }
+}
+
 impl Tables {
     /// Tables with room for each key that an operation of the plan names, and no key present. It fails
     /// where memory runs out.

@@ -5,12 +5,15 @@
 //! - `top`: the calls, with everything that is promised of them.
 //! - `serving`: what all commands share: reading the words and the bytes, and writing the text.
 //! - `answer`: the status and the text that a command makes of the bytes.
+//! - `memory`: the same of a source in memory, without words and streams.
 #![tactic(auto)]
 
 mod answer;
+mod memory;
 mod serving;
 mod top;
 
+pub use crate::memory::{NotStepped, step_in_memory};
 pub use crate::serving::Served;
 pub use crate::top::{lockrun, lockrun_live, lockrun_plain, lockrun_served};
 use complaints::Program;

@@ -101,7 +101,7 @@ impl Served {
 }
 
 // The status and the text of the bytes: those that the command makes of them, or the line of their first fault.
-fn answer<F: FnOnce(LockrunArgs, &[u8]) -> Result<(Status, Vec<u8>), ReadError>>(
+pub(crate) fn answer<F: FnOnce(LockrunArgs, &[u8]) -> Result<(Status, Vec<u8>), ReadError>>(
     alloc: Global,
     said: LockrunArgs,
     bytes: &[u8],

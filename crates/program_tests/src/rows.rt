@@ -26,12 +26,17 @@ fn pathfinder(rt: HostRuntime) -> Result<(), Fail> {
     );
     let threads = rows.threads.as_slice();
     assert_eq!(rt; threads.len(), 3);
-    let lent = &threads[0].effective;
-    let changes = [(0, Prio(200)), (6, Prio(10)), (8, Prio(200))];
-    assert_eq!(rt; lent.changes(), changes.as_slice());
-    assert_eq!(rt; (lent.at(5), lent.at(7)), (Prio(200), Prio(10)));
-    let ended = &threads[2].ended;
-    assert_eq!(rt; ended.changes(), [(0, false), (13, true)].as_slice());
+    let lent = &threads[0].row;
+    assert_eq!(rt;
+        (lent.at(5).effective, lent.at(6).effective),
+        (Prio(200), Prio(10))
+    );
+    assert_eq!(rt;
+        (lent.at(7).effective, lent.at(8).effective),
+        (Prio(10), Prio(200))
+    );
+    let ended = &threads[2].row;
+    assert_eq!(rt; (ended.at(12).ended, ended.at(13).ended), (false, true));
     assert_eq!(rt; rows.queues.get(7).as_slice().len(), 1);
     Ok(())
 }

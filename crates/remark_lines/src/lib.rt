@@ -1,7 +1,7 @@
 //! The lines that a source has to what was written of it, found by reading the source again. Of a script's fault: which
-//! cause of its code it is, the line with a mark below the place, and what the line goes against. Of a refused take: both
-//! locks, and the takes that put the one before the other. Of a stuck run: where each thread waits. What they say is
-//! shown by examples, one of each cause, and none of it is promised: their shape is, in `remarks`, which says them.
+//! cause of its code it is, the line with a mark below the place, and what the line goes against. Of a refused take:
+//! both locks, and the takes that put the one before the other. Of a stuck run: where each thread waits. What they say
+//! is shown by examples, one of each cause, and none of it is promised: their shape is, in `remarks`, which says them.
 //!
 //! - `faults`: of a fault; `finding` is what is known of it, and `causes` has a row for each cause.
 //! - `refusals`, `sleepers`: of a run; `replay` makes it again from its history, and `actor` is a thread in it.

@@ -1,7 +1,7 @@
 -- The history of a run, turn by turn: each makes one entry at most, and earlier ones stay where they are.
-use Rattle.std.proofs.Common.{◌≡◌, ℕ, zero, suc, ◌+◌, ◌-◌, ◌<◌, ◌≤◌, Bool, true, false, cond, List, [], ◌∷◌, ◌++◌, append_assoc, length, Some, None, refl, sym, ap, subst, arith, ◌∙◌}
+use Rattle.std.proofs.Common.{◌≡◌, ℕ, zero, suc, ◌+◌, ◌-◌, ◌<◌, Bool, true, false, cond, List, [], ◌∷◌, ◌++◌, append_assoc, length, Some, None, refl, sym, ap, subst, arith, ◌∙◌}
 use Rattle.std.specs.Prelude.{reverse, slice_get}
-use Rattle.std.proofs.lemmas.Bool.{le-ltb, lt-ltb}
+use Rattle.std.proofs.lemmas.Bool.{lt-ltb}
 use Rattle.std.proofs.lemmas.List.{length-reverse, reverse-append}
 use Rattle.run_laws.proofs.Actions as actions
 use Rattle.run_laws.proofs.Actions.{Acquires, Entering, Fits, GivingBack}
@@ -23,17 +23,15 @@ use Rattle.lock_state.specs.Steps.Turnstiles.{after_enter, after_mark, after_ope
 use Rattle.lock_state.specs.Steps.SleepQueues.{after_add, after_enter_sleep, after_open_sleep, after_wake}
 use Rattle.lock_state.specs.Steps.Lending.{after_claim, after_end_walk, after_lend, after_shift}
 use Rattle.lock_state.specs.Steps.Orders.{after_admit, after_refuse}
-use Rattle.run_chart.specs.Charts.{history_in}
-use Rattle.run_chart.specs.Marks.{entry_in, newest}
 use Rattle.run_chart.specs.Runs.{IsRunOf}
+use Rattle.run_chart.specs.Turns.{entry_in, history_in, newest}
 use Rattle.run_tracks.specs.declared.rows.Rows.{Rows}
-use Rattle.run_tracks.specs.declared.rows.TurnRow.{TurnRow}
 use Rattle.run_laws.proofs.TurnsOfCourses.{none_made, one_more}
 
 -- 1. A turn makes one entry at most
 
 -- a history is the same as before, or has one entry more
-pub data Grew (before : List Entry) : List Entry → Type 0 where
+data Grew (before : List Entry) : List Entry → Type 0 where
   stayed : Grew before before
   grew_by : (e : Entry) → Grew before (e ∷ before)
 
@@ -122,7 +120,7 @@ go_on_grew plan k = go (is_over plan k)
     go true = stayed
     go false = after_turn_grew plan k k.coming
 
-pub grew : (plan : Plan) (n : ℕ) → Grew (history_in plan n) (history_in plan (n + 1))
+grew : (plan : Plan) (n : ℕ) → Grew (history_in plan n) (history_in plan (n + 1))
 grew plan n = subst (λ (k : Course). Grew (history_in plan n) k.run.state.history) (sym (one_more plan n)) (go_on_grew plan (course_after plan n))
 
 pub none_yet : (plan : Plan) → history_in plan 0 ≡ []
@@ -148,12 +146,6 @@ lasts plan n (suc k) =
 
 -- 3. The entry of a turn
 
-pub no_entry : (before : List Entry) → newest before before ≡ None
-no_entry before = ap (λ b. cond b (slice_get before 0) None) (le-ltb (length before) (length before) (omega arith))
-
-pub new_entry : (before : List Entry) (e : Entry) → newest before (e ∷ before) ≡ Some e
-new_entry before e = ap (λ b. cond b (Some e) None) (lt-ltb (length before) (suc (length before)) (omega arith))
-
 at_seam : {X : Type 0} (xs : List X) (y : X) (ys : List X) → slice_get (xs ++ y ∷ ys) (length xs) ≡ Some y
 at_seam [] y ys = refl
 at_seam (x ∷ xs) y ys = at_seam xs y ys
@@ -164,13 +156,13 @@ place_of es later e =
     ap (λ xs. slice_get xs (length es)) (reverse-append later (e ∷ es) ∙ ap (λ xs. xs ++ reverse later) (reverse-append (e ∷ []) es) ∙ append_assoc (reverse es) (e ∷ []) (reverse later))
     ∙ ap (slice_get (reverse es ++ e ∷ reverse later)) (sym (length-reverse es)) ∙ at_seam (reverse es) e (reverse later)
 
-module _ (plan : Plan) (rows : Rows) (h : IsRunOf plan rows) (n : ℕ) (row : TurnRow) (at : slice_get rows.turns n ≡ Some row) (within : n < length rows.turns) where
-  pub whole_history : rows.outcome.history ≡ reverse (history_in plan h.most)
+module _ (plan : Plan) (rows : Rows) (h : IsRunOf plan rows) (n : ℕ) (within : n < length rows.turns) where
+  whole_history : rows.outcome.history ≡ reverse (history_in plan h.most)
   unfolding scheduled_run
   whole_history = ap (λ (o : text.Outcome). o.history) h.told.outcome
 
   -- a turn that made an entry
-  pub entry_found : (e : Entry) → history_in plan (n + 1) ≡ e ∷ history_in plan n → slice_get rows.outcome.history (length (history_in plan n)) ≡ Some e
+  entry_found : (e : Entry) → history_in plan (n + 1) ≡ e ∷ history_in plan n → slice_get rows.outcome.history (length (history_in plan n)) ≡ Some e
   entry_found e is =
       let few = h.told.few in
       let m : n + 1 + (h.most - (n + 1)) ≡ h.most = omega (arith, few, within) in
@@ -178,20 +170,9 @@ module _ (plan : Plan) (rows : Rows) (h : IsRunOf plan rows) (n : ℕ) (row : Tu
       let whole : history_in plan h.most ≡ last.later ++ e ∷ history_in plan n = ap (history_in plan) (sym m) ∙ last.is ∙ ap (λ xs. last.later ++ xs) is in
       ap (λ xs. slice_get xs (length (history_in plan n))) (whole_history ∙ ap reverse whole) ∙ place_of (history_in plan n) last.later e
 
-  -- how many entries it leaves
-  left : row.entries ≡ length (history_in plan (n + 1))
-  left = (h.told.each n row at).entries
-
-  pub more_entries : (before : ℕ) → before ≡ length (history_in plan n) → before < row.entries → slice_get rows.outcome.history before ≡ entry_in plan n
+  pub more_entries : (before : ℕ) → before ≡ length (history_in plan n) → before < length (history_in plan (n + 1)) → slice_get rows.outcome.history before ≡ entry_in plan n
   more_entries before e less = ap (slice_get rows.outcome.history) e ∙ go (history_in plan (n + 1)) (grew plan n) refl
     where
       go : (es : List Entry) → Grew (history_in plan n) es → history_in plan (n + 1) ≡ es → slice_get rows.outcome.history (length (history_in plan n)) ≡ newest (history_in plan n) es
-      go _ stayed is = absurd (let a = ap length is in omega (arith, a, e, less, left))
-      go _ (grew_by entry) is = entry_found entry is ∙ sym (new_entry (history_in plan n) entry)
-
-  pub no_more_entries : (before : ℕ) → before ≡ length (history_in plan n) → row.entries ≤ before → None ≡ entry_in plan n
-  no_more_entries before e less = go (history_in plan (n + 1)) (grew plan n) refl
-    where
-      go : (es : List Entry) → Grew (history_in plan n) es → history_in plan (n + 1) ≡ es → None ≡ newest (history_in plan n) es
-      go _ stayed is = sym (no_entry (history_in plan n))
-      go _ (grew_by entry) is = absurd (let a : length (history_in plan (n + 1)) ≡ suc (length (history_in plan n)) = ap length is in omega (arith, a, e, less, left))
+      go _ stayed is = absurd (let a = ap length is in omega (arith, a, e, less))
+      go _ (grew_by entry) is = entry_found entry is ∙ sym (ap (λ b. cond b (Some entry) None) (lt-ltb (length (history_in plan n)) (suc (length (history_in plan n))) (omega arith)))

@@ -1,20 +1,10 @@
-mod Blocked
+mod Drawn
 mod Entries
-mod Loans
-mod Marked
-mod Named
 mod Numbered
 mod Queued
-mod Refusals
-mod Said
-mod Sayings
-mod Sentences
-mod SameBars
 mod Shown
 mod Standing
-mod Stepped
 mod Told
 mod Turns
 mod Values
-mod Windows
 pub mod Ends

@@ -1,23 +1,17 @@
--- Lists whose elements are numbered: one element more, and what a test or a list of each finds.
-use Rattle.std.proofs.Common.{◌≡◌, ◌⊎◌, ℕ, zero, suc, ◌+◌, ◌<◌, Bool, true, false, ◌||◌, List, [], ◌∷◌, ◌++◌, length, get_or, take, flat_map, Some, refl, ap, subst, inl, inr, arith, ◌∙◌}
+-- Lists whose elements are numbered: one element more, and what the lists of each have.
+use Rattle.std.proofs.Common.{◌≡◌, ℕ, zero, suc, ◌+◌, ◌<◌, List, [], ◌∷◌, ◌++◌, length, get_or, take, flat_map, Some, refl, ap, subst, inl, inr, arith, ◌∙◌}
 use Rattle.std.specs.Prelude.{slice_get, Contains}
-use Rattle.std.specs.List.{enumerate_from, list_any}
+use Rattle.std.specs.List.{enumerate_from}
 use Rattle.std.proofs.lemmas.Grind.{flat_map-append}
 use Rattle.std.proofs.lemmas.List.{append-nil, take_more, length-take-le}
-use Rattle.std.proofs.lemmas.List.Elements.{Contains-append_cases, Contains-append_left, Contains-append_right}
-use Rattle.std.proofs.lemmas.List.Folds.{list_any-append}
+use Rattle.std.proofs.lemmas.List.Elements.{Contains-append_cases, Contains-append_left, Contains-append_right, Contains-push_cases}
 
-or_cases : (a b : Bool) → (a || b) ≡ true → (a ≡ true) ⊎ (b ≡ true)
-or_cases true b e = inl refl
-or_cases false b e = inr e
+module _ {X : Type 0} where
+  pub contains_none : (x : X) → Contains [] x → ⊥
+  contains_none x h = omega (arith, h.1)
 
-or_right : (a b : Bool) → b ≡ true → (a || b) ≡ true
-or_right true b e = refl
-or_right false b e = e
-
-or_left : (a b : Bool) → a ≡ true → (a || b) ≡ true
-or_left true b e = refl
-or_left false b e = absurd cc
+  pub contains_one : (y x : X) → Contains (y ∷ []) x → y ≡ x
+  contains_one y x h = elim (Contains-push_cases [] y x h) [ inl none ↦ absurd (contains_none x none) | inr same ↦ same ]
 
 module _ {X : Type 0} where
   enumerate-append : (n : ℕ) (xs ys : List X) → enumerate_from n (xs ++ ys) ≡ enumerate_from n xs ++ enumerate_from (n + length xs) ys
@@ -32,16 +26,6 @@ module _ {X : Type 0} where
       ∙ ap (λ k. enumerate_from 0 (take i xs) ++ (k, get_or xs i d) ∷ []) (let e : 0 + length (take i xs) ≡ i = omega (arith, length-take-le i xs (omega arith)) in e)
 
   -- 1. One more
-
-  pub any_more : (p : ℕ × X → Bool) (xs : List X) (i : ℕ) (d : X) → i < length xs
-      → list_any p (enumerate_from 0 (take (i + 1) xs)) ≡ (list_any p (enumerate_from 0 (take i xs)) || p (i, get_or xs i d))
-  any_more p xs i d l =
-      ap (list_any p) (enumerate_more xs i d l) ∙ list_any-append p (enumerate_from 0 (take i xs)) ((i, get_or xs i d) ∷ [])
-      ∙ ap (λ b. list_any p (enumerate_from 0 (take i xs)) || b) (or_false (p (i, get_or xs i d)))
-    where
-      or_false : (a : Bool) → (a || false) ≡ a
-      or_false true = refl
-      or_false false = refl
 
   pub each_more : {A : Type 0} (f : ℕ × X → List A) (xs : List X) (i : ℕ) (d : X) → i < length xs
       → flat_map f (enumerate_from 0 (take (i + 1) xs)) ≡ flat_map f (enumerate_from 0 (take i xs)) ++ f (i, get_or xs i d)
@@ -60,27 +44,6 @@ module _ {X : Type 0} where
 
   behind : (P : ℕ → X → Type 0) (n : ℕ) (x : X) (xs : List X) → Found xs (n + 1) P → Found (x ∷ xs) n P
   behind P n x xs h = record { place = suc h.place; element = h.element; at = h.at; so = subst (λ k. P k h.element) (let e : n + 1 + h.place ≡ n + suc h.place = omega arith in e) h.so }
-
-  found_from : (p : ℕ × X → Bool) (n : ℕ) (xs : List X) → list_any p (enumerate_from n xs) ≡ true → Found xs n (λ k x. p (k, x) ≡ true)
-  found_from p n [] e = absurd cc
-  found_from p n (x ∷ xs) e = elim (or_cases (p (n, x)) (list_any p (enumerate_from (n + 1) xs)) e) [
-    | inl here ↦ record { place = 0; element = x; at = refl; so = subst (λ k. p (k, x) ≡ true) (let z : n ≡ n + 0 = omega arith in z) here }
-    | inr later ↦ behind (λ k y. p (k, y) ≡ true) n x xs (found_from p (n + 1) xs later)
-  ]
-
-  any_from : (p : ℕ × X → Bool) (n : ℕ) (xs : List X) (i : ℕ) (x : X) → slice_get xs i ≡ Some x → p (n + i, x) ≡ true → list_any p (enumerate_from n xs) ≡ true
-  any_from p n [] i x e h = absurd cc
-  any_from p n (y ∷ ys) zero x e h =
-      let same : y ≡ x = cc in
-      or_left (p (n, y)) (list_any p (enumerate_from (n + 1) ys)) (ap (λ z. p (n, z)) same ∙ subst (λ k. p (k, x) ≡ true) (let z : n + 0 ≡ n = omega arith in z) h)
-  any_from p n (y ∷ ys) (suc i) x e h =
-      or_right (p (n, y)) (list_any p (enumerate_from (n + 1) ys)) (any_from p (n + 1) ys i x e (subst (λ k. p (k, x) ≡ true) (let z : n + suc i ≡ n + 1 + i = omega arith in z) h))
-
-  pub found : (p : ℕ × X → Bool) (xs : List X) → list_any p (enumerate_from 0 xs) ≡ true → Found xs 0 (λ k x. p (k, x) ≡ true)
-  found p xs e = found_from p 0 xs e
-
-  pub any_at : (p : ℕ × X → Bool) (xs : List X) (i : ℕ) (x : X) → slice_get xs i ≡ Some x → p (i, x) ≡ true → list_any p (enumerate_from 0 xs) ≡ true
-  any_at p xs i x e h = any_from p 0 xs i x e (subst (λ k. p (k, x) ≡ true) (let z : i ≡ 0 + i = omega arith in z) h)
 
   -- 3. What the lists of each have
 

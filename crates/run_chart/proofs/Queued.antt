@@ -1,11 +1,11 @@
 -- The lists of a lock's queue, by the lines of the queues that aren't empty.
-use Rattle.std.proofs.Common.{◌≡◌, ◌⊎◌, ℕ, zero, suc, ◌+◌, ◌<◌, ◌≤◌, Bool, true, false, cond, List, [], ◌∷◌, ◌++◌, append_assoc, flat_map, length, map, Option, Some, None, refl, sym, ap, inl, inr, arith, ◌∙◌}
-use Rattle.std.specs.Prelude.{unwrap_or}
-use Rattle.std.specs.List.{find, range_with_len}
+use Rattle.std.proofs.Common.{◌≡◌, ◌⊎◌, ℕ, zero, suc, ◌+◌, ◌<◌, ◌≤◌, Bool, true, false, cond, ◌==◌, ◌||◌, List, [], ◌∷◌, ◌++◌, append_assoc, flat_map, length, map, Option, Some, None, refl, sym, ap, inl, inr, arith, ◌∙◌}
+use Rattle.std.specs.Prelude.{option_map, slice_get, unwrap_or}
+use Rattle.std.specs.List.{find, list_any, range_with_len}
 use Rattle.std.proofs.lemmas.Bool.{cases_lt, ne_eqb}
 use Rattle.std.proofs.lemmas.List.{length-map}
 use Rattle.std.proofs.lemmas.Option.{slice_get_cases}
-use Rattle.lock_history.specs.Outcomes.{line_seen}
+use Rattle.lock_history.specs.Outcomes.{line_seen, waiter_seen}
 use Rattle.lock_history.specs.declared.outcome.QueueLine.{QueueLine}
 use Rattle.lock_laws.proofs.Beyond.{beyond_none}
 use Rattle.lock_laws.proofs.Kit.{is_queue_same}
@@ -15,6 +15,8 @@ use Rattle.lock_model.specs.Plans.{config_of}
 use Rattle.lock_model.specs.Queues.{Lists, Waiter, is_queue, chan_queue, lock_queue, waiting}
 use Rattle.lock_model.specs.Text as text
 use Rattle.lock_model.specs.Words.{is_turnstile}
+use Rattle.lock_model.specs.declared.numbers.Prio.{Prio}
+use Rattle.lock_model.specs.declared.numbers.ThreadNo.{ThreadNo}
 use Rattle.lock_model.specs.declared.plan.Kind.{Kind}
 use Rattle.lock_model.specs.declared.plan.Kind.TheVariants.{Mtx}
 use Rattle.lock_model.specs.declared.plan.Plan.{Plan}
@@ -22,9 +24,9 @@ use Rattle.lock_model.specs.declared.plan.QueueName.{QueueName}
 use Rattle.lock_state.specs.Facts.{Lawful, HeadsFitWaiters}
 use Rattle.lock_state.specs.Run.{line_of_queue, queue_lines}
 use Rattle.lock_state.specs.State.{State}
-use Rattle.run_chart.specs.Arrows.{is_line_of, lists_of}
-use Rattle.run_chart.specs.Charts.{waiters_in}
+use Rattle.run_chart.specs.Lines.{first_in, is_line_of, is_waiter, lists_of}
 use Rattle.run_chart.specs.Runs.{IsRunOf}
+use Rattle.run_chart.specs.Turns.{first_writer}
 use Rattle.run_chart.proofs.Told.{so_at}
 use Rattle.run_tracks.specs.Rows.{run_in}
 use Rattle.run_tracks.specs.Tracks.{value_in}
@@ -47,6 +49,20 @@ found_lists l (line ∷ lines) = go (is_line_of l line) (found_lists l lines)
         → lists_of (cond b (Some line) (find (is_line_of l) lines)) ≡ cond b (lists_of (Some line)) (lists_in l (map line_seen lines))
     go true h = refl
     go false h = h
+
+-- as a line of the queue tells it
+any_seen : (t : ℕ) (ws : List (ThreadNo × Prio)) → list_any (is_waiter t) ws ≡ list_any (λ w. w.thread == t) (map waiter_seen ws)
+any_seen t [] = refl
+any_seen t (w ∷ ws) = ap (λ b. is_waiter t w || b) (any_seen t ws)
+
+first_seen : (ws : List (ThreadNo × Prio)) → first_in ws ≡ option_map (λ w. record { 0 = w.thread }) (slice_get (map waiter_seen ws) 0)
+first_seen [] = refl
+first_seen (w ∷ ws) = refl
+
+pub line_behind : (line : QueueLine) (t : ℕ) (b : Bool) → b ≡ list_any (is_waiter t) line.shared → cond b (first_in line.excl) None ≡ first_writer (lists_of (Some line)) t
+line_behind line t b e =
+    ap (λ d. cond d (first_in line.excl) None) (e ∙ any_seen t line.shared)
+    ∙ ap (λ o. cond (list_any (λ w. w.thread == t) (map waiter_seen line.shared)) o None) (first_seen line.excl)
 
 -- 2. The lines of a state
 
@@ -122,7 +138,7 @@ beyond_kind plan l i = elim (slice_get_cases (map (λ d. d.kind) plan.locks) l).
 ]
 
 pub waiters_are : (plan : Plan) (chains n l : ℕ) (lines : List QueueLine) → IsProper plan → map line_seen lines ≡ queue_lines chains (config_of plan) (run_in plan n).state
-    → lists_of (find (is_line_of l) lines) ≡ waiters_in plan n l
+    → lists_of (find (is_line_of l) lines) ≡ (run_in plan n).state.lists (lock_queue l)
 waiters_are plan chains n l lines proper is = found_lists l lines ∙ ap (lists_in l) is ∙ elim (cases_lt l (length plan.locks)) [
   | inl i ↦ there chains s fits l 0 (length plan.locks) chans (omega arith) (omega (arith, i)) none
   | inr i ↦ not_there chains s fits l 0 (length plan.locks) chans (inr (omega (arith, i))) ∙ none ∙ no_waiters (s.lists (lock_queue l)) (beyond_none (config_of plan) s lawful l i (beyond_kind plan l i))
@@ -144,7 +160,7 @@ waiters_are plan chains n l lines proper is = found_lists l lines ∙ ap (lists_
     none = no_chans chains s fits l 0 (length plan.chans)
 
 pub waiters_told : (plan : Plan) (rows : Rows) → IsRunOf plan rows → (n : ℕ) → n ≤ length rows.turns → (l : ℕ) (lines : List QueueLine) → value_in n rows.queues ≡ Some lines
-    → lists_of (find (is_line_of l) lines) ≡ waiters_in plan n l
+    → lists_of (find (is_line_of l) lines) ≡ (run_in plan n).state.lists (lock_queue l)
 waiters_told plan rows h n within l lines e =
     waiters_are plan h.chains n l lines h.proper
     (so_at rows.queues (length rows.turns + 1) (λ m lines. map line_seen lines ≡ queue_lines h.chains (config_of plan) (run_in plan m).state) h.told.columns.of_queues n (omega (arith, within)) lines e)

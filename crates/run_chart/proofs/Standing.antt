@@ -1,6 +1,7 @@
 -- How the run ended, and who waits where in the end, by the tracks.
-use Rattle.std.proofs.Common.{◌≡◌, ℕ, ◌+◌, ◌<◌, [], length, Option, Some, None, refl, sym, ap, subst, inl, inr, arith, ◌∙◌}
-use Rattle.std.specs.Prelude.{Contains}
+use Rattle.std.proofs.Common.{◌≡◌, ℕ, ◌+◌, ◌<◌, [], length, Option, Some, None, sym, ap, subst, inl, inr, arith, ◌∙◌}
+use Rattle.std.specs.Prelude.{option_map, Contains}
+use Rattle.std.proofs.lemmas.Option.{same_Some}
 use Rattle.std.proofs.lemmas.Bool.{cases_lt}
 use Rattle.std.proofs.lemmas.List.Elements.{Contains-push}
 use Rattle.lock_history.specs.Endings as seen
@@ -16,10 +17,9 @@ use Rattle.lock_state.specs.Run.{course_after, ending_of, scheduled_run}
 use Rattle.run_chart.specs.Charts.{AreStanding}
 use Rattle.run_chart.specs.Ends.{wait_of, waits_in}
 use Rattle.run_chart.specs.Runs.{IsRunOf}
-use Rattle.run_chart.proofs.Numbered.{contained, contains_at}
-use Rattle.run_chart.proofs.Told.{element_at, so_at, thread_at, value_at}
-use Rattle.run_chart.proofs.Windows.{contains_none, contains_one}
-use Rattle.run_tracks.specs.Rows.{IsWhereItStands, run_in}
+use Rattle.run_chart.proofs.Numbered.{contained, contains_at, contains_none, contains_one}
+use Rattle.run_chart.proofs.Told.{element_at, row_at}
+use Rattle.run_tracks.specs.Rows.{run_in}
 use Rattle.run_tracks.specs.Tracks.{value_in}
 use Rattle.run_tracks.specs.declared.threads.ThreadRows.{ThreadRows}
 use Rattle.run_tracks.specs.declared.rows.Rows.{Rows}
@@ -52,24 +52,26 @@ module _ (plan : Plan) (rows : Rows) (h : IsRunOf plan rows) where
   unfolding scheduled_run
   ending_is = ap (λ (o : text.Outcome). o.ending) h.told.outcome ∙ ap (ending_of plan) ended
 
+  abbrev place_in : ThreadRows → Option (Option QueueName)
+  place_in thread = option_map (λ row. row.stands_on) (value_in last thread.row)
+
   is_standing : (t : ℕ) (q : QueueName) → Contains (waits_in last rows.threads) (record { 0 = t }, q) → 0 < stands t ((run_in plan last).state.lists q)
   is_standing t q c =
-      let at = contained (λ k. wait_of k.0 (value_in last k.1.stands_on)) (record { 0 = t }, q) rows.threads c in
-      let it = names (0 + at.place) t q (value_in last at.element.stands_on) at.so in
-      let track = (thread_at plan rows h at.place at.element at.at).stands_on in
+      let at = contained (λ k. wait_of k.0 (place_in k.1)) (record { 0 = t }, q) rows.threads c in
+      let it = names (0 + at.place) t q (place_in at.element) at.so in
+      let row = row_at plan rows h at.place at.element at.at last (omega arith) in
       let place : at.place ≡ t = let e = it.thread in omega (arith, e) in
-      let stands_there : IsWhereItStands (run_in plan last).state at.place (Some q) =
-      so_at at.element.stands_on (length rows.turns + 1) (λ m on. IsWhereItStands (run_in plan m).state at.place on) track last (omega arith) (Some q) it.on in
-      subst (λ (u : ℕ). 0 < stands u ((run_in plan last).state.lists q)) place ((stands_there q).0 refl)
+      let on : row.value.stands_on ≡ Some q = same_Some row.value.stands_on (Some q) (sym (ap (option_map (λ row. row.stands_on)) row.is) ∙ it.on) in
+      subst (λ (u : ℕ). 0 < stands u ((run_in plan last).state.lists q)) place ((row.so.stands_on q).0 on)
 
   is_named : (t : ℕ) (q : QueueName) → 0 < stands t ((run_in plan last).state.lists q) → Contains (waits_in last rows.threads) (record { 0 = t }, q)
   is_named t q some =
       let is_thread : t < length plan.threads = standing_thread (config_of plan) (run_in plan last).state t q (behind_course plan last h.proper).lawful.lawful some in
       let found = element_at rows.threads t (omega (arith, is_thread, h.told.columns.thread_each)) in
       let thread : ThreadRows = found.0 in
-      let on = value_at thread.stands_on (length rows.turns + 1) (λ m on. IsWhereItStands (run_in plan m).state t on) (thread_at plan rows h t thread found.1).stands_on last (omega arith) in
-      let is : value_in last thread.stands_on ≡ Some (Some q) = on.is ∙ ap Some ((on.so q).1 some) in
-      contains_at (λ k. wait_of k.0 (value_in last k.1.stands_on)) (record { 0 = t }, q) rows.threads t thread found.1
+      let row = row_at plan rows h t thread found.1 last (omega arith) in
+      let is : place_in thread ≡ Some (Some q) = ap (option_map (λ row. row.stands_on)) row.is ∙ ap Some ((row.so.stands_on q).1 some) in
+      contains_at (λ k. wait_of k.0 (place_in k.1)) (record { 0 = t }, q) rows.threads t thread found.1
       (subst (λ o. Contains (wait_of t o) (record { 0 = t }, q)) (sym is) (Contains-push [] (record { 0 = t }, q)))
 
   pub are_standing : AreStanding plan last (waits_in last rows.threads)

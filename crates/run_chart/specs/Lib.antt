@@ -1,10 +1,10 @@
 pub mod Runs
+pub mod Turns
+pub mod Asked
+pub mod Lines
 pub mod Bars
 pub mod Spans
 pub mod Steps
 pub mod Charts
 pub mod Lanes
-pub mod Arrows
-pub mod Marks
 pub mod Ends
-pub mod Sentences

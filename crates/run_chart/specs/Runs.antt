@@ -1,5 +1,5 @@
 -- The run of which a chart is made.
-use Rattle.std.specs.Prelude.{◌≤◌, ℕ, length}
+use Rattle.std.specs.Prelude.{◌<◌, ◌≤◌, ℕ, length}
 use Rattle.lock_model.specs.Operations.{IsProper}
 use Rattle.lock_model.specs.declared.plan.Plan.{Plan}
 use Rattle.run_tracks.specs.Rows.{TellsRun}
@@ -12,3 +12,9 @@ pub record IsRunOf (plan : Plan) (rows : Rows) : Type 0 where
   pub most : ℕ
   pub told : TellsRun plan chains most rows
   pub few : length rows.turns ≤ 1000000
+
+-- the turn is one of that run, and a thread of the plan has it
+pub record IsTurnOf (plan : Plan) (rows : Rows) (n t : ℕ) : Type 0 where
+  pub run : IsRunOf plan rows
+  pub turn : n < length rows.turns
+  pub thread : t < length plan.threads

@@ -1,59 +1,51 @@
-//! The arrows of a turn: whom its thread lent to, woke, blocked on, or blocked behind, and who held
-//! what it was refused.
-ghost use Rattle.std.specs.Prelude.{◌≡◌, ◌≤◌, ◌<◌, ◌++◌, ◌∷◌, [], length, slice_get, IfOk, OnOk};
-ghost use Rattle.lock_model.specs.declared.plan.Plan as plans;
+//! The arrows of a turn: whom its thread lent to, woke, blocked on or blocked behind, and who held what it was refused.
+ghost use Rattle.std.specs.Prelude.{◌≡◌, ◌++◌, OnOk};
 ghost use Rattle.lock_model.specs.declared.turn.StepKind.TheVariants as step;
-ghost use Rattle.run_chart.specs.Arrows.{block_arrows, hold_arrows, loan_arrows, loan_in, lock_in, wake_arrows, wakes_up, AddsArrows, Has};
-ghost use Rattle.run_chart.specs.Charts.{arrow, Made};
-ghost use Rattle.run_chart.specs.Runs.{IsRunOf};
+ghost use Rattle.run_chart.specs.Runs.{IsTurnOf};
+ghost use Rattle.run_chart.specs.Turns.{arrows_shown, arrows_to, step_arrows};
 
-use crate::lookup::{behind_whom, holds, loan_of, lock_of};
-use crate::marks::event_of;
-use crate::saying::refusal_in;
+use crate::lookup::{blocked_on, loan_in, refused_in, went_behind};
+use crate::naming::{Asked, those};
+use crate::rows::TurnOf;
 use chart_layout::{Arrow, ArrowKind};
-use lock_model::{LockNo, StepKind, ThreadNo, Turn};
-use run_tracks::{Rows, ThreadRows, TurnRow, Wait};
+use lock_model::{StepKind, ThreadNo, Turn};
 use std::alloc::{AllocError, Global};
 
-/// The arrows of the turns between the rows `from..=to`.
-pub fn arrows(alloc: Global, rows: &Rows, from: u32, to: u32) -> Result<Vec<Arrow>, AllocError>
-    requires run { (plan : plans.Plan) × IsRunOf plan rows.now }
-    requires in_order { from ≤ to }
-    requires within { to ≤ length rows.now.turns }
-    ensures { IfOk result (λ arrows. (plan : plans.Plan) → IsRunOf plan rows.now
-        → Has plan from to arrows.items) }
+/// Adds the arrows of a turn.
+pub fn push_arrows(
+    alloc: Global,
+    arrows: &mut Vec<Arrow>,
+    at: &TurnOf<'_>,
+    answer: Turn,
+) -> Result<(), AllocError>
+    requires { IsTurnOf at.now.plan.now at.now.rows.now at.now.turn at.now.who.0 }
+    ensures { OnOk result (arrows.new.items
+        ≡ arrows.old.items ++ arrows_shown at.now.plan.now at.now.turn at.now.who.0 answer) }
 {
-    let mut arrows = Vec::new(alloc);
-    for turn in from..to {
-        push_arrows(
-            &mut arrows,
-            rows,
-            turn,
-            rows.turns.as_slice()[turn as usize],
-        )?;
+    match answer {
+        Turn::Did(kind) => push_of_step(alloc, arrows, at, kind),
+        Turn::Idle | Turn::Ended => Ok(()),
     }
-    Ok(arrows)
 }
 
-fn push_arrows(
+fn push_of_step(
+    alloc: Global,
     arrows: &mut Vec<Arrow>,
-    rows: &Rows,
-    turn: u32,
-    row: TurnRow,
+    at: &TurnOf<'_>,
+    kind: StepKind,
 ) -> Result<(), AllocError>
-    requires run { (plan : plans.Plan) × IsRunOf plan rows.now }
-    requires turn { slice_get rows.now.turns turn ≡ Some row }
-    ensures { OnOk result ((plan : plans.Plan) → IsRunOf plan rows.now
-        → AddsArrows plan turn arrows.old.items arrows.new.items) }
+    requires { IsTurnOf at.now.plan.now at.now.rows.now at.now.turn at.now.who.0 }
+    ensures { OnOk result (arrows.new.items
+        ≡ arrows.old.items ++ step_arrows at.now.plan.now at.now.turn at.now.who.0 kind) }
 {
-    let Turn::Did(kind) = row.answer else {
-        return Ok(());
-    };
     match kind {
-        StepKind::Lend => push_loan(arrows, rows, turn, row.who),
-        StepKind::Mark => push_wakes(arrows, rows.threads.as_slice(), turn, row.who),
-        StepKind::Enter => push_blocks(arrows, rows, turn, row.who),
-        StepKind::Note => push_refusals(arrows, rows, turn, row),
+        StepKind::Lend => push_loan(arrows, at),
+        StepKind::Mark => {
+            let woken = those(alloc, at, Asked::WakesUp)?;
+            push_to(arrows, at, ArrowKind::Wakes, &woken)
+        }
+        StepKind::Enter => push_blocks(alloc, arrows, at),
+        StepKind::Note => push_refusals(alloc, arrows, at),
         StepKind::Gain
         | StepKind::Claim
         | StepKind::Drop
@@ -66,162 +58,66 @@ fn push_arrows(
     }
 }
 
-fn push_loan(
-    arrows: &mut Vec<Arrow>,
-    rows: &Rows,
-    turn: u32,
-    from: ThreadNo,
-) -> Result<(), AllocError>
-    requires run { (plan : plans.Plan) × IsRunOf plan rows.now }
-    requires turn { turn < length rows.now.turns }
-    requires thread { from.0 < length rows.now.threads }
-    ensures { OnOk result ((plan : plans.Plan) → IsRunOf plan rows.now
-        → arrows.new.items ≡ arrows.old.items ++ loan_arrows turn from.0 (loan_in plan turn from.0)) }
-{
-    if let Some(loan) = loan_of(rows, turn, from) {
-        arrows.push(Arrow {
-            turn,
-            kind: ArrowKind::Lends {
-                before: loan.before,
-                prio: loan.prio,
-            },
-            from,
-            to: loan.to,
-        })?;
-    }
-    Ok(())
-}
-
-// To whom it woke.
-fn push_wakes(
-    arrows: &mut Vec<Arrow>,
-    threads: &[ThreadRows],
-    turn: u32,
-    from: ThreadNo,
-) -> Result<(), AllocError>
-    requires few { length threads.now ≤ 256 }
-    requires turn { turn < 1000000 }
+// To the owner of the lock at which its walk stood.
+fn push_loan(arrows: &mut Vec<Arrow>, at: &TurnOf<'_>) -> Result<(), AllocError>
+    requires { IsTurnOf at.now.plan.now at.now.rows.now at.now.turn at.now.who.0 }
     ensures { OnOk result (arrows.new.items
-        ≡ arrows.old.items ++ wake_arrows turn from.0 threads.now) }
+        ≡ arrows.old.items ++ step_arrows at.now.plan.now at.now.turn at.now.who.0 step.Lend) }
 {
-    for (to, thread) in threads.iter().enumerate() {
-        if is_woken(thread, turn) {
-            arrows.push(Arrow {
-                turn,
-                kind: ArrowKind::Wakes,
-                from,
-                to: ThreadNo(to as u8),
-            })?;
-        }
+    if let Some(loan) = loan_in(at) {
+        let (before, prio) = (loan.before, loan.prio);
+        push_to(arrows, at, ArrowKind::Lends { before, prio }, &[loan.to])?;
     }
     Ok(())
-}
-
-// Whether its wait word said Queued before the turn and says that it is woken behind it.
-fn is_woken(thread: &ThreadRows, turn: u32) -> bool
-    requires { turn < 1000000 }
-    ensures { result ≡ wakes_up turn thread.now }
-{
-    thread.wait.at(turn) == Wait::Queued && matches!(thread.wait.at(turn + 1), Wait::Woken(_))
 }
 
 // To the writer behind which it blocked, or else to each that holds the lock.
-fn push_blocks(
-    arrows: &mut Vec<Arrow>,
-    rows: &Rows,
-    turn: u32,
-    from: ThreadNo,
-) -> Result<(), AllocError>
-    requires run { (plan : plans.Plan) × IsRunOf plan rows.now }
-    requires turn { turn < length rows.now.turns }
-    requires thread { from.0 < length rows.now.threads }
-    ensures { OnOk result ((plan : plans.Plan) → IsRunOf plan rows.now
-        → arrows.new.items ≡ arrows.old.items
-        ++ block_arrows plan turn from.0 rows.now.threads (lock_in plan turn from.0)) }
-{
-    let Some(l) = lock_of(rows, turn, from) else {
-        return Ok(());
-    };
-    match behind_whom(rows, turn, from, l) {
-        Some(to) => push_block(arrows, turn, ArrowKind::Behind, from, to),
-        None => push_holders(
-            arrows,
-            rows.threads.as_slice(),
-            turn,
-            ArrowKind::BlockedOn,
-            from,
-            l,
-        ),
-    }
-}
-
-// To each that holds the lock that its thread was refused.
-fn push_refusals(
-    arrows: &mut Vec<Arrow>,
-    rows: &Rows,
-    turn: u32,
-    row: TurnRow,
-) -> Result<(), AllocError>
-    requires run { (plan : plans.Plan) × IsRunOf plan rows.now }
-    requires turn { slice_get rows.now.turns turn ≡ Some row }
-    ensures { OnOk result ((plan : plans.Plan) → IsRunOf plan rows.now
-        → Made plan turn row.who.0 step.Note
-        → AddsArrows plan turn arrows.old.items arrows.new.items) }
-{
-    let Some(event) = event_of(rows, turn, row) else {
-        return Ok(());
-    };
-    let Some(refused) = refusal_in(event) else {
-        return Ok(());
-    };
-    let threads = rows.threads.as_slice();
-    push_holders(
-        arrows,
-        threads,
-        turn,
-        ArrowKind::Refused,
-        row.who,
-        refused.0,
-    )
-}
-
-// To each that holds the lock.
-fn push_holders(
-    arrows: &mut Vec<Arrow>,
-    threads: &[ThreadRows],
-    turn: u32,
-    kind: ArrowKind,
-    from: ThreadNo,
-    l: LockNo,
-) -> Result<(), AllocError>
-    requires { length threads.now ≤ 256 }
+fn push_blocks(alloc: Global, arrows: &mut Vec<Arrow>, at: &TurnOf<'_>) -> Result<(), AllocError>
+    requires { IsTurnOf at.now.plan.now at.now.rows.now at.now.turn at.now.who.0 }
     ensures { OnOk result (arrows.new.items
-        ≡ arrows.old.items ++ hold_arrows turn kind from.0 l.0 threads.now) }
+        ≡ arrows.old.items ++ step_arrows at.now.plan.now at.now.turn at.now.who.0 step.Enter) }
 {
-    for (to, thread) in threads.iter().enumerate() {
-        if holds(thread, l, turn) {
-            let to = ThreadNo(to as u8);
-            push_block(arrows, turn, kind, from, to)?;
+    let Some(l) = blocked_on(at) else {
+        return Ok(());
+    };
+    match went_behind(at, l) {
+        Some(writer) => push_to(arrows, at, ArrowKind::Behind, &[writer]),
+        None => {
+            let held_by = those(alloc, at, Asked::Holds(l))?;
+            push_to(arrows, at, ArrowKind::BlockedOn, &held_by)
         }
     }
-    Ok(())
 }
 
-fn push_block(
+// To each that holds the lock that it was refused.
+fn push_refusals(alloc: Global, arrows: &mut Vec<Arrow>, at: &TurnOf<'_>) -> Result<(), AllocError>
+    requires { IsTurnOf at.now.plan.now at.now.rows.now at.now.turn at.now.who.0 }
+    ensures { OnOk result (arrows.new.items
+        ≡ arrows.old.items ++ step_arrows at.now.plan.now at.now.turn at.now.who.0 step.Note) }
+{
+    let Some((l, _)) = refused_in(at) else {
+        return Ok(());
+    };
+    let held_by = those(alloc, at, Asked::Holds(l))?;
+    push_to(arrows, at, ArrowKind::Refused, &held_by)
+}
+
+fn push_to(
     arrows: &mut Vec<Arrow>,
-    turn: u32,
+    at: &TurnOf<'_>,
     kind: ArrowKind,
-    from: ThreadNo,
-    to: ThreadNo,
+    tos: &[ThreadNo],
 ) -> Result<(), AllocError>
     ensures { OnOk result (arrows.new.items
-        ≡ arrows.old.items ++ arrow turn kind from.0 to.0 ∷ []) }
+        ≡ arrows.old.items ++ arrows_to at.now.turn kind at.now.who.0 tos.now) }
 {
-    arrows.push(Arrow {
-        turn,
-        kind,
-        from,
-        to,
-    })?;
+    for to in tos {
+        arrows.push(Arrow {
+            turn: at.turn,
+            kind,
+            from: at.who,
+            to: *to,
+        })?;
+    }
     Ok(())
 }

@@ -1,14 +1,15 @@
 //! The bars of threads: what they hold, wait for and walk along.
-ghost use Rattle.std.specs.Prelude.{◌≡◌, ℕ, Bool, ◌≤◌, ◌&&◌, length, IfOk, IsTrue, OnOk};
+ghost use Rattle.std.specs.Prelude.{◌≡◌, ℕ, ◌≤◌, [], length, if◌then◌else◌, filter_map, option_to_list, Option, IfOk, OnOk};
 ghost use Rattle.std.specs.List.{All};
 ghost use Rattle.chart_layout.specs.declared.layout.BarKind as kinds;
-ghost use Rattle.run_chart.specs.Bars.{held_kind, holds_tell, is_said, passes_kind, tells, thread_tells, threads_tell, waited_kind, waits_tell, wakes_tell, walked_kind, walks_tell, woken_kind, Adds, GoesOn, SaysMore};
-ghost use Rattle.run_chart.specs.Spans.{is_between, values_at};
+ghost use Rattle.run_chart.specs.Bars.{as_shown, bar_drawn, held_kind, holds_shown, kind_shown, kinds_of, waited_kind, walked_kind, woken_kind};
+ghost use Rattle.run_chart.specs.Spans.{covers, told_of, values_at, Adds, Draws, IsWithin, Makes};
+ghost use Rattle.run_tracks.specs.Tracks.{value_in};
 
-use crate::spans::{Span, paired, spans};
+use crate::spans::{Span, spans};
 use chart_layout::{Bar, BarKind};
-use lock_model::{LockNo, Mode, QueueName, ThreadNo};
-use run_tracks::{ThreadRows, Track, Wait, Walk};
+use lock_model::{LockNo, Mode, ThreadNo};
+use run_tracks::{Noted, ThreadRow, ThreadRows, Track, Wait, Walk};
 use std::alloc::{AllocError, Global};
 
 /// The bars of threads in the rows `from..=to`, by thread.
@@ -20,10 +21,8 @@ pub fn bars(
 ) -> Result<Vec<Bar>, AllocError>
     requires few { length threads.now ≤ 256 }
     requires few_locks { All (λ rows. length rows.held ≤ 256) threads.now }
-    ensures said { IfOk result (λ bars. (passes : kinds.BarKind → Bool) (t n : ℕ)
-        → is_said passes t n bars.items
-        ≡ (is_between from to n && threads_tell passes t n threads.now)) }
-    ensures lasts { IfOk result (λ bars. All (λ bar. bar.first ≤ bar.last) bars.items) }
+    ensures { IfOk result (λ bars.
+        Draws bar_drawn (length threads.now) from to kinds_of threads.now bars.items) }
 {
     let mut bars = Vec::new(alloc);
     for (t, rows) in threads.iter().enumerate() {
@@ -41,13 +40,13 @@ fn push_thread(
     to: u32,
 ) -> Result<(), AllocError>
     requires { length rows.now.held ≤ 256 }
-    ensures { OnOk result (Adds from to thread.0 bars.old.items bars.new.items
-        (λ passes n. thread_tells passes n rows.now)) }
+    ensures { OnOk result (Adds bar_drawn thread.0 from to bars.old.items bars.new.items
+        (λ n. kinds_of n rows.now)) }
 {
     push_holds(alloc, bars, thread, rows.held.as_slice(), from, to)?;
-    push_waits(alloc, bars, thread, rows, from, to)?;
-    push_wakes(alloc, bars, thread, rows, from, to)?;
-    push_walks(alloc, bars, thread, rows, from, to)
+    push_shown(alloc, bars, thread, &rows.row, from, to, waited)?;
+    push_shown(alloc, bars, thread, &rows.row, from, to, woken)?;
+    push_shown(alloc, bars, thread, &rows.row, from, to, walked)
 }
 
 // What a thread holds, by lock.
@@ -55,206 +54,118 @@ fn push_holds(
     alloc: Global,
     bars: &mut Vec<Bar>,
     thread: ThreadNo,
-    held: &[Track<Option<Mode>>],
+    tracks: &[Track<Option<Mode>>],
     from: u32,
     to: u32,
 ) -> Result<(), AllocError>
-    requires { length held.now ≤ 256 }
-    ensures { OnOk result (Adds from to thread.0 bars.old.items bars.new.items
-        (λ passes n. holds_tell passes n held.now)) }
+    requires { length tracks.now ≤ 256 }
+    ensures { OnOk result (Adds bar_drawn thread.0 from to bars.old.items bars.new.items
+        (λ n. holds_shown n tracks.now)) }
 {
-    for (l, track) in held.iter().enumerate() {
-        let spans = spans(alloc, track.changes(), from, to)?;
-        push_held(bars, thread, LockNo(l as u8), &spans)?;
+    for (l, track) in tracks.iter().enumerate() {
+        let l = LockNo(l as u8);
+        push_shown(alloc, bars, thread, track, from, to, |mode| held(l, mode))?;
     }
     Ok(())
 }
 
-// The queues on which it stands.
-fn push_waits(
+// What is shown of a row by bars of one sort, if anything is.
+#[derive(Clone, Copy, PartialEq, Eq)]
+struct Shown(Option<BarKind>);
+
+impl Noted for Shown {
+    fn is(self, other: Shown) -> bool {
+        self == other
+    }
+}
+
+// A bar for each span of rows of which the same is shown.
+fn push_shown<T: Copy, F: Fn(T) -> Shown>(
     alloc: Global,
     bars: &mut Vec<Bar>,
     thread: ThreadNo,
-    rows: &ThreadRows,
+    track: &Track<T>,
     from: u32,
     to: u32,
+    shown: F,
 ) -> Result<(), AllocError>
-    ensures { OnOk result (Adds from to thread.0 bars.old.items bars.new.items
-        (λ passes n. waits_tell passes n rows.now)) }
+    requires { F.IsAlwaysCallable shown }
+    ensures { OnOk result ((kind : T → Option kinds.BarKind)
+        → Makes (F.post shown) (as_shown kind)
+        → Adds bar_drawn thread.0 from to bars.old.items bars.new.items
+        (λ n. told_of kind (value_in n track.now))) }
 {
-    let stands = spans(alloc, rows.stands_on.changes(), from, to)?;
-    push_waited(bars, thread, &stands)
+    let spans = spans(alloc, track, from, to, shown)?;
+    push_spans(bars, thread, &spans)
 }
 
-// Off which queues it was taken, as long as it doesn't run.
-fn push_wakes(
-    alloc: Global,
+fn push_spans(
     bars: &mut Vec<Bar>,
     thread: ThreadNo,
-    rows: &ThreadRows,
-    from: u32,
-    to: u32,
+    spans: &[Span<Shown>],
 ) -> Result<(), AllocError>
-    ensures { OnOk result (Adds from to thread.0 bars.old.items bars.new.items
-        (λ passes n. wakes_tell passes n rows.now)) }
-{
-    let wait = spans(alloc, rows.wait.changes(), from, to)?;
-    let named = paired(alloc, &wait, rows.blocked_on.changes())?;
-    let stands = paired(alloc, &named, rows.stands_on.changes())?;
-    push_woken(bars, thread, &stands)
-}
-
-// Its walks.
-fn push_walks(
-    alloc: Global,
-    bars: &mut Vec<Bar>,
-    thread: ThreadNo,
-    rows: &ThreadRows,
-    from: u32,
-    to: u32,
-) -> Result<(), AllocError>
-    ensures { OnOk result (Adds from to thread.0 bars.old.items bars.new.items
-        (λ passes n. walks_tell passes n rows.now)) }
-{
-    let walks = spans(alloc, rows.walk.changes(), from, to)?;
-    push_walked(bars, thread, &walks)
-}
-
-fn push_held(
-    bars: &mut Vec<Bar>,
-    thread: ThreadNo,
-    l: LockNo,
-    spans: &[Span<Option<Mode>>],
-) -> Result<(), AllocError>
-    requires { All (λ span. span.first ≤ span.last) spans.now }
-    ensures { OnOk result (SaysMore thread.0 bars.old.items bars.new.items
-        (λ passes n. tells passes (held_kind l.0) (values_at n spans.now))) }
+    ensures { OnOk result ((from to : ℕ) → All (IsWithin from to) spans.now
+        → Adds bar_drawn thread.0 from to bars.old.items bars.new.items
+        (λ n. filter_map kind_shown (values_at n spans.now))) }
 {
     for span in spans {
-        push_bar(bars, thread, span.first, span.last, held(l, span.value))?;
+        push_bar(bars, thread, *span)?;
     }
     Ok(())
 }
 
-fn push_waited(
-    bars: &mut Vec<Bar>,
-    thread: ThreadNo,
-    spans: &[Span<Option<QueueName>>],
-) -> Result<(), AllocError>
-    requires { All (λ span. span.first ≤ span.last) spans.now }
-    ensures { OnOk result (SaysMore thread.0 bars.old.items bars.new.items
-        (λ passes n. tells passes waited_kind (values_at n spans.now))) }
+fn push_bar(bars: &mut Vec<Bar>, thread: ThreadNo, span: Span<Shown>) -> Result<(), AllocError>
+    ensures { OnOk result ((from to : ℕ) → IsWithin from to span
+        → Adds bar_drawn thread.0 from to bars.old.items bars.new.items
+        (λ n. if covers n span then option_to_list (kind_shown span.value) else [])) }
 {
-    for span in spans {
-        push_bar(bars, thread, span.first, span.last, waited(span.value))?;
-    }
-    Ok(())
-}
-
-fn push_woken(
-    bars: &mut Vec<Bar>,
-    thread: ThreadNo,
-    spans: &[Span<((Wait, Option<QueueName>), Option<QueueName>)>],
-) -> Result<(), AllocError>
-    requires { All (λ span. span.first ≤ span.last) spans.now }
-    ensures { OnOk result (SaysMore thread.0 bars.old.items bars.new.items
-        (λ passes n. tells passes woken_kind (values_at n spans.now))) }
-{
-    for span in spans {
-        push_bar(bars, thread, span.first, span.last, woken(span.value))?;
-    }
-    Ok(())
-}
-
-fn push_walked(
-    bars: &mut Vec<Bar>,
-    thread: ThreadNo,
-    spans: &[Span<Walk>],
-) -> Result<(), AllocError>
-    requires { All (λ span. span.first ≤ span.last) spans.now }
-    ensures { OnOk result (SaysMore thread.0 bars.old.items bars.new.items
-        (λ passes n. tells passes walked_kind (values_at n spans.now))) }
-{
-    for span in spans {
-        push_bar(bars, thread, span.first, span.last, walked(span.value))?;
-    }
-    Ok(())
-}
-
-// A bar more, where there is something to say. Where the last one says the same up to the row before, that goes on.
-fn push_bar(
-    bars: &mut Vec<Bar>,
-    thread: ThreadNo,
-    first: u32,
-    last: u32,
-    kind: Option<BarKind>,
-) -> Result<(), AllocError>
-    requires { first ≤ last }
-    ensures { OnOk result (SaysMore thread.0 bars.old.items bars.new.items
-        (λ passes n. is_between first last n && passes_kind passes kind)) }
-{
-    let Some(what) = kind else {
+    let Some(what) = span.value.0 else {
         return Ok(());
     };
-    let bar = Bar {
+    bars.push(Bar {
         thread,
         what,
-        first,
-        last,
-    };
-    if let Some(before) = bars.last_mut() {
-        if goes_on(before, &bar) {
-            before.last = before.last.max(last);
-            return Ok(());
-        }
-    }
-    bars.push(bar)?;
+        first: span.first,
+        last: span.last,
+    })?;
     Ok(())
 }
 
-// Whether a bar says the same as another, from the row behind that on.
-fn goes_on(before: &Bar, bar: &Bar) -> bool
-    ensures { IsTrue result → GoesOn before.now bar.now }
+fn held(l: LockNo, mode: Option<Mode>) -> Shown
+    ensures { result.0 ≡ held_kind l.0 mode }
 {
-    before.thread == bar.thread
-        && before.what == bar.what
-        && before.first < bar.first
-        && before.last == bar.first - 1
-}
-
-fn held(l: LockNo, mode: Option<Mode>) -> Option<BarKind>
-    ensures { result ≡ held_kind l.0 mode }
-{
-    match mode {
+    Shown(match mode {
         Some(mode) => Some(BarKind::Holds { l, mode }),
         None => None,
-    }
+    })
 }
 
-fn waited(q: Option<QueueName>) -> Option<BarKind>
-    ensures { result ≡ waited_kind q }
+// The queue on which it stands.
+fn waited(row: ThreadRow) -> Shown
+    ensures { result.0 ≡ waited_kind row }
 {
-    match q {
+    Shown(match row.stands_on {
         Some(q) => Some(BarKind::Waits { q }),
         None => None,
-    }
+    })
 }
 
-fn woken(value: ((Wait, Option<QueueName>), Option<QueueName>)) -> Option<BarKind>
-    ensures { result ≡ woken_kind value }
+// Off which queue it was taken, as long as it doesn't run.
+fn woken(row: ThreadRow) -> Shown
+    ensures { result.0 ≡ woken_kind row }
 {
-    match value {
-        ((Wait::Woken(q), _), _) => Some(BarKind::Woken { q }),
-        ((Wait::Running | Wait::Queued, Some(q)), None) => Some(BarKind::TakenOff { q }),
-        ((Wait::Running | Wait::Queued, _), _) => None,
-    }
+    Shown(match (row.wait, row.blocked_on, row.stands_on) {
+        (Wait::Woken(q), _, _) => Some(BarKind::Woken { q }),
+        (Wait::Running | Wait::Queued, Some(q), None) => Some(BarKind::TakenOff { q }),
+        (Wait::Running | Wait::Queued, _, _) => None,
+    })
 }
 
-fn walked(walk: Walk) -> Option<BarKind>
-    ensures { result ≡ walked_kind walk }
+fn walked(row: ThreadRow) -> Shown
+    ensures { result.0 ≡ walked_kind row }
 {
-    match walk {
+    Shown(match row.walk {
         Walk::None => None,
         Walk::AtLock(_) | Walk::AtThread(_) => Some(BarKind::Walks),
-    }
+    })
 }

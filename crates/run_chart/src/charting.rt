@@ -4,13 +4,11 @@ ghost use Rattle.lock_model.specs.Operations.{IsProper};
 ghost use Rattle.run_chart.specs.Charts.{IsChartOf};
 ghost use Rattle.run_tracks.specs.Rows.{TellsRun};
 
-use crate::arrows::arrows;
 use crate::bars::bars;
 use crate::ending::{end, printed_end};
 use crate::lanes::lanes;
-use crate::marks::marks;
-use crate::saying::sentences;
 use crate::steps::steps;
+use crate::window::turns;
 use chart_layout::Chart;
 use lock_model::{Plan, Sequence};
 use run_tracks::Rows;
@@ -43,7 +41,7 @@ pub fn chart(
     let threads = rows.threads.as_slice();
     let bars = bars(alloc, threads, from, to)?;
     let steps = steps(alloc, threads, from, to)?;
-    let arrows = arrows(alloc, rows, from, to)?;
+    let shown = turns(alloc, plan, rows, from, to)?;
     Ok(Chart {
         first: from,
         last: to,
@@ -51,9 +49,9 @@ pub fn chart(
         lanes: Sequence::from_vec(lanes(alloc, threads)?),
         bars: Sequence::from_vec(bars),
         steps: Sequence::from_vec(steps),
-        arrows: Sequence::from_vec(arrows),
-        marks: Sequence::from_vec(marks(alloc, rows, from, to)?),
-        sentences: Sequence::from_vec(sentences(alloc, plan, rows, from, to)?),
+        arrows: Sequence::from_vec(shown.arrows),
+        marks: Sequence::from_vec(shown.marks),
+        sentences: Sequence::from_vec(shown.sentences),
         end: end(alloc, rows)?,
         printed: Sequence::from_vec(printed_end(alloc, plan, &rows.outcome)?),
     })

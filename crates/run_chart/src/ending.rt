@@ -43,7 +43,7 @@ fn waits(
 {
     let mut waits = Vec::new(alloc);
     for (t, thread) in threads.iter().enumerate() {
-        push_wait(&mut waits, ThreadNo(t as u8), thread.stands_on.at(row))?;
+        push_wait(&mut waits, ThreadNo(t as u8), thread.row.at(row).stands_on)?;
     }
     Ok(waits)
 }

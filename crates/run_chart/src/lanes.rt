@@ -4,7 +4,7 @@ ghost use Rattle.run_chart.specs.Lanes.{first_row, AreLanes};
 
 use chart_layout::Lane;
 use lock_model::ThreadNo;
-use run_tracks::ThreadRows;
+use run_tracks::{ThreadRow, ThreadRows};
 use std::alloc::{AllocError, Global};
 
 /// A lane for each thread, which ends in the first row in which the thread has come to its end.
@@ -14,7 +14,7 @@ pub fn lanes(alloc: Global, threads: &[ThreadRows]) -> Result<Vec<Lane>, AllocEr
 {
     let mut lanes = Vec::new(alloc);
     for (t, rows) in threads.iter().enumerate() {
-        let ended = first_so(rows.ended.changes());
+        let ended = first_ended(rows.row.changes());
         lanes.push(Lane {
             thread: ThreadNo(t as u8),
             ended,
@@ -23,12 +23,12 @@ pub fn lanes(alloc: Global, threads: &[ThreadRows]) -> Result<Vec<Lane>, AllocEr
     Ok(lanes)
 }
 
-// The first row from which on it is so.
-fn first_so(changes: &[(u32, bool)]) -> Option<u32>
+// The first row in which a thread has come to its end.
+fn first_ended(changes: &[(u32, ThreadRow)]) -> Option<u32>
     ensures { result ≡ first_row changes.now }
 {
     for change in changes {
-        if change.1 {
+        if change.1.ended {
             return Some(change.0);
         }
     }

@@ -2,8 +2,9 @@
 //! a drawing of it.
 //!
 //! - `spans`: the rows over which a value stays the same, the one mechanism of bars and steps.
-//! - `lookup`: what the rows say of a turn: whom it lent to, on which lock its thread blocked, and behind whom.
-//! - `bars`, `steps`, `arrows`, `marks`, `saying`, `lanes`, `ending`: what the rows of a run make of each part.
+//! - `bars`, `steps`, `lanes`, `ending`: what the rows of a run make of each part.
+//! - `rows`, `lookup`, `naming`: what they say of a row, and of a turn, and whom it names.
+//! - `marks`, `arrows`, `saying`: what a turn shows; `window`: what the turns of a window show.
 //! - `charting`: the chart of a run.
 #![tactic(auto)]
 
@@ -14,8 +15,11 @@ mod ending;
 mod lanes;
 mod lookup;
 mod marks;
+mod naming;
+mod rows;
 mod saying;
 mod spans;
 mod steps;
+mod window;
 
 pub use charting::chart;

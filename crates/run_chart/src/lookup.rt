@@ -1,24 +1,16 @@
-//! What the rows of a run say of a turn: whom it lent to, on which lock its thread blocked, and behind whom.
-ghost use Rattle.std.specs.Prelude.{◌≡◌, ◌<◌, ◌≤◌, None, Some, length, option_map, slice_get};
+//! What the rows of a run say of a turn: whom it lent to, on which lock its thread blocked, behind whom, and what it
+//! noted.
+ghost use Rattle.std.specs.Prelude.{◌≡◌, ◌≤◌, None, Some, length, option_map};
 ghost use Rattle.std.specs.List.{find, list_any};
-ghost use Rattle.lock_model.specs.Words.{owner_of};
-ghost use Rattle.lock_model.specs.declared.plan.Plan as plans;
-ghost use Rattle.run_chart.specs.Arrows.{behind_in, behind_of, first_in, holds_in, hop_of, is_line_of, is_waiter, lists_of, loan_in, lock_in, lock_named};
-ghost use Rattle.run_chart.specs.Charts.{waiters_in};
-ghost use Rattle.run_chart.specs.Runs.{IsRunOf};
-ghost use Rattle.run_tracks.specs.Rows.{run_in};
+ghost use Rattle.run_chart.specs.Lines.{first_in, is_line_of, is_waiter, lists_of};
+ghost use Rattle.run_chart.specs.Runs.{IsTurnOf};
+ghost use Rattle.run_chart.specs.Turns.{blocked_on, entry_in, event_in, first_writer, history_in, loan_in, lock_named, refused_in, signalled, slept_on, state_in, went_behind};
+ghost use Rattle.lock_model.specs.Queues.{lock_queue};
 
+use crate::rows::{TurnOf, named_by, owner_in, prio_in, thread_in, turn_at};
 use lock_history::QueueLine;
-use lock_model::{LockNo, Prio, QueueName, ThreadNo};
-use lock_words::owner_of;
-use run_tracks::{Rows, ThreadRows, Track, Walk};
-
-/// The rows of a thread.
-pub fn thread_rows(rows: &Rows, t: ThreadNo) -> Option<&ThreadRows>
-    ensures { option_map (λ thread. thread.now) result ≡ slice_get rows.now.threads t.0 }
-{
-    rows.threads.as_slice().get(usize::from(t.0))
-}
+use lock_model::{ChanNo, ClassNo, Entry, Event, LockNo, Prio, QueueName, ThreadNo};
+use run_tracks::Walk;
 
 /// What a hop of a walk lent: to the owner of a lock, which ran as one priority before the turn and as the other behind
 /// it.
@@ -31,57 +23,35 @@ pub struct HopLoan {
 }
 
 /// What was lent in a turn, if its thread's walk stood at a lock that has an owner.
-pub fn loan_of(rows: &Rows, turn: u32, from: ThreadNo) -> Option<HopLoan>
-    requires run { (plan : plans.Plan) × IsRunOf plan rows.now }
-    requires turn { turn < length rows.now.turns }
-    requires thread { from.0 < length rows.now.threads }
-    ensures { (plan : plans.Plan) → IsRunOf plan rows.now
-        → option_map hop_of result ≡ loan_in plan turn from.0 }
+pub fn loan_in(at: &TurnOf<'_>) -> Option<HopLoan>
+    requires { IsTurnOf at.now.plan.now at.now.rows.now at.now.turn at.now.who.0 }
+    ensures { result ≡ loan_in at.now.plan.now at.now.turn at.now.who.0 }
 {
-    let Walk::AtLock(l) = thread_rows(rows, from)?.walk.at(turn) else {
-        return None;
-    };
-    let to = owner_in(rows, turn, l)?;
-    let owner = thread_rows(rows, to)?;
-    Some(HopLoan {
-        to,
-        lock: l,
-        before: owner.effective.at(turn),
-        prio: owner.effective.at(turn + 1),
-    })
+    match thread_in(at, at.turn, at.who).walk {
+        Walk::AtLock(lock) => {
+            let to = owner_in(at, at.turn, lock)?;
+            Some(HopLoan {
+                to,
+                lock,
+                before: prio_in(at, at.turn, to),
+                prio: prio_in(at, at.turn + 1, to),
+            })
+        }
+        Walk::None | Walk::AtThread(_) => None,
+    }
 }
 
-// Who holds a lock exclusively in a row.
-fn owner_in(rows: &Rows, row: u32, l: LockNo) -> Option<ThreadNo>
-    requires run { (plan : plans.Plan) × IsRunOf plan rows.now }
-    requires row { row < length rows.now.turns }
-    ensures { (plan : plans.Plan) → IsRunOf plan rows.now → option_map (λ t. t.0) result
-        ≡ owner_of ((run_in plan row).state.word l.0).holder }
+/// The lock on which a turn blocked its thread.
+pub fn blocked_on(at: &TurnOf<'_>) -> Option<LockNo>
+    requires { IsTurnOf at.now.plan.now at.now.rows.now at.now.turn at.now.who.0 }
+    ensures { result ≡ blocked_on at.now.plan.now at.now.turn at.now.who.0 }
 {
-    let word = word_rows(rows, l)?.at(row);
-    owner_of(word)
-}
-
-fn word_rows(rows: &Rows, l: LockNo) -> Option<&Track<u64>>
-    ensures { option_map (λ track. track.now) result ≡ slice_get rows.now.words l.0 }
-{
-    rows.words.as_slice().get(usize::from(l.0))
-}
-
-/// The lock on which a thread blocked in a turn.
-pub fn lock_of(rows: &Rows, turn: u32, from: ThreadNo) -> Option<LockNo>
-    requires run { (plan : plans.Plan) × IsRunOf plan rows.now }
-    requires turn { turn < length rows.now.turns }
-    ensures { (plan : plans.Plan) → IsRunOf plan rows.now → from.0 < length rows.now.threads
-        → option_map (λ l. l.0) result ≡ lock_in plan turn from.0 }
-{
-    let named = thread_rows(rows, from)?.blocked_on.at(turn + 1);
-    lock_named(named)
+    lock_named(named_by(at, at.turn + 1, at.who))
 }
 
 /// The lock whose queue is named.
 pub fn lock_named(q: Option<QueueName>) -> Option<LockNo>
-    ensures { option_map (λ l. l.0) result ≡ lock_named q }
+    ensures { result ≡ lock_named q }
 {
     match q? {
         QueueName::Lock(l) => Some(l),
@@ -89,37 +59,25 @@ pub fn lock_named(q: Option<QueueName>) -> Option<LockNo>
     }
 }
 
-/// Whether a thread holds the lock in a row.
-pub fn holds(thread: &ThreadRows, l: LockNo, row: u32) -> bool
-    ensures { result ≡ holds_in row l.0 thread.now }
+/// The writer that waits for a lock and came first, where a thread blocked on it to share it with others that share it.
+pub fn went_behind(at: &TurnOf<'_>, l: LockNo) -> Option<ThreadNo>
+    requires { IsTurnOf at.now.plan.now at.now.rows.now at.now.turn at.now.who.0 }
+    ensures { result ≡ went_behind at.now.plan.now at.now.turn l.0 at.now.who.0 }
 {
-    match thread.held.as_slice().get(usize::from(l.0)) {
-        Some(track) => track.at(row).is_some(),
-        None => false,
-    }
-}
-
-/// The writer that waits for a lock and came first, where a thread blocked on it in a turn to share it with others that
-/// share it.
-pub fn behind_whom(rows: &Rows, turn: u32, who: ThreadNo, l: LockNo) -> Option<ThreadNo>
-    requires run { (plan : plans.Plan) × IsRunOf plan rows.now }
-    requires turn { turn < length rows.now.turns }
-    ensures { (plan : plans.Plan) → IsRunOf plan rows.now
-        → option_map (λ t. t.0) result ≡ behind_in plan turn who.0 l.0 }
-{
-    if owner_in(rows, turn, l).is_some() {
+    if owner_in(at, at.turn, l).is_some() {
         return None;
     }
-    behind_in_line(line_in(rows, turn + 1, l)?, who)
+    first_writer(line_in(at, at.turn + 1, l)?, at.who)
 }
 
 // The line of a lock's queue in a row.
-fn line_in(rows: &Rows, row: u32, l: LockNo) -> Option<&QueueLine>
-    requires row { row ≤ length rows.now.turns }
-    ensures { (plan : plans.Plan) → IsRunOf plan rows.now
-        → lists_of (option_map (λ line. line.now) result) ≡ waiters_in plan row l.0 }
+fn line_in<'a>(at: &TurnOf<'a>, row: u32, l: LockNo) -> Option<&'a QueueLine>
+    requires turn { IsTurnOf at.now.plan.now at.now.rows.now at.now.turn at.now.who.0 }
+    requires row { row ≤ length at.now.rows.now.turns }
+    ensures { lists_of (option_map (λ line. line.now) result)
+        ≡ (state_in at.now.plan.now row).lists (lock_queue l.0) }
 {
-    line_of(rows.queues.get(row).as_slice(), l)
+    line_of(at.rows.queues.get(row).as_slice(), l)
 }
 
 fn line_of(lines: &[QueueLine], l: LockNo) -> Option<&QueueLine>
@@ -129,8 +87,8 @@ fn line_of(lines: &[QueueLine], l: LockNo) -> Option<&QueueLine>
 }
 
 // The first that waits to hold the lock alone, where the thread waits there to share it.
-fn behind_in_line(line: &QueueLine, who: ThreadNo) -> Option<ThreadNo>
-    ensures { option_map (λ t. t.0) result ≡ behind_of None (lists_of (Some line.now)) who.0 }
+fn first_writer(line: &QueueLine, who: ThreadNo) -> Option<ThreadNo>
+    ensures { result ≡ first_writer (lists_of (Some line.now)) who.0 }
 {
     if waits_in(line.shared.as_slice(), who) {
         first_in(line.excl.as_slice())
@@ -146,8 +104,64 @@ fn waits_in(waiters: &[(ThreadNo, Prio)], who: ThreadNo) -> bool
 }
 
 fn first_in(waiters: &[(ThreadNo, Prio)]) -> Option<ThreadNo>
-    ensures { option_map (λ t. t.0) result ≡ first_in waiters.now }
+    ensures { result ≡ first_in waiters.now }
 {
     let (first, _) = waiters.first()?;
     Some(*first)
+}
+
+/// The entry that a turn made. It makes one at most.
+pub fn entry_in(at: &TurnOf<'_>) -> Option<Entry>
+    requires { IsTurnOf at.now.plan.now at.now.rows.now at.now.turn at.now.who.0 }
+    ensures { result ≡ entry_in at.now.plan.now at.now.turn }
+{
+    let before = entries_in(at, at.turn);
+    if entries_in(at, at.turn + 1) > before {
+        at.rows.outcome.history.at(before)
+    } else {
+        None
+    }
+}
+
+// How many entries the history has in a row.
+fn entries_in(at: &TurnOf<'_>, row: u32) -> u32
+    requires turn { IsTurnOf at.now.plan.now at.now.rows.now at.now.turn at.now.who.0 }
+    requires row { row ≤ length at.now.rows.now.turns }
+    ensures { result ≡ length (history_in at.now.plan.now row) }
+{
+    if row == 0 {
+        return 0;
+    }
+    turn_at(at.rows, row - 1).entries
+}
+
+fn event_in(at: &TurnOf<'_>) -> Option<Event>
+    requires { IsTurnOf at.now.plan.now at.now.rows.now at.now.turn at.now.who.0 }
+    ensures { result ≡ event_in at.now.plan.now at.now.turn }
+{
+    Some(entry_in(at)?.event)
+}
+
+/// The condition variable or channel on which its thread went to sleep, if it did.
+pub fn slept_on(at: &TurnOf<'_>) -> Option<ChanNo>
+    requires { IsTurnOf at.now.plan.now at.now.rows.now at.now.turn at.now.who.0 }
+    ensures { option_map (λ c. c.0) result ≡ slept_on at.now.plan.now at.now.turn }
+{
+    event_in(at)?.fell_asleep()
+}
+
+/// The condition variable or channel whose sleepers it woke, or found that there are none.
+pub fn signalled(at: &TurnOf<'_>) -> Option<ChanNo>
+    requires { IsTurnOf at.now.plan.now at.now.rows.now at.now.turn at.now.who.0 }
+    ensures { option_map (λ c. c.0) result ≡ signalled at.now.plan.now at.now.turn }
+{
+    event_in(at)?.woken_chan()
+}
+
+/// The lock that its thread was refused, and the class of the held one that forbids it.
+pub fn refused_in(at: &TurnOf<'_>) -> Option<(LockNo, ClassNo)>
+    requires { IsTurnOf at.now.plan.now at.now.rows.now at.now.turn at.now.who.0 }
+    ensures { option_map (λ r. (r.0.0, r.1.0)) result ≡ refused_in at.now.plan.now at.now.turn }
+{
+    event_in(at)?.refused()
 }

@@ -1,41 +1,21 @@
 //! The mark of a turn: what was done in it.
-ghost use Rattle.std.specs.Prelude.{◌≡◌, ◌≤◌, ◌++◌, length, option_map, slice_get, Some, IfOk, OnOk};
-ghost use Rattle.lock_model.specs.declared.plan.Plan as plans;
-ghost use Rattle.run_chart.specs.Charts.{history_in};
-ghost use Rattle.run_chart.specs.Marks.{entry_in, marked_of, marks_of, GainsMark, HasMarks};
-ghost use Rattle.run_chart.specs.Runs.{IsRunOf};
+ghost use Rattle.std.specs.Prelude.{◌≡◌, ◌++◌, option_map, option_to_list, OnOk};
+ghost use Rattle.run_chart.specs.Runs.{IsTurnOf};
+ghost use Rattle.run_chart.specs.Turns.{entry_in, mark, mark_shown, marked_of};
 
+use crate::lookup::entry_in;
+use crate::rows::TurnOf;
 use chart_layout::{MarkKind, TurnMark};
-use lock_model::{Entry, Event, ThreadNo, Turn};
-use run_tracks::{Rows, TurnRow};
-use std::alloc::{AllocError, Global};
+use lock_model::{Entry, ThreadNo, Turn};
+use std::alloc::AllocError;
 
-/// The marks of the turns between the rows `from..=to`: one each, save where its thread had ended before.
-pub fn marks(alloc: Global, rows: &Rows, from: u32, to: u32) -> Result<Vec<TurnMark>, AllocError>
-    requires in_order { from ≤ to }
-    requires within { to ≤ length rows.now.turns }
-    ensures { IfOk result (λ marks. (plan : plans.Plan) → IsRunOf plan rows.now
-        → HasMarks plan from to marks.items) }
+/// Adds the mark of a turn, unless its thread had ended before.
+pub fn push_mark(marks: &mut Vec<TurnMark>, at: &TurnOf<'_>, answer: Turn) -> Result<(), AllocError>
+    requires { IsTurnOf at.now.plan.now at.now.rows.now at.now.turn at.now.who.0 }
+    ensures { OnOk result (marks.new.items
+        ≡ marks.old.items ++ mark_shown at.now.plan.now at.now.turn at.now.who.0 answer) }
 {
-    let mut marks = Vec::new(alloc);
-    for turn in from..to {
-        push_mark(&mut marks, rows, turn, rows.turns.as_slice()[turn as usize])?;
-    }
-    Ok(marks)
-}
-
-fn push_mark(
-    marks: &mut Vec<TurnMark>,
-    rows: &Rows,
-    turn: u32,
-    row: TurnRow,
-) -> Result<(), AllocError>
-    requires { slice_get rows.now.turns turn ≡ Some row }
-    ensures { OnOk result ((plan : plans.Plan) → IsRunOf plan rows.now
-        → GainsMark plan turn marks.old.items marks.new.items) }
-{
-    let what = mark_of(rows, turn, row);
-    push(marks, turn, row.who, what)
+    push(marks, at.turn, at.who, marked_of(answer, entry_in(at)))
 }
 
 fn push(
@@ -44,7 +24,8 @@ fn push(
     thread: ThreadNo,
     what: Option<MarkKind>,
 ) -> Result<(), AllocError>
-    ensures { OnOk result (marks.new.items ≡ marks.old.items ++ marks_of turn thread.0 what) }
+    ensures { OnOk result (marks.new.items
+        ≡ marks.old.items ++ option_to_list (option_map (mark turn thread.0) what)) }
 {
     if let Some(what) = what {
         marks.push(TurnMark { turn, thread, what })?;
@@ -53,58 +34,13 @@ fn push(
 }
 
 // What is marked of a turn: its entry, or else the step that it made.
-fn mark_of(rows: &Rows, turn: u32, row: TurnRow) -> Option<MarkKind>
-    ensures { (plan : plans.Plan) → IsRunOf plan rows.now
-        → slice_get rows.now.turns turn ≡ Some row
-        → result ≡ marked_of row.answer (entry_in plan turn) }
+fn marked_of(answer: Turn, entry: Option<Entry>) -> Option<MarkKind>
+    ensures { result ≡ marked_of answer entry }
 {
-    match row.answer {
-        Turn::Ended => None,
-        Turn::Idle => Some(MarkKind::Idle),
-        Turn::Did(kind) => match entry_of(rows, turn, row) {
-            Some(entry) => Some(MarkKind::Noted(entry.event)),
-            None => Some(MarkKind::Did(kind)),
-        },
+    match (answer, entry) {
+        (Turn::Ended, _) => None,
+        (Turn::Idle, _) => Some(MarkKind::Idle),
+        (Turn::Did(kind), None) => Some(MarkKind::Did(kind)),
+        (Turn::Did(_), Some(entry)) => Some(MarkKind::Noted(entry.event)),
     }
-}
-
-/// What was noted in a turn. A turn makes one entry at most.
-pub fn event_of(rows: &Rows, turn: u32, row: TurnRow) -> Option<Event>
-    ensures { (plan : plans.Plan) → IsRunOf plan rows.now
-        → slice_get rows.now.turns turn ≡ Some row
-        → result ≡ option_map (λ entry. entry.event) (entry_in plan turn) }
-{
-    Some(entry_of(rows, turn, row)?.event)
-}
-
-fn entry_of(rows: &Rows, turn: u32, row: TurnRow) -> Option<Entry>
-    ensures { (plan : plans.Plan) → IsRunOf plan rows.now
-        → slice_get rows.now.turns turn ≡ Some row → result ≡ entry_in plan turn }
-{
-    let before = entries_before(rows, turn);
-    if row.entries > before {
-        rows.outcome.history.at(before)
-    } else {
-        None
-    }
-}
-
-// How many entries the history had before a turn.
-fn entries_before(rows: &Rows, turn: u32) -> u32
-    ensures { (plan : plans.Plan) → IsRunOf plan rows.now → turn ≤ length rows.now.turns
-        → result ≡ length (history_in plan turn) }
-{
-    if turn == 0 {
-        return 0;
-    }
-    match turn_row(rows, turn - 1) {
-        Some(row) => row.entries,
-        None => 0,
-    }
-}
-
-fn turn_row(rows: &Rows, turn: u32) -> Option<&TurnRow>
-    ensures { option_map (λ row. row.now) result ≡ slice_get rows.now.turns turn }
-{
-    rows.turns.as_slice().get(turn as usize)
 }

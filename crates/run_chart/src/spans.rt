@@ -1,10 +1,12 @@
-//! The rows over which a value stays the same: the one mechanism of bars and steps. A track tells its value by the rows
-//! in which that changes, ascending and from row 0 on; its spans are what a window shows of it.
-ghost use Rattle.std.specs.Prelude.{◌≡◌, ℕ, ◌≤◌, ◌<◌, ◌++◌, ◌∷◌, [], map, IfOk, OnOk, option_to_list};
-ghost use Rattle.std.specs.List.{All, AllPairs};
-ghost use Rattle.run_chart.specs.Spans.{beside, last_before, span_of, values_at, with_value, IsWithin};
-ghost use Rattle.run_tracks.specs.Tracks.{value_in, IsTrack};
+//! The rows over which something stays the same: the one mechanism of bars and steps. A track tells its value by the
+//! rows in which that changes, ascending and from row 0 on; its spans are what a window shows of it, or of what is made
+//! of it.
+ghost use Rattle.std.specs.Prelude.{◌≡◌, ℕ, ◌≤◌, ◌<◌, ◌++◌, ◌∷◌, [], IfOk, IsTrue, OnOk, option_map, option_to_list};
+ghost use Rattle.std.specs.List.{All};
+ghost use Rattle.run_chart.specs.Spans.{last_before, span_of, values_at, GoesOn, IsWithin, Makes};
+ghost use Rattle.run_tracks.specs.Tracks.{value_in, Ascend, IsTrack};
 
+use run_tracks::{Noted, Track, count_up_to};
 use std::alloc::{AllocError, Global};
 
 /// The rows `first..=last`, in which something has the value.
@@ -15,50 +17,82 @@ pub struct Span<T> {
     pub value: T,
 }
 
-/// What the rows `from..=to` show of a track, by its changes: spans that follow upon each other, in time in proportion
-/// to them and in the logarithm of the changes.
-pub fn spans<T: Copy>(
+/// What the rows `from..=to` show of a track: spans of what is made of its values, which follow upon each other and go
+/// on as long as that stays the same. It takes time in proportion to the changes in these rows, and in the logarithm of
+/// all.
+pub fn spans<T: Copy, U: Noted, F: Fn(T) -> U>(
     alloc: Global,
-    changes: &[(u32, T)],
+    track: &Track<T>,
     from: u32,
     to: u32,
-) -> Result<Vec<Span<T>>, AllocError>
-    requires { IsTrack changes.now }
+    made: F,
+) -> Result<Vec<Span<U>>, AllocError>
+    requires { F.IsAlwaysCallable made }
     ensures within { IfOk result (λ spans. All (IsWithin from to) spans.items) }
-    ensures values { IfOk result (λ spans. (n : ℕ) → from ≤ n → n ≤ to
-        → values_at n spans.items ≡ option_to_list (value_in n changes.now)) }
+    ensures values { IfOk result (λ spans. (f : T → U) → Makes (F.post made) f
+        → (n : ℕ) → from ≤ n → n ≤ to
+        → values_at n spans.items ≡ option_to_list (option_map f (value_in n track.now))) }
 {
     let mut spans = Vec::new(alloc);
-    let mut left = up_to_row(from_row(changes, from), to);
+    let mut left = up_to_row(from_row(track.changes(), from), to);
     while let Some((change, behind)) = left.split_first() {
-        push_span(&mut spans, *change, behind, from, to)?;
+        let value = made(change.1);
+        push_span(&mut spans, from, last_row(behind, to), change.0, value)?;
         left = behind;
     }
     Ok(spans)
 }
 
-// The span of a change, before those behind it.
-fn push_span<T: Copy>(
+// The span of a change, up to the last row before the next one.
+fn push_span<T: Noted>(
     spans: &mut Vec<Span<T>>,
-    change: (u32, T),
-    behind: &[(u32, T)],
     from: u32,
-    to: u32,
+    last: u32,
+    row: u32,
+    value: T,
 ) -> Result<(), AllocError>
-    ensures { OnOk result (spans.new.items
-        ≡ spans.old.items ++ span_of from to change behind.now) }
+    ensures within { OnOk result ((to : ℕ) → last ≤ to → All (IsWithin from to) spans.old.items
+        → All (IsWithin from to) spans.new.items) }
+    ensures values { OnOk result ((n : ℕ) → values_at n spans.new.items
+        ≡ values_at n spans.old.items ++ values_at n (span_of from last row value)) }
 {
-    let first = from.max(change.0);
-    let last = last_row(behind, to);
+    let first = from.max(row);
     if first <= last {
-        put(spans, first, last, change.1)?;
+        put(spans, Span { first, last, value })
+    } else {
+        Ok(())
     }
+}
+
+// A span more. Where the last one says the same up to the row before, that goes on.
+fn put<T: Noted>(spans: &mut Vec<Span<T>>, span: Span<T>) -> Result<(), AllocError>
+    requires { span.first ≤ span.last }
+    ensures within { OnOk result ((from to : ℕ) → IsWithin from to span
+        → All (IsWithin from to) spans.old.items → All (IsWithin from to) spans.new.items) }
+    ensures values { OnOk result ((n : ℕ) → values_at n spans.new.items
+        ≡ values_at n spans.old.items ++ values_at n (span ∷ [])) }
+{
+    if let Some(before) = spans.last_mut() {
+        if goes_on(before, &span) {
+            before.last = span.last;
+            return Ok(());
+        }
+    }
+    spans.push(span)?;
     Ok(())
+}
+
+// Whether a span says the same as another, from the row behind that on.
+fn goes_on<T: Noted>(before: &Span<T>, span: &Span<T>) -> bool
+    ensures { IsTrue result → GoesOn before.now span.now }
+{
+    before.value.is(span.value) && before.first < span.first && before.last == span.first - 1
 }
 
 // The last row before the next change, and at most `to`.
 fn last_row<T>(behind: &[(u32, T)], to: u32) -> u32
-    ensures { result ≡ last_before to behind.now }
+    ensures is { result ≡ last_before to behind.now }
+    ensures within { result ≤ to }
 {
     match behind.first() {
         Some((row, _)) => to.min(row.saturating_sub(1)),
@@ -69,75 +103,19 @@ fn last_row<T>(behind: &[(u32, T)], to: u32) -> u32
 // The changes from the last on that isn't behind the row.
 fn from_row<T>(changes: &[(u32, T)], row: u32) -> &[(u32, T)]
     requires { IsTrack changes.now }
-    ensures ascends { AllPairs (λ change later. change.0 < later.0) result.now }
+    ensures ascends { Ascend result.now }
     ensures same { (n : ℕ) → row ≤ n → value_in n result.now ≡ value_in n changes.now }
 {
-    let past = changes.partition_point(|change| change.0 <= row);
+    let past = count_up_to(changes, row);
     &changes[past.saturating_sub(1)..]
 }
 
 // The changes up to the row.
 fn up_to_row<T>(changes: &[(u32, T)], row: u32) -> &[(u32, T)]
-    requires { AllPairs (λ change later. change.0 < later.0) changes.now }
-    ensures ascends { AllPairs (λ change later. change.0 < later.0) result.now }
+    requires { Ascend changes.now }
+    ensures ascends { Ascend result.now }
     ensures same { (n : ℕ) → n ≤ row → value_in n result.now ≡ value_in n changes.now }
 {
-    let past = changes.partition_point(|change| change.0 <= row);
+    let past = count_up_to(changes, row);
     &changes[..past]
-}
-
-/// The spans of two tracks together, by the spans of one and the changes of the other.
-pub fn paired<T: Copy, U: Copy>(
-    alloc: Global,
-    spans_of_one: &[Span<T>],
-    changes: &[(u32, U)],
-) -> Result<Vec<Span<(T, U)>>, AllocError>
-    requires { IsTrack changes.now }
-    ensures within { (from to : ℕ) → All (IsWithin from to) spans_of_one.now
-        → IfOk result (λ pairs. All (IsWithin from to) pairs.items) }
-    ensures values { IfOk result (λ pairs. (from to n : ℕ)
-        → All (IsWithin from to) spans_of_one.now → from ≤ n → n ≤ to
-        → values_at n pairs.items
-        ≡ beside (value_in n changes.now) (values_at n spans_of_one.now)) }
-{
-    let mut pairs = Vec::new(alloc);
-    for span in spans_of_one {
-        let others = spans(alloc, changes, span.first, span.last)?;
-        push_pairs(&mut pairs, &span.value, &others)?;
-    }
-    Ok(pairs)
-}
-
-// The spans of the other track in the rows of one span.
-fn push_pairs<T: Copy, U: Copy>(
-    pairs: &mut Vec<Span<(T, U)>>,
-    value: &T,
-    others: &[Span<U>],
-) -> Result<(), AllocError>
-    ensures { OnOk result (pairs.new.items
-        ≡ pairs.old.items ++ map (with_value value.now) others.now) }
-{
-    for other in others {
-        push_pair(pairs, value, other)?;
-    }
-    Ok(())
-}
-
-fn push_pair<T: Copy, U: Copy>(
-    pairs: &mut Vec<Span<(T, U)>>,
-    value: &T,
-    other: &Span<U>,
-) -> Result<(), AllocError>
-    ensures { OnOk result (pairs.new.items
-        ≡ pairs.old.items ++ with_value value.now other.now ∷ []) }
-{
-    put(pairs, other.first, other.last, (*value, other.value))
-}
-
-fn put<T: Copy>(spans: &mut Vec<Span<T>>, first: u32, last: u32, value: T) -> Result<(), AllocError>
-    ensures { OnOk result (spans.new.items
-        ≡ spans.old.items ++ record { first = first; last = last; value = value } ∷ []) }
-{
-    spans.push(Span { first, last, value })?;
-    Ok(())
 }

@@ -1,10 +1,10 @@
 //! The strips of priorities: by which threads run, and their own.
-ghost use Rattle.std.specs.Prelude.{◌≡◌, ℕ, ◌<◌, ◌≤◌, ◌++◌, ◌==◌, [], map, length, if◌then◌else◌, IfOk, OnOk};
+ghost use Rattle.std.specs.Prelude.{◌≡◌, ℕ, ◌≤◌, length, filter_map, Some, IfOk, OnOk};
 ghost use Rattle.std.specs.List.{All};
-ghost use Rattle.run_chart.specs.Spans.{values_at, IsWithin};
-ghost use Rattle.run_chart.specs.Steps.{numbers_of, prios_at, strip_tells, strips_tell, IsStepOf};
+ghost use Rattle.run_chart.specs.Spans.{values_at, Adds, Draws, IsWithin};
+ghost use Rattle.run_chart.specs.Steps.{numbers_of, step_drawn, strip_tells};
 
-use crate::spans::{Span, paired, spans};
+use crate::spans::{Span, spans};
 use chart_layout::PrioSpan;
 use lock_model::{Prio, ThreadNo};
 use run_tracks::ThreadRows;
@@ -18,10 +18,8 @@ pub fn steps(
     to: u32,
 ) -> Result<Vec<PrioSpan>, AllocError>
     requires { length threads.now ≤ 256 }
-    ensures prios { IfOk result (λ steps. (t n : ℕ) → from ≤ n → n ≤ to
-        → prios_at t n steps.items ≡ strips_tell t n threads.now) }
-    ensures within { IfOk result (λ steps.
-        All (IsStepOf (length threads.now) from to) steps.items) }
+    ensures { IfOk result (λ steps.
+        Draws step_drawn (length threads.now) from to strip_tells threads.now steps.items) }
 {
     let mut steps = Vec::new(alloc);
     for (t, rows) in threads.iter().enumerate() {
@@ -38,15 +36,10 @@ fn push_thread(
     from: u32,
     to: u32,
 ) -> Result<(), AllocError>
-    ensures prios { OnOk result ((t n : ℕ) → from ≤ n → n ≤ to
-        → prios_at t n steps.new.items ≡ prios_at t n steps.old.items
-        ++ (if t == thread.0 then strip_tells n rows.now else [])) }
-    ensures within { OnOk result ((threads : ℕ) → thread.0 < threads
-        → All (IsStepOf threads from to) steps.old.items
-        → All (IsStepOf threads from to) steps.new.items) }
+    ensures { OnOk result (Adds step_drawn thread.0 from to steps.old.items steps.new.items
+        (λ n. strip_tells n rows.now)) }
 {
-    let effective = spans(alloc, rows.effective.changes(), from, to)?;
-    let prios = paired(alloc, &effective, rows.base.changes())?;
+    let prios = spans(alloc, &rows.row, from, to, |row| (row.effective, row.base))?;
     push_strip(steps, thread, &prios)
 }
 
@@ -55,12 +48,9 @@ fn push_strip(
     thread: ThreadNo,
     spans: &[Span<(Prio, Prio)>],
 ) -> Result<(), AllocError>
-    ensures prios { OnOk result ((t n : ℕ) → prios_at t n steps.new.items
-        ≡ prios_at t n steps.old.items
-        ++ (if t == thread.0 then map numbers_of (values_at n spans.now) else [])) }
-    ensures within { OnOk result ((threads from to : ℕ) → thread.0 < threads
-        → All (IsWithin from to) spans.now → All (IsStepOf threads from to) steps.old.items
-        → All (IsStepOf threads from to) steps.new.items) }
+    ensures { OnOk result ((from to : ℕ) → All (IsWithin from to) spans.now
+        → Adds step_drawn thread.0 from to steps.old.items steps.new.items
+        (λ n. filter_map (λ prios. Some (numbers_of prios)) (values_at n spans.now))) }
 {
     for span in spans {
         let (effective, base) = span.value;

@@ -1,24 +1,29 @@
 -- What a turn leaves of a course, by who had it and its answer.
-use Rattle.std.proofs.Common.{◌≡◌, ◌⊎◌, ℕ, ◌+◌, Bool, true, false, cond, List, [], ◌∷◌, ◌++◌, map, length, Some, None, arith, sym, ap, subst, inl, inr, ◌∙◌}
+use Rattle.std.proofs.Common.{◌≡◌, ◌≢◌, ◌⊎◌, ℕ, ◌+◌, Bool, true, false, cond, List, [], ◌∷◌, ◌++◌, map, length, Option, Some, None, arith, refl, sym, ap, subst, inl, inr, ◌∙◌}
 use Rattle.std.proofs.lemmas.Bool.{cases_Bool, cases_lt}
 use Rattle.std.proofs.lemmas.Option.{same_Some}
 use Rattle.lock_history.specs.Outcomes.{line_seen}
 use Rattle.lock_history.specs.declared.outcome.QueueLine.{QueueLine}
+use Rattle.run_laws.proofs.Actions as actions
 use Rattle.run_laws.proofs.Idle.{changes_nothing}
+use Rattle.run_laws.proofs.OtherThreads.{own_steps}
+use Rattle.run_laws.proofs.Shares.{all_leave}
+use Rattle.lock_model.specs.Holds.{Hold}
+use Rattle.lock_model.specs.declared.plan.Mode.{Mode}
 use Rattle.lock_model.specs.Plans.{config_of}
 use Rattle.lock_model.specs.Words.{word_of}
 use Rattle.lock_model.specs.declared.plan.Plan.{Plan}
 use Rattle.lock_model.specs.declared.turn.Turn.{Turn}
 use Rattle.lock_model.specs.declared.turn.Turn.TheVariants.{Idle, Ended}
-use Rattle.lock_objects.specs.Represents.{walk_of, hold_of, wait_of}
+use Rattle.lock_objects.specs.Represents.{hold_of}
 use Rattle.lock_state.specs.Run as run
-use Rattle.lock_state.specs.Run.{Run, after_turn, course_after, go_on, has_ended, is_over, queue_lines, round_of, run_behind, start_course, turn_of, with_turn, first_turn, next_turn}
+use Rattle.lock_state.specs.Run.{Run, after_turn, course_after, go_on, is_over, queue_lines, round_of, run_behind, start_course, turn_of, with_turn, first_turn, next_turn}
 use Rattle.step_world.specs.Courses.{Course, IsCourse}
 use Rattle.step_world.specs.Worlds.{World, Represents}
 use Rattle.run_laws.proofs.TurnsOfCourses.{none_made, one_more, stays_over}
-use Rattle.run_rows.specs.Making.{HasMade, IsAt}
-use Rattle.run_tracks.specs.Rows.{IsWhereItStands, TellsColumns, TellsThread, run_in}
-use Rattle.run_tracks.specs.Tracks.{Tells}
+use Rattle.run_rows.specs.Making.{HasMade, IsAt, OthersHoldOn}
+use Rattle.run_tracks.specs.Rows.{IsThread, TellsColumns, TellsThread, run_in}
+use Rattle.run_tracks.specs.Tracks.{EachTells, Tells}
 use Rattle.run_rows.specs.declared.columns.Columns.{Columns}
 use Rattle.run_tracks.specs.declared.threads.ThreadRows.{ThreadRows}
 use Rattle.run_tracks.specs.declared.rows.TurnRow.{TurnRow}
@@ -63,7 +68,29 @@ same_run plan n t a h idle = ap (λ (k : run.Course). k.run) (one_more plan n) �
     its (inl e) = inl (sym h.answer ∙ e)
     its (inr e) = inr (sym h.answer ∙ e)
 
+-- each other thread holds what it held
+keeps_holds : (plan : Plan) (r : Run) (t u : ℕ) → u ≢ t → (run_behind plan r t).state.held u ≡ r.state.held u
+unfolding run_behind
+keeps_holds plan r t u other =
+    let action = turn_of plan r t in
+    (all_leave (config_of plan) u t r.state action.steps (λ e. other (sym e)) (own_steps plan r t action (actions.fits plan r t))).held
+
+pub others_hold : (plan : Plan) (n t : ℕ) (a : Turn) → IsMade plan (course_after plan n) t a → OthersHoldOn (run_in plan) (n + 1) t
+others_hold plan n t a h =
+    record {
+      before = n;
+      is = refl;
+      held = λ u other. ap (λ (k : run.Course). k.run.state.held u) (one_more plan n) ∙ ap (λ (r : Run). r.state.held u) h.behind ∙ keeps_holds plan (run_in plan n) t u other;
+    }
+
 -- 2. Columns that stay
+
+pub holds_stay : (runs : ℕ → Run) (row who t : ℕ) (held : List (List (ℕ × Option Mode))) → OthersHoldOn runs row who → t ≢ who → EachTells held row (λ l n mode. hold_of mode ≡ (runs n).state.held t l)
+    → EachTells held (row + 1) (λ l n mode. hold_of mode ≡ (runs n).state.held t l)
+holds_stay runs row who t held h other told l track e =
+    let stayed : (runs h.before).state.held t l ≡ (runs (h.before + 1)).state.held t l = sym (ap (λ (f : ℕ → Hold). f l) (h.held t other)) ∙ ap (λ (n : ℕ). (runs n).state.held t l) h.is in
+    subst (λ (n : ℕ). Tells track (n + 1) (λ m mode. hold_of mode ≡ (runs m).state.held t l)) (sym h.is)
+    (stays (λ n mode. hold_of mode ≡ (runs n).state.held t l) track h.before (subst (λ (n : ℕ). Tells track n (λ m mode. hold_of mode ≡ (runs m).state.held t l)) h.is (told l track e)) (λ mode so. so ∙ stayed))
 
 module _ (runs : ℕ → Run) (n : ℕ) (same : runs (n + 1) ≡ runs n) where
   -- what was so is so still
@@ -72,13 +99,7 @@ module _ (runs : ℕ → Run) (n : ℕ) (same : runs (n + 1) ≡ runs n) where
 
   threads_stay : (plan : Plan) (t : ℕ) (thread : ThreadRows) → TellsThread plan runs (n + 1) t thread → TellsThread plan runs (n + 1 + 1) t thread
   threads_stay plan t thread h = record {
-    base = still (λ r p. p.0 ≡ r.state.base t) thread.base h.base;
-    effective = still (λ r p. p.0 ≡ r.state.effective t) thread.effective h.effective;
-    wait = still (λ r w. wait_of w ≡ r.state.wait t) thread.wait h.wait;
-    blocked_on = still (λ r q. q ≡ r.state.blocked_on t) thread.blocked_on h.blocked_on;
-    stands_on = still (λ r on. IsWhereItStands r.state t on) thread.stands_on h.stands_on;
-    walk = still (λ r w. walk_of w ≡ r.state.walk t) thread.walk h.walk;
-    ended = still (λ r e. e ≡ has_ended plan r t) thread.ended h.ended;
+    row = still (λ r row. IsThread plan r t row) thread.row h.row;
     locks = h.locks;
     held = λ l track e. still (λ r mode. hold_of mode ≡ r.state.held t l) track (h.held l track e);
   }

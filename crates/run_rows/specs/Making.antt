@@ -1,11 +1,17 @@
 -- A run under way, whose rows are made turn by turn.
-use Rattle.std.specs.Prelude.{◌≡◌, ℕ, ◌+◌, ◌<◌, ◌≤◌, true, List, length, slice_get, Option, Some, None}
+use Rattle.std.specs.Prelude.{◌≡◌, ◌≢◌, ℕ, ◌+◌, ◌<◌, ◌≤◌, true, List, length, slice_get, Option, Some, None}
 use Rattle.lock_model.specs.declared.plan.Plan.{Plan}
-use Rattle.lock_state.specs.Run.{course_after, is_over}
+use Rattle.lock_state.specs.Run.{Run, course_after, is_over}
 use Rattle.step_world.specs.Courses.{Course, IsCourse}
 use Rattle.run_tracks.specs.Rows.{IsTurn, TellsColumns, run_in}
 use Rattle.run_rows.specs.declared.columns.Columns.{Columns}
 use Rattle.run_tracks.specs.declared.rows.TurnRow.{TurnRow}
+
+-- in a row each thread but the one that had the turn before it holds what it held
+pub record OthersHoldOn (runs : ℕ → Run) (row who : ℕ) : Type 0 where
+  pub before : ℕ
+  pub is : row ≡ before + 1
+  pub held : (t : ℕ) → t ≢ who → (runs row).state.held t ≡ (runs before).state.held t
 
 -- the course is that of the plan behind n turns, and the tracks tell of the rows up to there
 pub record IsAt (plan : Plan) (chains n : ℕ) (course : Course) (columns : Columns) : Type 0 where

@@ -1,15 +1,17 @@
 //! The tracks of a run: of each thread, of each lock's word, and of the queues. Behind a turn that changed something
-//! each track notes what it is now.
+//! each track notes what it is now, but for those of what other threads hold, since a turn changes only what its own
+//! thread holds.
 ghost use Rattle.std.specs.Prelude.{◌≡◌, ◌+◌, ◌<◌, ℕ, length, IfOk, OnOk};
 ghost use Rattle.lock_model.specs.Words.{word_of};
 ghost use Rattle.lock_state.specs.Run.{Run};
-ghost use Rattle.run_tracks.specs.Rows.{TellsColumns, TellsThread, TellsThreads};
+ghost use Rattle.run_rows.specs.Making.{OthersHoldOn};
+ghost use Rattle.run_tracks.specs.Rows.{IsThread, TellsColumns, TellsThread, TellsThreads};
 ghost use Rattle.run_tracks.specs.Tracks.{EachTells};
 ghost use Rattle.lock_objects.specs.Represents.{hold_of};
 ghost use Rattle.step_world.specs.Worlds.{Represents};
 
 use lock_model::{LockNo, Mode, Sequence, ThreadNo};
-use run_tracks::{QueueRows, ThreadRows, Track};
+use run_tracks::{QueueRows, ThreadRow, ThreadRows, Track};
 use std::alloc::{AllocError, Global};
 use std::mem;
 use step_world::World;
@@ -36,70 +38,80 @@ impl Columns {
         })
     }
 
-    /// Notes what the world is in the next row.
+    /// Notes what the world is in the next row, behind a turn of a thread.
     pub(crate) fn note(
         &mut self,
         alloc: Global,
         world: &World<'_>,
+        who: ThreadNo,
         row: u32,
     ) -> Result<(), AllocError>
         requires { (runs : ℕ → Run) × TellsColumns world.now.plan world.now.chains runs row
             self.old.threads.items self.old.words.items self.old.queues }
         ensures { OnOk result ((runs : ℕ → Run) → Represents world.now (runs row)
+            → OthersHoldOn runs row who.0
             → TellsColumns world.now.plan world.now.chains runs row
             self.old.threads.items self.old.words.items self.old.queues
             → TellsColumns world.now.plan world.now.chains runs (row + 1)
             self.new.threads.items self.new.words.items self.new.queues) }
     {
-        note_threads(&mut self.threads, alloc, world, row)?;
+        note_threads(&mut self.threads, alloc, world, who, row)?;
         note_words(&mut self.words, world, row)?;
         self.queues
             .keep(row, Sequence::from_vec(world.queues(alloc)?))
     }
 }
 
-// Those of a thread at the begin.
+// What a thread is, but for what it holds.
+fn row_of(world: &World<'_>, t: ThreadNo) -> ThreadRow
+    requires { t.0 < length world.now.plan.threads }
+    ensures { (run : Run) → Represents world.now run → IsThread world.now.plan run t.0 result }
+{
+    let (base, effective) = world.priorities(t);
+    ThreadRow {
+        base,
+        effective,
+        wait: world.wait(t),
+        blocked_on: world.blocked_on(t),
+        stands_on: world.stands_on(t),
+        walk: world.walk(t),
+        ended: world.has_ended(t),
+    }
+}
+
+// The tracks of a thread at the begin.
 fn begin_thread(alloc: Global, world: &World<'_>, t: ThreadNo) -> Result<ThreadRows, AllocError>
     requires { t.0 < length world.now.plan.threads }
     ensures { IfOk result (λ a. (runs : ℕ → Run) → Represents world.now (runs 0)
         → TellsThread world.now.plan runs 1 t.0 a) }
 {
-    let (base, effective) = world.priorities(t);
     Ok(ThreadRows {
-        base: Track::begin(alloc, base)?,
-        effective: Track::begin(alloc, effective)?,
-        wait: Track::begin(alloc, world.wait(t))?,
-        blocked_on: Track::begin(alloc, world.blocked_on(t))?,
-        stands_on: Track::begin(alloc, world.stands_on(t))?,
-        walk: Track::begin(alloc, world.walk(t))?,
-        ended: Track::begin(alloc, world.has_ended(t))?,
+        row: Track::begin(alloc, row_of(world, t))?,
         held: Sequence::from_vec(begin_holds(alloc, world, t)?),
     })
 }
 
-// Notes what a thread is in the next row.
+// Notes what a thread is in the next row, and what it holds there if it had the turn.
 fn note_thread(
     tracks: &mut ThreadRows,
     alloc: Global,
     world: &World<'_>,
     t: ThreadNo,
+    who: ThreadNo,
     row: u32,
 ) -> Result<(), AllocError>
     requires thread { t.0 < length world.now.plan.threads }
     requires told { (runs : ℕ → Run) × TellsThread world.now.plan runs row t.0 tracks.old }
     ensures { OnOk result ((runs : ℕ → Run) → Represents world.now (runs row)
-        → TellsThread world.now.plan runs row t.0 tracks.old
+        → OthersHoldOn runs row who.0 → TellsThread world.now.plan runs row t.0 tracks.old
         → TellsThread world.now.plan runs (row + 1) t.0 tracks.new) }
 {
-    let (base, effective) = world.priorities(t);
-    tracks.base.note(row, base)?;
-    tracks.effective.note(row, effective)?;
-    tracks.wait.note(row, world.wait(t))?;
-    tracks.blocked_on.note(row, world.blocked_on(t))?;
-    tracks.stands_on.note(row, world.stands_on(t))?;
-    tracks.walk.note(row, world.walk(t))?;
-    tracks.ended.note(row, world.has_ended(t))?;
-    note_holds(&mut tracks.held, alloc, world, t, row)
+    tracks.row.note(row, row_of(world, t))?;
+    if t == who {
+        note_holds(&mut tracks.held, alloc, world, t, row)
+    } else {
+        Ok(())
+    }
 }
 
 // Those of each thread at the begin.
@@ -151,17 +163,25 @@ fn note_threads(
     threads: &mut Vec<ThreadRows>,
     alloc: Global,
     world: &World<'_>,
+    who: ThreadNo,
     row: u32,
 ) -> Result<(), AllocError>
     requires number { length threads.old.items ≡ length world.now.plan.threads }
     requires told { (runs : ℕ → Run) × TellsThreads world.now.plan runs row threads.old.items }
     ensures number { OnOk result (length threads.new.items ≡ length threads.old.items) }
     ensures told { OnOk result ((runs : ℕ → Run) → Represents world.now (runs row)
-        → TellsThreads world.now.plan runs row threads.old.items
+        → OthersHoldOn runs row who.0 → TellsThreads world.now.plan runs row threads.old.items
         → TellsThreads world.now.plan runs (row + 1) threads.new.items) }
 {
     for t in 0..world.threads() {
-        note_thread(&mut threads[usize::from(t)], alloc, world, ThreadNo(t), row)?;
+        note_thread(
+            &mut threads[usize::from(t)],
+            alloc,
+            world,
+            ThreadNo(t),
+            who,
+            row,
+        )?;
     }
     Ok(())
 }

@@ -9,4 +9,4 @@ mod columns;
 mod rows;
 
 pub use rows::rows_of;
-pub use run_tracks::{Noted, QueueRows, Rows, ThreadRows, Track, TurnRow};
+pub use run_tracks::{Noted, QueueRows, Rows, ThreadRow, ThreadRows, Track, TurnRow};

@@ -17,7 +17,7 @@ use step_world::Course;
 ///
 /// ```
 /// let rows = rows_of(alloc, &plan, 16, 1000)?;
-/// let lent = rows.threads.as_slice()[0].effective.changes();
+/// let lent = rows.threads.as_slice()[0].row.at(7).effective;
 /// ```
 pub fn rows_of(alloc: Global, plan: &Plan, chains: u32, turns: u32) -> Result<Rows, AllocError>
     requires proper { IsProper plan.now }
@@ -80,7 +80,7 @@ fn make_turn(
     };
     let world = course.world();
     match answer {
-        Turn::Did(_) => columns.note(alloc, world, n + 1)?,
+        Turn::Did(_) => columns.note(alloc, world, who, n + 1)?,
         Turn::Idle | Turn::Ended => {}
     }
     Ok(Some(TurnRow {

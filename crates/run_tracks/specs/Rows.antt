@@ -11,6 +11,7 @@ use Rattle.lock_objects.specs.Represents.{walk_of, hold_of, wait_of}
 use Rattle.lock_state.specs.Run.{Run, course_after, has_ended, is_over, queue_lines, scheduled_run, HasLegalHistory, next_turn}
 use Rattle.lock_state.specs.State.{State}
 use Rattle.run_tracks.specs.Tracks.{Tells, EachTells}
+use Rattle.run_tracks.specs.declared.threads.ThreadRow.{ThreadRow}
 use Rattle.run_tracks.specs.declared.threads.ThreadRows.{ThreadRows}
 use Rattle.run_tracks.specs.declared.rows.Rows.{Rows}
 use Rattle.run_tracks.specs.declared.rows.TurnRow.{TurnRow}
@@ -31,16 +32,20 @@ pub record IsTurn (plan : Plan) (n : ℕ) (turn : TurnRow) : Type 0 where
 abbrev pub IsWhereItStands : State → ℕ → Option QueueName → Type 0
 IsWhereItStands s t on = (q : QueueName) → on ≡ Some q ↔ 0 < stands t (s.lists q)
 
--- the tracks of a thread, and of each lock that it may hold
+-- what a thread was in a run, but for what it held
+pub record IsThread (plan : Plan) (run : Run) (t : ℕ) (row : ThreadRow) : Type 0 where
+  pub base : row.base.0 ≡ run.state.base t
+  pub effective : row.effective.0 ≡ run.state.effective t
+  pub wait : wait_of row.wait ≡ run.state.wait t
+  pub blocked_on : row.blocked_on ≡ run.state.blocked_on t
+  pub stands_on : IsWhereItStands run.state t row.stands_on
+  pub walk : walk_of row.walk ≡ run.state.walk t
+  pub ended : row.ended ≡ has_ended plan run t
+
+-- the track of a thread's rows, and that of each lock that it may hold
 pub record TellsThread (plan : Plan) (runs : ℕ → Run) (rows t : ℕ) (thread : ThreadRows) : Type 0
   where
-    pub base : Tells thread.base rows (λ n p. p.0 ≡ (runs n).state.base t)
-    pub effective : Tells thread.effective rows (λ n p. p.0 ≡ (runs n).state.effective t)
-    pub wait : Tells thread.wait rows (λ n w. wait_of w ≡ (runs n).state.wait t)
-    pub blocked_on : Tells thread.blocked_on rows (λ n q. q ≡ (runs n).state.blocked_on t)
-    pub stands_on : Tells thread.stands_on rows (λ n on. IsWhereItStands (runs n).state t on)
-    pub walk : Tells thread.walk rows (λ n w. walk_of w ≡ (runs n).state.walk t)
-    pub ended : Tells thread.ended rows (λ n e. e ≡ has_ended plan (runs n) t)
+    pub row : Tells thread.row rows (λ n row. IsThread plan (runs n) t row)
     pub locks : length thread.held ≡ length plan.locks
     pub held : EachTells thread.held rows (λ l n mode. hold_of mode ≡ (runs n).state.held t l)
 

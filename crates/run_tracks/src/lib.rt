@@ -3,7 +3,7 @@
 //! (`specs/Rows.antt`); `run_rows` makes them.
 //!
 //! - `track`: what one thing was, row by row, kept as its changes.
-//! - `threads`: the tracks of a thread.
+//! - `threads`: what a thread was in a row.
 //! - `rows`: a whole run.
 #![tactic(auto)]
 
@@ -14,5 +14,5 @@ mod track;
 pub use lock_objects::Wait;
 pub use prio_lending::Walk;
 pub use rows::{QueueRows, Rows, TurnRow};
-pub use threads::ThreadRows;
-pub use track::{Noted, Track};
+pub use threads::{ThreadRow, ThreadRows};
+pub use track::{Noted, Track, count_up_to};

@@ -1,8 +1,8 @@
 //! What one thing was between turns. A track keeps the value of row 0 and each change with the row from which on it
 //! holds, so its memory is in proportion to what changed.
-ghost use Rattle.std.specs.Prelude.{◌≡◌, ◌⊎◌, ◌↔◌, ℕ, ◌<◌, [], ◌∷◌, ◌++◌, nat_le, Some, IfOk, OnOk, OnErr, IsTrue};
+ghost use Rattle.std.specs.Prelude.{◌≡◌, ◌⊎◌, ◌↔◌, ℕ, ◌<◌, ◌≤◌, [], ◌∷◌, ◌++◌, length, Some, IfOk, OnOk, OnErr, IsTrue};
 ghost use Rattle.std.specs.List.{All};
-ghost use Rattle.run_tracks.specs.Tracks.{IsTrack, value_in};
+ghost use Rattle.run_tracks.specs.Tracks.{value_in, Ascend, IsTrack, LieUpTo};
 
 use lock_model::{Mode, Prio, QueueName};
 use lock_objects::Wait;
@@ -69,9 +69,18 @@ impl<T> Track<T> {
     pub fn get(&self, row: u32) -> &T
         ensures { value_in row self.now ≡ Some result.now }
     {
-        let behind = self.changes.partition_point(|change| change.0 <= row);
+        let behind = count_up_to(&self.changes, row);
         &self.changes[behind - 1].1
     }
+}
+
+/// How many changes lie up to a row, found in time in the logarithm of all.
+pub fn count_up_to<T>(changes: &[(u32, T)], row: u32) -> usize
+    requires { Ascend changes.now }
+    ensures within { result ≤ length changes.now }
+    ensures up_to { LieUpTo row changes.now result }
+{
+    changes.partition_point(|change| change.0 <= row)
 }
 
 impl<T: Noted> Track<T> {
@@ -113,6 +122,12 @@ impl Noted for Prio {
     }
 }
 
+impl Noted for (Prio, Prio) {
+    fn is(self, other: (Prio, Prio)) -> bool {
+        self == other
+    }
+}
+
 impl Noted for Wait {
     fn is(self, other: Wait) -> bool {
         self == other
@@ -133,12 +148,6 @@ impl Noted for Option<QueueName> {
 
 impl Noted for Option<Mode> {
     fn is(self, other: Option<Mode>) -> bool {
-        self == other
-    }
-}
-
-impl Noted for bool {
-    fn is(self, other: bool) -> bool {
         self == other
     }
 }

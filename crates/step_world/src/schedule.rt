@@ -267,7 +267,8 @@ impl<'p> Course<'p> {
         let turn = self.world.act(t);
         let sleeps = self.world.sleeps(t);
         self.asleep = asleep_behind(self.asleep, t, sleeps, woken);
-        if self.world.has_ended(t) {
+        // One that sleeps hasn't ended.
+        if !sleeps && self.world.has_ended(t) {
             self.going.take_out(t);
         }
         turn

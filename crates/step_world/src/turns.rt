@@ -156,7 +156,8 @@ fn make_operation(machine: &mut Machine, plan: &Plan, t: ThreadNo, op: Op) -> Ma
     }
 }
 
-// An operation that only makes an entry, which the run may make.
+// An operation that only makes an entry, which the run may make. It is inlined, since each call knows its event.
+#[inline(always)]
 fn note(machine: &mut Machine, plan: &Plan, t: ThreadNo, event: Event) -> Made
     requires proper { IsProper plan.now }
     requires thread { t.0 < length plan.now.threads }

@@ -7,7 +7,7 @@ ghost use Rattle.lock_state.specs.Run.{Run, start_run, turn_of, run_behind, has_
 ghost use Rattle.run_laws.specs.OnTrack.{IsSleeping};
 ghost use Rattle.lock_state.specs.Best.{HasBest, HasCycle};
 ghost use Rattle.lock_objects.specs.Marked.{places_of};
-ghost use Rattle.step_world.specs.Worlds.{Represents, first_marked, first_thread};
+ghost use Rattle.step_world.specs.Worlds.{IsSound, Represents, first_marked, first_thread};
 
 use crate::turns::{act, turn};
 use lock_model::{Plan, ThreadNo, Turn};
@@ -65,6 +65,30 @@ impl<'p> World<'p> {
             chains,
             machine,
         })
+    }
+
+    /// The world again whose objects these are, with its plan and its number of chains. It takes no memory.
+    ///
+    /// ```
+    /// let world = World::of_machine(&plan, 16, world.into_machine());
+    /// ```
+    pub fn of_machine(plan: &'p Plan, chains: u32, machine: Machine) -> World<'p>
+        requires { IsSound (record {
+          plan = plan.now;
+          chains = chains;
+          machine = machine;
+        }) }
+        ensures { result ≡ record {
+          plan = plan.now;
+          chains = chains;
+          machine = machine;
+        } }
+    {
+        World {
+            plan,
+            chains,
+            machine,
+        }
     }
 
     /// Makes one turn of a thread, which the plan declares: the first action that fits, with its answer.
@@ -167,9 +191,10 @@ impl<'p> World<'p> {
         &self.machine
     }
 
-    /// The objects.
-    pub(crate) fn into_machine(self) -> Machine
-        ensures { result ≡ self.entry.machine }
+    /// The objects, which let go of the plan: `of_machine` makes the world of them again.
+    pub fn into_machine(self) -> Machine
+        ensures objects { result ≡ self.entry.machine }
+        ensures sound { IsSound self.entry }
     {
         self.machine
     }

@@ -1,8 +1,6 @@
 //! Logs, histories and tables, and printed texts.
 use crate::briefs::plan_of;
-use lock_history::{
-    History, Last, Log, Outcome, QueueLine, Tables, merge, print, print_fault, replay,
-};
+use lock_history::{History, Last, Log, Outcome, QueueLine, Tables, merge, print, print_fault};
 use lock_model::{
     ChanNo, ClassNo, Entry, Event, LockNo, Mode, Prio, QueueName, Sequence, ThreadNo,
 };
@@ -77,6 +75,25 @@ fn edits(rt: HostRuntime) -> Result<(), Fail> {
         assert!(rt; tables.get(M, *key) == Some(*value), "{value} at {key}");
         assert!(rt; tables.at(0) == Some((M, 1, 5)));
     }
+    Ok(())
+}
+
+// A copy keeps the values that it has when the tables are edited that it was made of.
+#[test]
+fn a_copy_of_tables(rt: HostRuntime) -> Result<(), Fail> {
+    let mut tables = Tables::with_room(rt.alloc(), &[])?;
+    tables.edit(Event::Set {
+        l: M,
+        key: 1,
+        value: 5,
+    })?;
+    let copy = tables.clone()?;
+    tables.edit(Event::Set {
+        l: M,
+        key: 1,
+        value: 6,
+    })?;
+    assert!(rt; (tables.get(M, 1), copy.get(M, 1)) == (Some(6), Some(5)));
     Ok(())
 }
 
@@ -267,7 +284,10 @@ fn history_with(alloc: Global, event: Event) -> Result<History, Fail> {
 
 fn outcome_with(alloc: Global, event: Event, last: Last) -> Result<Outcome, Fail> {
     let history = history_with(alloc, event)?;
-    let tables = replay(alloc, &history)?;
+    let mut tables = Tables::with_room(alloc, &[])?;
+    for entry in history.as_slice() {
+        tables.edit(entry.event)?;
+    }
     let queues = queues(alloc)?;
     let finals = Vec::from_slice(alloc, FINALS)?;
     Ok(Outcome {

@@ -236,6 +236,7 @@ fn unlock(machine: &mut Machine, plan: &Plan, t: ThreadNo, l: LockNo) -> StepKin
 
 /// A thread gives a lock back in the mode in which it holds it: where another holder stays or no waiter is shown by a
 /// drop, and else by an open, for which waiters are taken off, to be woken.
+#[inline(always)]
 pub fn give_back(machine: &mut Machine, plan: &Plan, t: ThreadNo, l: LockNo) -> StepKind
     requires may { HasState plan.now machine.old
         (λ s. (mode : modes.Mode) × MayGiveBack (config_of plan.now) s t.0 l.0 mode) }

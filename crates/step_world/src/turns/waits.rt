@@ -90,6 +90,7 @@ pub fn sleep(machine: &mut Machine, plan: &Plan, t: ThreadNo, c: ChanNo) -> Made
 }
 
 /// A wake takes sleepers off the channel, the best or all, and notes who they are.
+#[inline(always)]
 pub fn wake(machine: &mut Machine, plan: &Plan, t: ThreadNo, c: ChanNo, all: bool) -> Made
     requires proper { IsProper plan.now }
     requires thread { t.0 < length plan.now.threads }

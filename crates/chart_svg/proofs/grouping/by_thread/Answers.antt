@@ -1,30 +1,27 @@
-use Rattle.std.proofs.Common.{◌∙◌, ◌<◌, ℕ, rules, subst, sym, refl}
-use Rattle.chart_svg.proofs.Laying.{by_thread_more, own_more}
-use Rattle.chart_svg.proofs.Standing.{all_in_all}
-use Rattle.chart_svg.specs.Lanes.{IsAt}
+use Rattle.std.proofs.Common.{◌∙◌, ◌++◌, ◌<◌, ◌==◌, ℕ, [], ◌∷◌, ap, cond, subst, sym}
+use Rattle.std.proofs.lemmas.List.{take_all}
+use Rattle.chart_svg.proofs.Laying.{of_thread_more}
+use Rattle.chart_svg.specs.Lanes.{of_thread}
 use Rattle.chart_svg.proofs.grouping.by_thread.Goals as goal
 
 pub loop-thing-init : goal.loop-thing-init
-loop-thing-init g c = record {
-  len = c.in_ok-lists.ensures.len;
-  has = search rules;
-  own = λ at thing is. absurd (c.in_ok-lists.ensures.none at thing is);
-}
+loop-thing-init g c = record { len = c.in_ok-lists.ensures.len; own = λ t lt. c.in_ok-lists.ensures.none t }
 
 pub loop-thing-preserved : goal.loop-thing-preserved
 loop-thing-preserved g c = record {
   len = c.put_at.ensures.len ∙ c.loop-thing.invariant.len;
-  has = by_thread_more g.T.OfThread.number c.args.things.now c.loop-thing.thing-index c.thing-item.result c.loop-thing.lists.items c.put_at.new.lists.items
-      c.args.threads c.from.result c.loop-thing-test.true c.thing-item.is (c.from.ensures ∙ c.thread.ensures) c.in_ok-put_at.ensures.keeps
-      (λ lt. let P : ℕ → Type 0 = λ n. c.from.result < n in c.in_ok-put_at.ensures.puts (subst P (sym c.loop-thing.invariant.len) lt))
-      c.loop-thing.invariant.has;
-  own = own_more g.T.OfThread.number c.args.things.now c.loop-thing.thing-index c.thing-item.result
-      c.loop-thing.lists.items c.put_at.new.lists.items
-      c.from.result c.loop-thing-test.true c.thing-item.is (c.from.ensures ∙ c.thread.ensures)
-      c.in_ok-put_at.ensures.only c.loop-thing.invariant.own;
+  own = λ t lt.
+      let number = g.T.OfThread.number in
+      let things = c.args.things.now in
+      let i = c.loop-thing.thing-index in
+      let In : ℕ → Type 0 = λ n. t < n in
+      let thing = c.thing-item.result in
+      c.in_ok-put_at.ensures.puts t (subst In (sym c.loop-thing.invariant.len) lt)
+      ∙ ap (λ xs. xs ++ cond (c.from.result == t) (thing ∷ []) []) (c.loop-thing.invariant.own t lt)
+      ∙ of_thread_more number things i t thing c.from.result c.loop-thing-test.true c.thing-item.is
+      (c.from.ensures ∙ c.thread.ensures);
 }
 
-pub returns-clause-has : goal.returns-clause-has
-returns-clause-has g c =
-    let P : g.row.T.Denot → Type 0 = λ thing. g.T.OfThread.number thing < c.args.threads → IsAt c.loop-thing.lists.items (g.T.OfThread.number thing) thing in
-    all_in_all P c.args.things.now c.args.things.now c.loop-thing.thing-index refl c.loop-thing-test.false c.loop-thing.invariant.has
+pub returns-clause-own : goal.returns-clause-own
+returns-clause-own g c = λ t lt. c.loop-thing.invariant.own t lt
+    ∙ ap (of_thread g.T.OfThread.number t) (take_all c.loop-thing.thing-index c.args.things.now c.loop-thing-test.false)

@@ -11,7 +11,9 @@ use Rattle.chart_svg.proofs.Standing.{all_in_all}
 use Rattle.chart_svg.proofs.page.prios_of.Goals as goal
 
 pub loop-step-preserved : goal.loop-step-preserved
-loop-step-preserved c = prios_more c.args.steps.now c.loop-step.step-index _ c.loop-step.prios.items c.push.new.self.items c.push-in-loop-step.new.self.items
+loop-step-preserved c =
+    prios_more c.args.steps.now c.loop-step.step-index _ c.loop-step.prios.items c.push.new.self.items
+    c.push-in-loop-step.new.self.items
     c.loop-step-test.true c.in_ok-push.ensures.items c.in_ok-push-2.ensures.items c.loop-step.invariant
 
 pub returns : goal.returns
@@ -22,6 +24,8 @@ returns c =
     × Contains c.dedup.new.self.items step.base in
     let is = dedup_is _ _ _ c.dedup.ensures.filtered in
     let kept : (p : Prio) → Contains c.loop-step.prios.items p → Contains c.dedup.new.self.items p =
-    λ p has. rw is (Contains-dedup (on_equiv (λ (prio : Prio). prio.0) nat_eq_equiv) same_prio _ p (Contains-permutation _ _ p c.sort_unstable.ensures.permutation has)) in
+    λ p has. rw is (Contains-dedup (on_equiv (λ (prio : Prio). prio.0) nat_eq_equiv) same_prio _ p
+    (Contains-permutation _ _ p c.sort_unstable.ensures.permutation has)) in
     All-weaker Old New (λ step has. (kept step.effective has.0, kept step.base has.1)) c.args.steps.now
-    (all_in_all Old c.args.steps.now c.args.steps.now c.loop-step.step-index refl c.loop-step-test.false c.loop-step.invariant)
+    (all_in_all Old c.args.steps.now c.args.steps.now c.loop-step.step-index refl c.loop-step-test.false
+    c.loop-step.invariant)

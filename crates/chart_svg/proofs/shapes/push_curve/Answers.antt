@@ -1,13 +1,12 @@
+use Rattle.std.proofs.Common.{◌∙◌, append_assoc}
 use Rattle.std.proofs.lemmas.Result.{on_ok_weaker}
-use Rattle.chart_svg.specs.Drawn.{class_bytes}
-use Rattle.chart_svg.specs.declared.tags.Tag.TheVariants.{Path}
-use Rattle.chart_svg.proofs.Standing.{opened, path, said, written_stands}
+use Rattle.chart_svg.proofs.Elements.{curve_whole}
 use Rattle.chart_svg.proofs.shapes.push_curve.Goals as goal
 
-pub returns-clause-stands : goal.returns-clause-stands
-returns-clause-stands c = on_ok_weaker c.close_tag_said.result
-    (λ e. written_stands (said Path c.args.said.now
-    (path c.args.path.now
-    (opened Path (class_bytes c.args.class) c.in_ok-open_tag.ensures.pushed) c.in_ok-push_path.ensures.pushed)
-    e))
-    c.close_tag_said.ensures.pushed
+pub push_elements-requires-clause-whole : goal.push_elements-requires-clause-whole
+push_elements-requires-clause-whole c = curve_whole c.as_bytes.result c.args.class.lock c.args.path c.args.said
+
+pub returns-clause-pushed : goal.returns-clause-pushed
+returns-clause-pushed c = on_ok_weaker c.push_elements.result
+    (λ e. e ∙ simp (append_assoc, c.as_bytes.ensures.value))
+    c.push_elements.ensures.pushed

@@ -1,13 +1,7 @@
-use Rattle.std.proofs.Common.{◌≡◌, ℕ, ◌≤◌, Bool, ◌&&◌, take}
-use Rattle.std.specs.List.{All}
-use Rattle.chart_layout.specs.declared.layout.BarKind.{BarKind}
-use Rattle.run_chart.specs.Bars.{is_said, threads_tell}
-use Rattle.run_chart.specs.Spans.{is_between}
+use Rattle.std.proofs.Common.{length, take}
+use Rattle.run_chart.specs.Bars.{bar_drawn, kinds_of}
+use Rattle.run_chart.specs.Spans.{Draws}
 use Rattle.run_chart.proofs.bars.bars.Given as goal
 
 abbrev pub invariant-loop-t : goal.invariant-loop-t
-invariant-loop-t l = record {
-  said : (passes : BarKind → Bool) (t n : ℕ)
-      → is_said passes t n l.bars.items ≡ (is_between l.from l.to n && threads_tell passes t n (take l.t l.threads));
-  lasts : All (λ bar. bar.first ≤ bar.last) l.bars.items;
-}
+invariant-loop-t l = Draws bar_drawn (length l.threads) l.from l.to kinds_of (take l.t l.threads) l.bars.items

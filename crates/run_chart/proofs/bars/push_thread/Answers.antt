@@ -1,8 +1,10 @@
-use Rattle.std.proofs.Common.{◌||◌, refl, subst}
+use Rattle.std.proofs.Common.{◌++◌, refl, rules, subst}
 use Rattle.std.proofs.lemmas.Result.{on_ok_weaker}
-use Rattle.run_chart.specs.Bars.{holds_tell, thread_tells, waits_tell, wakes_tell, walks_tell, Adds}
-use Rattle.run_chart.proofs.Said.{adds_more}
+use Rattle.run_chart.specs.Bars.{bar_drawn, holds_shown, kinds_of, waited_kind, walked_kind, woken_kind}
+use Rattle.run_chart.specs.Spans.{told_of, Adds}
+use Rattle.run_chart.proofs.Drawn.{adds_both, shown_is}
 use Rattle.run_chart.proofs.bars.push_thread.Goals as goal
+use Rattle.run_tracks.specs.Tracks.{value_in}
 
 pub returns : goal.returns
 returns c =
@@ -11,12 +13,14 @@ returns c =
     let from = c.args.from in
     let to = c.args.to in
     let old = c.args.bars.now.items in
-    let held : Adds from to t old c.push_holds.new.bars.items (λ passes n. holds_tell passes n rows.held) =
-    subst (λ held. Adds from to t old c.push_holds.new.bars.items (λ passes n. holds_tell passes n held)) c.as_slice.ensures c.in_ok-push_holds.ensures in
-    let stood = adds_more t from to old c.push_holds.new.bars.items c.push_waits.new.bars.items (λ passes n. holds_tell passes n rows.held) (λ passes n. waits_tell passes n rows)
-    (λ passes n. holds_tell passes n rows.held || waits_tell passes n rows) held c.in_ok-push_waits.ensures (λ passes n. refl) in
-    let woke = adds_more t from to old c.push_waits.new.bars.items c.push_wakes.new.bars.items (λ passes n. holds_tell passes n rows.held || waits_tell passes n rows) (λ passes n. wakes_tell passes n rows)
-    (λ passes n. (holds_tell passes n rows.held || waits_tell passes n rows) || wakes_tell passes n rows) stood c.in_ok-push_wakes.ensures (λ passes n. refl) in
-    on_ok_weaker c.push_walks.result
-    (λ walked. adds_more t from to old c.push_wakes.new.bars.items c.push_walks.new.bars.items (λ passes n. (holds_tell passes n rows.held || waits_tell passes n rows) || wakes_tell passes n rows)
-    (λ passes n. walks_tell passes n rows) (λ passes n. thread_tells passes n rows) woke walked (λ passes n. refl)) c.push_walks.ensures
+    let held : Adds bar_drawn t from to old c.push_holds.new.bars.items (λ n. holds_shown n rows.held) =
+    subst (λ held. Adds bar_drawn t from to old c.push_holds.new.bars.items (λ n. holds_shown n held)) c.as_slice.ensures c.in_ok-push_holds.ensures in
+    let stood = adds_both bar_drawn t from to old c.push_holds.new.bars.items c.push_shown.new.bars.items (λ n. holds_shown n rows.held) (λ n. told_of waited_kind (value_in n rows.row))
+    (λ n. holds_shown n rows.held ++ told_of waited_kind (value_in n rows.row)) held (c.in_ok-push_shown.ensures waited_kind (λ row u h. shown_is u (waited_kind row) (search rules))) (λ n. refl) in
+    let woke = adds_both bar_drawn t from to old c.push_shown.new.bars.items c.push_shown-2.new.bars.items (λ n. holds_shown n rows.held ++ told_of waited_kind (value_in n rows.row))
+    (λ n. told_of woken_kind (value_in n rows.row)) (λ n. (holds_shown n rows.held ++ told_of waited_kind (value_in n rows.row)) ++ told_of woken_kind (value_in n rows.row)) stood
+    (c.in_ok-push_shown-2.ensures woken_kind (λ row u h. shown_is u (woken_kind row) (search rules))) (λ n. refl) in
+    on_ok_weaker c.push_shown-3.result
+    (λ walked. adds_both bar_drawn t from to old c.push_shown-2.new.bars.items c.push_shown-3.new.bars.items
+    (λ n. (holds_shown n rows.held ++ told_of waited_kind (value_in n rows.row)) ++ told_of woken_kind (value_in n rows.row)) (λ n. told_of walked_kind (value_in n rows.row)) (λ n. kinds_of n rows) woke
+    (walked walked_kind (λ row u h. shown_is u (walked_kind row) (search rules))) (λ n. refl)) c.push_shown-3.ensures

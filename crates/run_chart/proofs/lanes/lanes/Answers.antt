@@ -11,10 +11,10 @@ loop-t-preserved c =
     let i : ℕ = c.loop-t.t in
     let threads = c.args.threads.now in
     let rows = c.index-threads-t.result in
-    let lane : Lane = record { thread = record { 0 = i }; ended = c.first_so-ended.result } in
+    let lane : Lane = record { thread = record { 0 = i }; ended = c.first_ended-ended.result } in
     let place : i ≡ length (take i threads) = let long = length-take-le i threads (omega (arith, c.loop-t-test.true)) in omega (arith, long) in
-    let ended : IsFirst rows.ended c.first_so-ended.result =
-    subst (IsFirst rows.ended) (sym (c.first_so-ended.ensures ∙ ap first_row c.changes.ensures.changes)) (is_first rows.ended c.changes.ensures.track) in
+    let ended : IsFirst rows.row c.first_ended-ended.result =
+    subst (IsFirst rows.row) (sym (c.first_ended-ended.ensures ∙ ap first_row c.changes.ensures.changes)) (is_first rows.row c.changes.ensures.track) in
     let is : IsLaneOf (length (take i threads)) rows lane = record { thread = place; ended = ended } in
     subst (AreLanes (take (i + 1) threads)) (sym c.in_ok-push.ensures.items)
     (subst (λ ts. AreLanes ts (c.loop-t.lanes.items ++ lane ∷ [])) (sym (take_more threads i rows c.loop-t-test.true))

@@ -1,16 +1,16 @@
-use Rattle.std.proofs.Common.{◌≡◌, ℕ, ◌<◌, ◌≤◌, ◌++◌, length}
-use Rattle.std.specs.Prelude.{option_to_list}
-use Rattle.std.specs.List.{All, AllPairs}
-use Rattle.run_chart.specs.Spans.{values_at, IsWithin}
-use Rattle.run_tracks.specs.Tracks.{value_in}
+use Rattle.std.proofs.Common.{◌≡◌, ℕ, ◌≤◌, ◌++◌, length}
+use Rattle.std.specs.Prelude.{option_map, option_to_list}
+use Rattle.std.specs.List.{All}
+use Rattle.run_chart.specs.Spans.{values_at, IsWithin, Makes}
+use Rattle.run_tracks.specs.Tracks.{value_in, Ascend}
 use Rattle.run_chart.proofs.spans.spans.Given as goal
 
 abbrev pub invariant-loop-change : goal.invariant-loop-change
 invariant-loop-change g l = record {
-  ascends : AllPairs (λ change later. change.0 < later.0) l.left;
+  ascends : Ascend l.left;
   within : All (IsWithin l.from l.to) l.spans.items;
-  tells : (n : ℕ) → l.from ≤ n → n ≤ l.to
-      → values_at n l.spans.items ++ option_to_list (value_in n l.left) ≡ option_to_list (value_in n l.changes);
+  tells : (f : g.row.T.Denot → g.row.U.Denot) → Makes (goal.F-post g l.made) f → (n : ℕ) → l.from ≤ n → n ≤ l.to
+      → values_at n l.spans.items ++ option_to_list (option_map f (value_in n l.left)) ≡ option_to_list (option_map f (value_in n l.track));
 }
 
 abbrev pub decreases-loop-change : goal.decreases-loop-change

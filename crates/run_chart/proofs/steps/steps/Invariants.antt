@@ -1,10 +1,7 @@
-use Rattle.std.proofs.Common.{◌≡◌, ℕ, ◌≤◌, length, take}
-use Rattle.std.specs.List.{All}
-use Rattle.run_chart.specs.Steps.{prios_at, strips_tell, IsStepOf}
+use Rattle.std.proofs.Common.{length, take}
+use Rattle.run_chart.specs.Spans.{Draws}
+use Rattle.run_chart.specs.Steps.{step_drawn, strip_tells}
 use Rattle.run_chart.proofs.steps.steps.Given as goal
 
 abbrev pub invariant-loop-t : goal.invariant-loop-t
-invariant-loop-t l = record {
-  prios : (t n : ℕ) → l.from ≤ n → n ≤ l.to → prios_at t n l.steps.items ≡ strips_tell t n (take l.t l.threads);
-  within : All (IsStepOf (length l.threads) l.from l.to) l.steps.items;
-}
+invariant-loop-t l = Draws step_drawn (length l.threads) l.from l.to strip_tells (take l.t l.threads) l.steps.items

@@ -14,9 +14,9 @@ loop-t-preserved c =
     let now = next before threads t c.from.result c.threads-t-end.result c.index_mut.result.now i.left c.from.ensures c.loop-t-test.true (c.threads-t-end.ensures.number ∙ sym c.requires.number) c.index_mut.ensures.value in
     record {
       left = left_more before threads t c.from.result c.note_thread.new.tracks c.from.ensures i.left;
-      done = λ runs h each. rw c.from.ensures
+      done = λ runs h others each. rw c.from.ensures
           (done_more (TellsThread plan runs (row + 1)) threads t c.note_thread.new.tracks now.within
-          (i.done runs h each) (c.in_ok-note_thread.ensures runs h (each t c.index_mut.result.now now.there)));
+          (i.done runs h others each) (c.in_ok-note_thread.ensures runs h others (each t c.index_mut.result.now now.there)));
     }
 
 pub note_thread-requires-clause-told : goal.note_thread-requires-clause-told
@@ -26,8 +26,8 @@ note_thread-requires-clause-told c =
     (told.0, told.1 c.loop-t.t c.index_mut.result.now now.there)
 
 pub returns-clause-told : goal.returns-clause-told
-returns-clause-told c runs h each =
+returns-clause-told c runs h others each =
     let i = c.loop-t.invariant in
     let threads = c.loop-t.threads.items in
     let all : length threads ≤ c.loop-t.t = omega (arith, i.left.number, c.requires.number, c.threads-t-end.ensures.number, c.loop-t-test.false) in
-    all_done (TellsThread c.args.world.now.plan runs (c.args.row + 1)) threads c.loop-t.t all (i.done runs h each)
+    all_done (TellsThread c.args.world.now.plan runs (c.args.row + 1)) threads c.loop-t.t all (i.done runs h others each)

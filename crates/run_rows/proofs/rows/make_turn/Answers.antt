@@ -7,7 +7,7 @@ use Rattle.step_world.specs.Courses.{IsCourse}
 use Rattle.step_world.specs.Worlds.{World, Represents}
 use Rattle.run_laws.proofs.TurnsOfCourses.{one_more}
 use Rattle.run_tracks.specs.Rows.{TellsColumns, run_in}
-use Rattle.run_rows.proofs.Turns.{columns_stay, made_by, same_run}
+use Rattle.run_rows.proofs.Turns.{columns_stay, made_by, others_hold, same_run}
 use Rattle.run_rows.proofs.rows.make_turn.Goals as goal
 use Rattle.run_rows.proofs.rows.make_turn.Goals.{in-Did+in_ok-note-in-Did, in-Idle}
 
@@ -26,7 +26,7 @@ returns c plan chains at =
     let its_plan : c.world-world.result.now.plan ≡ plan = ap (λ (w : World). w.plan) c.world-world.ensures ∙ c.go_on.ensures.plan ∙ at.plan_is in
     let its_chains : c.world-world.result.now.chains ≡ chains = ap (λ (w : World). w.chains) c.world-world.ensures ∙ c.go_on.ensures.chains ∙ at.chains_are in
     let tells : TellsColumns plan chains (run_in plan) (n + 1 + 1) c.match-answer.columns.threads.items c.match-answer.columns.words.items c.match-answer.columns.queues = elim c.match-answer.branch [
-      | in-Did+in_ok-note-in-Did b ↦ rw b.columns-is (let told = rw (its_plan, its_chains) at (b.in_ok-note-in-Did.ensures (run_in plan) shows) in told at.tells)
+      | in-Did+in_ok-note-in-Did b ↦ rw b.columns-is (let told = rw (its_plan, its_chains) at (b.in_ok-note-in-Did.ensures (run_in plan) shows (others_hold plan n c.in-Some.who.0 c.in-Some.answer by)) in told at.tells)
       | in-Idle b ↦ rw b.columns-is (columns_stay (run_in plan) n (same_run plan n c.in-Some.who.0 c.in-Some.answer by b.in-Idle.is) plan chains _ _ _ at.tells)
     ] in (
       record { going = by.going; made = made; thread = rw at.plan_is at gone.thread; entries = ap length (c.history.ensures.history (run_in plan (n + 1)) shows) ∙ length-reverse (run_in plan (n + 1)).state.history },

@@ -8,4 +8,5 @@ pub returns-clause-prios : goal.returns-clause-prios
 returns-clause-prios c =
     let P : List Prio → Type 0 = λ prios. HasPrios prios c.args.chart.now.steps in
     let Q : List PrioSpan → Type 0 = λ steps. HasPrios c.in_ok-prios_of.field-0.items steps in
-    subst P (sym (ap (λ p. p.prios.items) c.put_lanes.ensures.same)) (subst Q c.as_slice-2.ensures c.in_ok-prios_of.ensures)
+    subst P (sym (ap (λ p. p.prios.items) c.put_lanes.ensures.same))
+    (subst Q c.as_slice-2.ensures c.in_ok-prios_of.ensures)

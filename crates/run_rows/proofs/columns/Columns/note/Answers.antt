@@ -11,9 +11,9 @@ returns c =
     let row = c.args.row in
     let threads = c.in_ok-note_threads.ensures in
     let words = c.in_ok-note_words.ensures in
-    both_ok c.keep.result c.keep.ensures.kept c.keep.ensures.kept (λ more same runs h old. record {
+    both_ok c.keep.result c.keep.ensures.kept c.keep.ensures.kept (λ more same runs h others old. record {
       thread_each = threads.number ∙ old.thread_each;
-      of_threads = threads.told runs h old.of_threads;
+      of_threads = threads.told runs h others old.of_threads;
       word_each = words.number ∙ old.word_each;
       of_words = words.told runs h old.of_words;
       of_queues = kept (λ n lines. map line_seen lines ≡ queue_lines w.chains (config_of w.plan) (runs n).state) _ _ row c.from_vec.result old.of_queues more (ap (map line_seen) c.from_vec.ensures ∙ c.in_ok-queues.ensures (runs row) h);

@@ -15,11 +15,11 @@ pub of_log-requires : goal.of_log-requires
 of_log-requires c =
     let w = c.self.inside.world in
     let r = c.self.invariant.run in
-    rw c.into_machine-machine.ensures (log_in_order w.plan w.machine r.0 r.1)
+    rw c.into_machine-machine.ensures.objects (log_in_order w.plan w.machine r.0 r.1)
 
 pub returns : goal.returns
 returns c k h =
-    let taken = c.into_machine-machine.ensures in
+    let taken = c.into_machine-machine.ensures.objects in
     let history = c.of_log.ensures ∙ ap (λ (n : Machine). n.log.entries) taken in
     let finals = ap numbers_of c.from_vec-2.ensures ∙ c.in_ok-finals.ensures ∙ ap finals_of c.machine.ensures in
     let world : c.self.inside.world ≡ c.args.self.world = ap (λ (x : Course). x.world) c.self.view_is in

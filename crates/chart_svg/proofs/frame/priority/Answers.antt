@@ -1,0 +1,18 @@
+use Rattle.std.proofs.Common.{◌≡◌, ◌+◌, ◌∙◌, ap, List, Some}
+use Rattle.std.proofs.lemmas.Option.{same_Some}
+use Rattle.std.specs.Prelude.{slice_get}
+use Rattle.chart_layout.specs.declared.layout.PrioSpan.{PrioSpan}
+use Rattle.chart_svg.proofs.Standing.{last_stands, words_same}
+use Rattle.chart_svg.specs.Drawn.{pixels}
+use Rattle.chart_svg.specs.Pages.{shown_words}
+use Rattle.chart_svg.proofs.frame.priority.Goals as goal
+
+pub returns : goal.returns
+returns c =
+    let lane = c.args.lane.now in
+    let at : Some c.in-Some.step.now ≡ slice_get lane.steps.items 0 =
+    c.in-Some.ensures.value ∙ ap (λ (xs : List PrioSpan). slice_get xs 0) c.deref.ensures.value in
+    λ step is. last_stands _ _ _ _ c.in_ok-push.ensures.items
+    (words_same _ _ 24 _ _ _ _ c.of.ensures (c.plus.ensures ∙ ap (λ y. pixels (y + 20)) c.line.ensures)
+    (c.in_ok-words.ensures ∙ c.shown_prio.ensures
+    ∙ ap (λ (s : PrioSpan). shown_words lane.strip s) (same_Some c.in-Some.step.now step (at ∙ is))))

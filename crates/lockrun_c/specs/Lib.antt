@@ -1,0 +1,12 @@
+pub mod Held
+pub mod Handles
+pub mod Codes
+pub mod Asks
+pub mod Lookings
+pub mod Misfits
+pub mod Naming
+pub mod Openings
+pub mod Endings
+pub mod Printing
+pub mod Scripts
+pub mod Worlds

@@ -1,0 +1,204 @@
+//! How C takes threads in, closes a floor, and lets go of what a handle has.
+ghost use Rattle.std.specs.Prelude.{◌≡◌, ◌≢◌, ◌&&◌, Some, None, IfErr, IfOk, IsFalse};
+ghost use Rattle.floor_calls.specs.Threads.{Thread as Seen};
+ghost use Rattle.lockrun_c.specs.Endings.{AreAllIn, AreOfOneFloor, HasClosed, HasGathered, HasUnended, LacksThread, TakesIn};
+ghost use Rattle.lockrun_c.specs.Handles.{has_floor, has_thread};
+ghost use Rattle.lockrun_c.specs.declared.content.Content.TheVariants as contents;
+
+use crate::codes::{DONE, NOT_ENDED, NOT_GATHERED, NOT_OPEN, STILL_SHARED};
+use crate::content::{Content, House, Remains};
+use crate::handles::{Handle, take, there};
+use floor_calls::{NotClosed, OpenFloor};
+use std::alloc::Global;
+
+/// Takes a thread of this floor in that has ended.
+#[unsafe(no_mangle)]
+pub extern "C" fn lockrun_gather(alloc: Global, floor: &mut Handle, thread: &mut Handle) -> u32
+    requires of_floor { AreOfOneFloor floor.old.held.home thread.old.held.home }
+    ensures gathered { result ≡ 0
+        → HasGathered floor.old.held.home floor.new.held.home thread.old.held.home }
+    ensures gone { result ≡ 0 → thread.new.held.home ≡ None }
+    ensures not_open { result ≡ 17
+        → IsFalse (has_floor floor.old.held.home && has_thread thread.old.held.home) }
+    ensures not_ended { result ≡ 21 → HasUnended thread.old.held.home }
+    ensures refused { result ≢ 0 → floor.new.held.home ≡ floor.old.held.home }
+    ensures stays { result ≢ 0 → thread.new.held.home ≡ thread.old.held.home }
+{
+    if floor.is_there == 0 || thread.is_there == 0 {
+        return NOT_OPEN;
+    }
+    let how = floor.how;
+    let mut content = take(floor, alloc);
+    let code = gather(alloc, &mut content, thread);
+    *floor = there(content, how);
+    code
+}
+
+// Takes a handle's thread in, to what a box holds.
+fn gather(alloc: Global, content: &mut Content, thread: &mut Handle) -> u32
+    requires there { thread.old.is_there ≢ 0 }
+    requires of_floor { AreOfOneFloor (Some content.old) thread.old.held.home }
+    ensures gathered { result ≡ 0
+        → HasGathered (Some content.old) (Some content.new) thread.old.held.home }
+    ensures gone { result ≡ 0 → thread.new.held.home ≡ None }
+    ensures not_open { result ≡ 17
+        → IsFalse (has_floor (Some content.old) && has_thread thread.old.held.home) }
+    ensures not_ended { result ≡ 21 → HasUnended thread.old.held.home }
+    ensures refused { result ≢ 0 → content.new ≡ content.old }
+    ensures stays { result ≢ 0 → thread.new.held.home ≡ thread.old.held.home }
+{
+    match content {
+        Content::Open(house) => gather_in(alloc, &mut house.floor, thread),
+        Content::Empty | Content::Closed(_) | Content::Thread(_) | Content::World(_) => NOT_OPEN,
+    }
+}
+
+// Takes a handle's thread in, to its floor. What isn't taken in goes back into its box.
+fn gather_in(alloc: Global, floor: &mut OpenFloor, thread: &mut Handle) -> u32
+    requires there { thread.old.is_there ≢ 0 }
+    requires of_floor { (x : Seen) → thread.old.held.home ≡ Some (contents.Thread x)
+        → x.floor ≡ floor.old.floor }
+    ensures gathered { result ≡ 0 → (x : Seen) × (thread.old.held.home ≡ Some (contents.Thread x))
+        × TakesIn floor.old floor.new x }
+    ensures gone { result ≡ 0 → thread.new.held.home ≡ None }
+    ensures not_open { result ≡ 17 → IsFalse (has_thread thread.old.held.home) }
+    ensures not_ended { result ≡ 21 → HasUnended thread.old.held.home }
+    ensures refused { result ≢ 0 → floor.new ≡ floor.old }
+    ensures stays { result ≢ 0 → thread.new.held.home ≡ thread.old.held.home }
+{
+    let how = thread.how;
+    let mut content = take(thread, alloc);
+    match taken_in(floor, std::mem::replace(&mut *content, Content::Empty)) {
+        Ok(()) => DONE,
+        Err((left, code)) => {
+            *content = left;
+            *thread = there(content, how);
+            code
+        }
+    }
+}
+
+// Takes in the thread that a box holds, or gives back what it holds, and why.
+fn taken_in(floor: &mut OpenFloor, content: Content) -> Result<(), (Content, u32)>
+    requires of_floor { (x : Seen) → content ≡ contents.Thread x → x.floor ≡ floor.old.floor }
+    ensures gathered { IfOk result (λ _. (x : Seen) × (content ≡ contents.Thread x)
+        × TakesIn floor.old floor.new x) }
+    ensures refused { IfErr result (λ left. (left.0 ≡ content) × (floor.new ≡ floor.old)) }
+    ensures fault { IfErr result (λ left. left.1 ≢ 0) }
+    ensures not_open { IfErr result (λ left. left.1 ≡ 17 → IsFalse (has_thread (Some content))) }
+    ensures not_ended { IfErr result (λ left. left.1 ≡ 21 → HasUnended (Some content)) }
+{
+    match content {
+        Content::Thread(mine) => match floor.gather(mine) {
+            Ok(()) => Ok(()),
+            Err(mine) => Err((Content::Thread(mine), NOT_ENDED)),
+        },
+        Content::Empty => Err((Content::Empty, NOT_OPEN)),
+        Content::Open(house) => Err((Content::Open(house), NOT_OPEN)),
+        Content::Closed(remains) => Err((Content::Closed(remains), NOT_OPEN)),
+        Content::World(world) => Err((Content::World(world), NOT_OPEN)),
+    }
+}
+
+/// Closes a floor, once all its threads were taken in.
+#[unsafe(no_mangle)]
+pub extern "C" fn lockrun_close(alloc: Global, floor: &mut Handle) -> u32
+    ensures closed { result ≡ 0 → HasClosed floor.old.held.home floor.new.held.home }
+    ensures not_open { result ≡ 17 → IsFalse (has_floor floor.old.held.home) }
+    ensures not_gathered { result ≡ 22 → LacksThread floor.old.held.home }
+    ensures refused { result ≢ 0 → floor.new.held.home ≡ floor.old.held.home }
+{
+    if floor.is_there == 0 {
+        return NOT_OPEN;
+    }
+    let how = floor.how;
+    let mut content = take(floor, alloc);
+    let code = close(&mut content);
+    *floor = there(content, how);
+    code
+}
+
+// Closes the floor that a box holds.
+fn close(content: &mut Content) -> u32
+    ensures closed { result ≡ 0 → HasClosed (Some content.old) (Some content.new) }
+    ensures not_open { result ≡ 17 → IsFalse (has_floor (Some content.old)) }
+    ensures not_gathered { result ≡ 22 → LacksThread (Some content.old) }
+    ensures refused { result ≢ 0 → content.new ≡ content.old }
+{
+    let (after, code) = closed_of(std::mem::replace(content, Content::Empty));
+    *content = after;
+    code
+}
+
+// What a box holds behind a close. What is no floor that is open isn't changed.
+fn closed_of(content: Content) -> (Content, u32)
+    ensures closed { result.1 ≡ 0 → HasClosed (Some content) (Some result.0) }
+    ensures not_open { result.1 ≡ 17 → IsFalse (has_floor (Some content)) }
+    ensures not_gathered { result.1 ≡ 22 → LacksThread (Some content) }
+    ensures refused { result.1 ≢ 0 → result.0 ≡ content }
+{
+    match content {
+        Content::Open(house) => closed(house),
+        Content::Empty => (Content::Empty, NOT_OPEN),
+        Content::Closed(remains) => (Content::Closed(remains), NOT_OPEN),
+        Content::Thread(thread) => (Content::Thread(thread), NOT_OPEN),
+        Content::World(world) => (Content::World(world), NOT_OPEN),
+    }
+}
+
+// What is left of a floor, or the floor, where a thread of it wasn't taken in.
+fn closed(house: House) -> (Content, u32)
+    ensures closed { result.1 ≡ 0 → HasClosed (Some (contents.Open house)) (Some result.0) }
+    ensures open { result.1 ≢ 17 }
+    ensures not_gathered { result.1 ≡ 22 → AreAllIn house.floor → ⊥ }
+    ensures refused { result.1 ≢ 0 → result.0 ≡ contents.Open house }
+{
+    let House {
+        floor,
+        names,
+        waiting,
+    } = house;
+    match floor.close() {
+        Ok(closing) => (Content::Closed(Remains { closing, names }), DONE),
+        Err(NotClosed::NotGathered(floor)) => {
+            let house = House {
+                floor,
+                names,
+                waiting,
+            };
+            (Content::Open(house), NOT_GATHERED)
+        }
+        Err(NotClosed::StillShared(floor)) => {
+            let house = House {
+                floor,
+                names,
+                waiting,
+            };
+            (Content::Open(house), STILL_SHARED)
+        }
+    }
+}
+
+/// Lets go of what the handle of a floor has.
+#[unsafe(no_mangle)]
+pub extern "C" fn lockrun_free(alloc: Global, floor: &mut Handle)
+    ensures { floor.new.held.home ≡ None }
+{
+    let_go(alloc, floor);
+}
+
+/// Lets go of a thread. Its floor can't be closed then.
+#[unsafe(no_mangle)]
+pub extern "C" fn lockrun_free_thread(alloc: Global, thread: &mut Handle)
+    ensures { thread.new.held.home ≡ None }
+{
+    let_go(alloc, thread);
+}
+
+pub(crate) fn let_go(alloc: Global, handle: &mut Handle)
+    ensures { handle.new.held.home ≡ None }
+{
+    if handle.is_there != 0 {
+        drop(take(handle, alloc));
+    }
+}

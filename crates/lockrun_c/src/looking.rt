@@ -1,0 +1,119 @@
+//! What C is told of a thread beside the answers of its calls.
+ghost use Rattle.std.specs.Prelude.{◌≡◌, ◌≢◌, Some, IsFalse};
+ghost use Rattle.lockrun_c.specs.Handles.{has_thread};
+ghost use Rattle.lockrun_c.specs.Lookings.{HasFoundCell, HasNoSuchKey};
+ghost use Rattle.floor_calls.specs.Threads.{Thread as Seen};
+ghost use Rattle.lockrun_c.specs.declared.content.Content.TheVariants as contents;
+
+use crate::codes::{Cell, DONE, NO_KEY, NOT_OPEN, SLEEP, byte_of};
+use crate::content::Content;
+use crate::handles::{Handle, take, there};
+use lock_model::LockNo;
+use std::alloc::Global;
+
+/// The number of a thread among its floor's.
+#[unsafe(no_mangle)]
+pub extern "C" fn lockrun_number(alloc: Global, thread: &mut Handle, number: &mut u32) -> u32
+    ensures told { result ≡ 0 → (x : Seen) × (thread.old.held.home ≡ Some (contents.Thread x))
+        × (number.new ≡ x.pass.view.thread) }
+    ensures not_open { result ≢ 0 → IsFalse (has_thread thread.old.held.home) }
+    ensures refused { result ≢ 0 → number.new ≡ number.old }
+    ensures unchanged { thread.new.held.home ≡ thread.old.held.home }
+{
+    if thread.is_there == 0 {
+        return NOT_OPEN;
+    }
+    let how = thread.how;
+    let content = take(thread, alloc);
+    let code = number_of(&content, number);
+    *thread = there(content, how);
+    code
+}
+
+fn number_of(content: &Content, number: &mut u32) -> u32
+    ensures told { result ≡ 0 → (x : Seen) × (content.now ≡ contents.Thread x)
+        × (number.new ≡ x.pass.view.thread) }
+    ensures not_open { result ≢ 0 → IsFalse (has_thread (Some content.now)) }
+    ensures refused { result ≢ 0 → number.new ≡ number.old }
+{
+    match content {
+        Content::Thread(thread) => {
+            *number = u32::from(thread.number().0);
+            DONE
+        }
+        Content::Empty | Content::Open(_) | Content::Closed(_) | Content::World(_) => NOT_OPEN,
+    }
+}
+
+/// Whether a thread whose call answered that it is to sleep is still to sleep, by its wait word.
+#[unsafe(no_mangle)]
+pub extern "C" fn lockrun_is_queued(alloc: Global, thread: &mut Handle) -> u32
+    ensures not_open { result ≡ 17 → IsFalse (has_thread thread.old.held.home) }
+    ensures unchanged { thread.new.held.home ≡ thread.old.held.home }
+{
+    if thread.is_there == 0 {
+        return NOT_OPEN;
+    }
+    let how = thread.how;
+    let content = take(thread, alloc);
+    let code = queued(&content);
+    *thread = there(content, how);
+    code
+}
+
+fn queued(content: &Content) -> u32
+    ensures { result ≡ 17 → IsFalse (has_thread (Some content.now)) }
+{
+    match content {
+        Content::Thread(thread) => { if thread.is_queued() { SLEEP } else { DONE } }
+        Content::Empty | Content::Open(_) | Content::Closed(_) | Content::World(_) => NOT_OPEN,
+    }
+}
+
+/// The cell at a key of a lock's table, on the floor of a thread.
+#[unsafe(no_mangle)]
+pub extern "C" fn lockrun_find_cell(
+    alloc: Global,
+    thread: &mut Handle,
+    lock: u32,
+    key: u64,
+    cell: &mut Cell,
+) -> u32
+    ensures found { result ≡ 0 → HasFoundCell thread.old.held.home lock key cell.new }
+    ensures no_key { result ≡ 25 → HasNoSuchKey thread.old.held.home lock key }
+    ensures not_open { result ≡ 17 → IsFalse (has_thread thread.old.held.home) }
+    ensures refused { result ≢ 0 → cell.new ≡ cell.old }
+    ensures unchanged { thread.new.held.home ≡ thread.old.held.home }
+{
+    if thread.is_there == 0 {
+        return NOT_OPEN;
+    }
+    let how = thread.how;
+    let content = take(thread, alloc);
+    let code = find_cell(&content, lock, key, cell);
+    *thread = there(content, how);
+    code
+}
+
+// So in what a box holds.
+fn find_cell(content: &Content, lock: u32, key: u64, cell: &mut Cell) -> u32
+    ensures found { result ≡ 0 → HasFoundCell (Some content.now) lock key cell.new }
+    ensures no_key { result ≡ 25 → HasNoSuchKey (Some content.now) lock key }
+    ensures not_open { result ≡ 17 → IsFalse (has_thread (Some content.now)) }
+    ensures refused { result ≢ 0 → cell.new ≡ cell.old }
+{
+    match content {
+        Content::Thread(thread) => match thread.find_cell(LockNo(byte_of(lock)), key) {
+            None => NO_KEY,
+            Some(found) => {
+                *cell = Cell {
+                    key: found.key,
+                    slot: found.slot,
+                    lock: u32::from(found.l.0),
+                };
+                DONE
+            }
+        },
+        Content::Empty | Content::Open(_) | Content::Closed(_) | Content::World(_) => NOT_OPEN,
+    }
+}
