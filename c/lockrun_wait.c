@@ -8,30 +8,6 @@
 #include <unistd.h>
 #endif
 
-/* Race checkers see no step of the library; so they are told of the order that a lock makes, a thread sanitizer where
- * this file is compiled with it. */
-#ifdef __has_feature
-#if __has_feature(thread_sanitizer)
-#define LOCKRUN_TSAN 1
-#endif
-#endif
-#ifdef __SANITIZE_THREAD__
-#define LOCKRUN_TSAN 1
-#endif
-#if defined(LOCKRUN_HELGRIND)
-#include <valgrind/helgrind.h>
-#define GAINED(at) ANNOTATE_HAPPENS_AFTER(at)
-#define LETS_GO(at) ANNOTATE_HAPPENS_BEFORE(at)
-#elif defined(LOCKRUN_TSAN)
-void __tsan_acquire(void *);
-void __tsan_release(void *);
-#define GAINED(at) __tsan_acquire(at)
-#define LETS_GO(at) __tsan_release(at)
-#else
-#define GAINED(at) ((void)(at))
-#define LETS_GO(at) ((void)(at))
-#endif
-
 static void pause_by_default(void *arg, unsigned times)
 {
     unsigned i, most = 1u << (times < 6 ? times : 6);
@@ -133,17 +109,13 @@ static void fall_asleep(lockrun_thread_t *thread, unsigned times)
         rest(thread, times);
 }
 
-/* Makes a call whole. *told may be anything before. */
-static uint32_t whole(lockrun_thread_t *thread, lockrun_asked_t *asked, lockrun_told_t *told)
+uint32_t lockrun_go_on(lockrun_thread_t *thread, uint32_t what, uint32_t which, uint64_t number,
+                       const lockrun_cell_t *cell, lockrun_told_t *told, uint32_t answer)
 {
     unsigned times = 0;
-    uint32_t answer;
-    for (;;) {
-        answer = lockrun_ask(thread, asked, told);
-        if (answer == LOCKRUN_DONE)
-            return answer;
+    for (;; answer = lockrun_ask(thread, what, which, number, cell, told)) {
         if (answer != LOCKRUN_OUT)
-            asked->what = LOCKRUN_GO_ON;
+            what = LOCKRUN_GO_ON;
         switch (answer) {
         case LOCKRUN_AGAIN:
         case LOCKRUN_OUT:
@@ -162,107 +134,55 @@ static uint32_t whole(lockrun_thread_t *thread, lockrun_asked_t *asked, lockrun_
     }
 }
 
-uint32_t lockrun_call(lockrun_thread_t *thread, lockrun_asked_t asked, lockrun_told_t *told)
-{
-    lockrun_told_t mine = LOCKRUN_TOLD_INIT;
-    return whole(thread, &asked, told ? told : &mine);
-}
-
-/* A request about a lock or channel, or about nothing. */
-static uint32_t call(lockrun_thread_t *thread, uint32_t what, uint32_t which)
-{
-    lockrun_asked_t asked = LOCKRUN_ASKED_INIT;
-    lockrun_told_t told;
-    asked.what = what;
-    asked.which = which;
-    return whole(thread, &asked, &told);
-}
-
-/* One about a cell, or a priority. */
-static uint32_t call_about(lockrun_thread_t *thread, uint32_t what, const lockrun_cell_t *cell, uint64_t number,
-                           lockrun_told_t *told)
-{
-    lockrun_asked_t asked = LOCKRUN_ASKED_INIT;
-    lockrun_told_t mine;
-    asked.what = what;
-    asked.number = number;
-    if (cell)
-        asked.cell = *cell;
-    return whole(thread, &asked, told ? told : &mine);
-}
-
-/* The byte of a lock, of whose address race checkers are told. */
-static char *order_of(const lockrun_thread_t *thread, uint32_t lock)
-{
-    return thread->how && thread->how->order ? &thread->how->order[lock % LOCKRUN_MOST_LOCKS] : NULL;
-}
-
-static uint32_t gain(lockrun_thread_t *thread, uint32_t what, uint32_t lock)
-{
-    uint32_t answer = call(thread, what, lock);
-    if (answer == LOCKRUN_DONE && order_of(thread, lock))
-        GAINED(order_of(thread, lock));
-    return answer;
-}
-
-uint32_t lockrun_take(lockrun_thread_t *thread, uint32_t lock, enum lockrun_mode mode)
-{
-    return gain(thread, mode == LOCKRUN_SHARED ? LOCKRUN_TAKE_SHARED : LOCKRUN_TAKE, lock);
-}
-
-uint32_t lockrun_try(lockrun_thread_t *thread, uint32_t lock, enum lockrun_mode mode)
-{
-    return gain(thread, mode == LOCKRUN_SHARED ? LOCKRUN_TRY_SHARED : LOCKRUN_TRY, lock);
-}
-
-uint32_t lockrun_release(lockrun_thread_t *thread, uint32_t lock, enum lockrun_mode mode)
-{
-    if (order_of(thread, lock))
-        LETS_GO(order_of(thread, lock));
-    return call(thread, mode == LOCKRUN_SHARED ? LOCKRUN_RELEASE_SHARED : LOCKRUN_RELEASE, lock);
-}
+/* The inline ones, for whoever asks for them by name. */
+extern inline uint32_t lockrun_call(lockrun_thread_t *thread, uint32_t what, uint32_t which, uint64_t number,
+                                    const lockrun_cell_t *cell, lockrun_told_t *told);
+extern inline char *lockrun_order_of(const lockrun_thread_t *thread, uint32_t lock);
+extern inline uint32_t lockrun_take(lockrun_thread_t *thread, uint32_t lock, enum lockrun_mode mode);
+extern inline uint32_t lockrun_try(lockrun_thread_t *thread, uint32_t lock, enum lockrun_mode mode);
+extern inline uint32_t lockrun_release(lockrun_thread_t *thread, uint32_t lock, enum lockrun_mode mode);
 
 /* Race checkers are told of all locks, as nothing here says which one is the channel's. */
 uint32_t lockrun_wait(lockrun_thread_t *thread, uint32_t channel)
 {
     uint32_t answer, lock;
-    for (lock = 0; order_of(thread, lock) && lock < LOCKRUN_MOST_LOCKS; lock++)
-        LETS_GO(order_of(thread, lock));
-    answer = call(thread, LOCKRUN_WAIT, channel);
-    for (lock = 0; order_of(thread, lock) && lock < LOCKRUN_MOST_LOCKS; lock++)
-        GAINED(order_of(thread, lock));
+    for (lock = 0; lockrun_order_of(thread, lock) && lock < LOCKRUN_MOST_LOCKS; lock++)
+        LOCKRUN_LETS_GO(lockrun_order_of(thread, lock));
+    answer = lockrun_call(thread, LOCKRUN_WAIT, channel, 0, NULL, NULL);
+    for (lock = 0; lockrun_order_of(thread, lock) && lock < LOCKRUN_MOST_LOCKS; lock++)
+        LOCKRUN_GAINED(lockrun_order_of(thread, lock));
     return answer;
 }
 
 uint32_t lockrun_wake_one(lockrun_thread_t *thread, uint32_t channel)
 {
-    return call(thread, LOCKRUN_WAKE_ONE, channel);
+    return lockrun_call(thread, LOCKRUN_WAKE_ONE, channel, 0, NULL, NULL);
 }
 
 uint32_t lockrun_wake_all(lockrun_thread_t *thread, uint32_t channel)
 {
-    return call(thread, LOCKRUN_WAKE_ALL, channel);
+    return lockrun_call(thread, LOCKRUN_WAKE_ALL, channel, 0, NULL, NULL);
 }
 
 uint32_t lockrun_end(lockrun_thread_t *thread)
 {
-    return call(thread, LOCKRUN_END, 0);
+    return lockrun_call(thread, LOCKRUN_END, 0, 0, NULL, NULL);
 }
 
 uint32_t lockrun_set(lockrun_thread_t *thread, const lockrun_cell_t *cell, uint64_t value)
 {
-    return call_about(thread, LOCKRUN_SET, cell, value, NULL);
+    return lockrun_call(thread, LOCKRUN_SET, 0, value, cell, NULL);
 }
 
 uint32_t lockrun_add(lockrun_thread_t *thread, const lockrun_cell_t *cell, uint64_t amount)
 {
-    return call_about(thread, LOCKRUN_ADD, cell, amount, NULL);
+    return lockrun_call(thread, LOCKRUN_ADD, 0, amount, cell, NULL);
 }
 
 uint32_t lockrun_get(lockrun_thread_t *thread, const lockrun_cell_t *cell, uint64_t *value)
 {
-    lockrun_told_t told = LOCKRUN_TOLD_INIT;
-    uint32_t answer = call_about(thread, LOCKRUN_GET, cell, 0, &told);
+    lockrun_told_t told;
+    uint32_t answer = lockrun_call(thread, LOCKRUN_GET, 0, 0, cell, &told);
     if (answer == LOCKRUN_FOUND)
         *value = told.value;
     return answer;
@@ -270,13 +190,13 @@ uint32_t lockrun_get(lockrun_thread_t *thread, const lockrun_cell_t *cell, uint6
 
 uint32_t lockrun_set_priority(lockrun_thread_t *thread, uint8_t base)
 {
-    return call_about(thread, LOCKRUN_PRIORITY, NULL, base, NULL);
+    return lockrun_call(thread, LOCKRUN_PRIORITY, 0, base, NULL, NULL);
 }
 
 uint32_t lockrun_priorities(lockrun_thread_t *thread, uint32_t *base, uint32_t *effective)
 {
-    lockrun_told_t told = LOCKRUN_TOLD_INIT;
-    uint32_t answer = call_about(thread, LOCKRUN_SHOW, NULL, 0, &told);
+    lockrun_told_t told;
+    uint32_t answer = lockrun_call(thread, LOCKRUN_SHOW, 0, 0, NULL, &told);
     if (answer == LOCKRUN_SHOWN) {
         *base = told.base;
         *effective = told.effective;

@@ -213,21 +213,16 @@ enum lockrun_request {
     LOCKRUN_SHOW = 15           /* to show its base and its effective priority. The same. Ends by SHOWN */
 };
 
-/* A cell of a lock's table, for edits and reads of one search. lockrun_find_cell makes it; it may be copied. */
+/* A cell of a lock's table, for edits and reads of one search. lockrun_find_cell makes it; it may be copied. One that
+ * is LOCKRUN_CELL_INIT stands where a request is about none. */
 typedef struct lockrun_cell {
     uint64_t key;
     size_t slot;
     uint32_t lock;
 } lockrun_cell_t;
-typedef struct lockrun_asked {
-    uint32_t what;       /* a request */
-    uint32_t which;      /* the lock's or the channel's number, where the request is about one */
-    uint64_t number;     /* the number, where it has one */
-    lockrun_cell_t cell; /* the cell, where it is about one */
-} lockrun_asked_t;
-#define LOCKRUN_ASKED_INIT { 0, 0, 0, { 0, 0, 0 } }
+#define LOCKRUN_CELL_INIT { 0, 0, 0 }
 
-/* What an answer tells beside its number; what isn't told is 0. */
+/* What an answer tells beside its number: of the five below what stands there, and 0 in the rest. */
 typedef struct lockrun_told {
     uint64_t word;         /* of BUSY: the lock's word. Bit 0: who waits to hold it exclusively is shown; bit 1: who
                               waits to share it; bit 2: it is held exclusively. word >> 3: the number of the thread that
@@ -242,14 +237,16 @@ typedef struct lockrun_told {
 #define LOCKRUN_TOLD_INIT { 0, 0, 0, 0, 0, 0, 0 }
 
 /* Asks a thread: begins a call, or goes on with it. Every call is begun, and then gone on with until it is done;
- * each answer says what is to be done in between. *told is what that answer tells, and so all 0 of a fault from
- * ENDED on; of NOT_OPEN and NO_REQUEST it stays as it was.
+ * each answer says what is to be done in between. `what` is a request, `which` the number of the lock or channel,
+ * `number` the number and *cell the cell that it is about; of those that it has none of it looks at nothing. *told may
+ * be anything before: it is written by BUSY, REVERSED, WAKE, FOUND and SHOWN, and stays as it was of any other answer.
  * AGAIN may come up to 100 times in a row while a take or a try looks at the lock's word, and without end while
  * another thread is in the middle of a call that has what this one needs. So whoever is answered AGAIN or WAKE is to
  * be gone on with soon, however important others are. Who runs all threads on one of the system's, and goes from one
  * to another only behind a SLEEP or a call that is done, is never answered OUT, and needs no pauses.
  * DONE AGAIN SLEEP WAKE BUSY REVERSED HALTED FOUND ABSENT SHOWN OUT; NOT_OPEN, NO_REQUEST, and from ENDED to UNHELD. */
-uint32_t lockrun_ask(lockrun_thread_t *thread, const lockrun_asked_t *asked, lockrun_told_t *told);
+uint32_t lockrun_ask(lockrun_thread_t *thread, uint32_t what, uint32_t which, uint64_t number,
+                     const lockrun_cell_t *cell, lockrun_told_t *told);
 
 /* Whether a thread whose call answered SLEEP is still to sleep, by its wait word at that moment: SLEEP says yes,
  * DONE no. Once a WAKE that names it was answered it says DONE, until the thread is to sleep anew. DONE SLEEP;
@@ -384,9 +381,9 @@ void lockrun_world_free(lockrun_world_t *world);
  * wake: once for each WAKE, by the thread that got it; `number` is that of the thread to be woken, which may not
  * sleep yet, or not any more. It returns without waiting for another thread of the floor.
  *
- * `order` has a byte for each lock, whose address race checkers are told: a thread sanitizer where lockrun_wait.c is
- * compiled with it, which the archive's isn't, and helgrind where lockrun_wait.c is compiled with LOCKRUN_HELGRIND,
- * which takes the suppressions of helgrind.supp. It may be null: then they are told of no order. */
+ * `order` has a byte for each lock, whose address race checkers are told: a thread sanitizer where your program and
+ * lockrun_wait.c are compiled with it, which the archive's isn't, and helgrind where both are compiled with
+ * LOCKRUN_HELGRIND, which takes the suppressions of helgrind.supp. It may be null: then they are told of no order. */
 typedef struct lockrun_waiting {
     void (*pause)(void *arg, unsigned times);
     void (*sleep)(void *arg, lockrun_thread_t *thread, uint32_t number);
@@ -419,17 +416,90 @@ typedef struct lockrun_parking {
 void lockrun_park(lockrun_parking_t *parking);   /* makes it ready, and then parking->waiting may be a thread's how */
 void lockrun_unpark(lockrun_parking_t *parking); /* behind its last use */
 
+/* Does what lockrun_ask answered to these, and goes on with the call until it is done, or asks the same again where it
+ * answered OUT. */
+uint32_t lockrun_go_on(lockrun_thread_t *thread, uint32_t what, uint32_t which, uint64_t number,
+                       const lockrun_cell_t *cell, lockrun_told_t *told, uint32_t answer);
+
 /* Makes a call whole: begins it, or goes on with one that lockrun_ask has begun (GO_ON), and does what the answers
- * say until it is done. told may be null; else it is what lockrun_ask told last.
+ * say until it is done. told may be null; else it is what lockrun_ask told last; cell may be null where the request is
+ * about none. This and the next four are inline, so that a lock that is free costs one call of the library;
+ * lockrun_wait.c has them by name too.
  * DONE BUSY REVERSED HALTED FOUND ABSENT SHOWN; and the faults of lockrun_ask. */
-uint32_t lockrun_call(lockrun_thread_t *thread, lockrun_asked_t asked, lockrun_told_t *told);
+inline uint32_t lockrun_call(lockrun_thread_t *thread, uint32_t what, uint32_t which, uint64_t number,
+                             const lockrun_cell_t *cell, lockrun_told_t *told)
+{
+    static const lockrun_cell_t none = LOCKRUN_CELL_INIT;
+    lockrun_told_t mine;
+    uint32_t answer;
+    if (!cell)
+        cell = &none;
+    if (!told)
+        told = &mine;
+    answer = lockrun_ask(thread, what, which, number, cell, told);
+    return answer == LOCKRUN_DONE ? answer : lockrun_go_on(thread, what, which, number, cell, told, answer);
+}
+
+/* Race checkers see no step of the library; so they are told of the order that a lock makes, by the address of its
+ * byte: a thread sanitizer where this is compiled with it. */
+#ifdef __has_feature
+#if __has_feature(thread_sanitizer)
+#define LOCKRUN_TSAN 1
+#endif
+#endif
+#ifdef __SANITIZE_THREAD__
+#define LOCKRUN_TSAN 1
+#endif
+#if defined(LOCKRUN_HELGRIND)
+#include <valgrind/helgrind.h>
+#define LOCKRUN_GAINED(at) ANNOTATE_HAPPENS_AFTER(at)
+#define LOCKRUN_LETS_GO(at) ANNOTATE_HAPPENS_BEFORE(at)
+#elif defined(LOCKRUN_TSAN)
+void __tsan_acquire(void *);
+void __tsan_release(void *);
+#define LOCKRUN_GAINED(at) __tsan_acquire(at)
+#define LOCKRUN_LETS_GO(at) __tsan_release(at)
+#else
+#define LOCKRUN_GAINED(at) ((void)(at))
+#define LOCKRUN_LETS_GO(at) ((void)(at))
+#endif
+
+/* The byte of a lock, or null. */
+inline char *lockrun_order_of(const lockrun_thread_t *thread, uint32_t lock)
+{
+    return thread->how && thread->how->order ? &thread->how->order[lock % LOCKRUN_MOST_LOCKS] : 0;
+}
 
 /* Each of these is lockrun_call of one request, and answers the faults of that too. A mode that is no LOCKRUN_SHARED
  * is taken as LOCKRUN_EXCLUSIVE. */
 enum lockrun_mode { LOCKRUN_EXCLUSIVE = 0, LOCKRUN_SHARED = 1 };
-uint32_t lockrun_take(lockrun_thread_t *thread, uint32_t lock, enum lockrun_mode mode);    /* DONE REVERSED HALTED */
-uint32_t lockrun_try(lockrun_thread_t *thread, uint32_t lock, enum lockrun_mode mode);     /* DONE BUSY */
-uint32_t lockrun_release(lockrun_thread_t *thread, uint32_t lock, enum lockrun_mode mode); /* DONE */
+
+/* DONE REVERSED HALTED */
+inline uint32_t lockrun_take(lockrun_thread_t *thread, uint32_t lock, enum lockrun_mode mode)
+{
+    uint32_t answer = lockrun_call(thread, mode == LOCKRUN_SHARED ? LOCKRUN_TAKE_SHARED : LOCKRUN_TAKE, lock, 0, 0, 0);
+    if (answer == LOCKRUN_DONE && lockrun_order_of(thread, lock))
+        LOCKRUN_GAINED(lockrun_order_of(thread, lock));
+    return answer;
+}
+
+/* DONE BUSY */
+inline uint32_t lockrun_try(lockrun_thread_t *thread, uint32_t lock, enum lockrun_mode mode)
+{
+    uint32_t answer = lockrun_call(thread, mode == LOCKRUN_SHARED ? LOCKRUN_TRY_SHARED : LOCKRUN_TRY, lock, 0, 0, 0);
+    if (answer == LOCKRUN_DONE && lockrun_order_of(thread, lock))
+        LOCKRUN_GAINED(lockrun_order_of(thread, lock));
+    return answer;
+}
+
+/* DONE */
+inline uint32_t lockrun_release(lockrun_thread_t *thread, uint32_t lock, enum lockrun_mode mode)
+{
+    if (lockrun_order_of(thread, lock))
+        LOCKRUN_LETS_GO(lockrun_order_of(thread, lock));
+    return lockrun_call(thread, mode == LOCKRUN_SHARED ? LOCKRUN_RELEASE_SHARED : LOCKRUN_RELEASE, lock, 0, 0, 0);
+}
+
 uint32_t lockrun_wait(lockrun_thread_t *thread, uint32_t channel);                         /* DONE HALTED */
 uint32_t lockrun_wake_one(lockrun_thread_t *thread, uint32_t channel);                     /* DONE */
 uint32_t lockrun_wake_all(lockrun_thread_t *thread, uint32_t channel);                     /* DONE */

@@ -69,15 +69,11 @@ static long system_call(long n, long a, const void *b, long c)
 
 static uint32_t whole(lockrun_thread_t *thread, uint32_t what, uint32_t which)
 {
-    lockrun_asked_t asked = LOCKRUN_ASKED_INIT;
+    static const lockrun_cell_t none = LOCKRUN_CELL_INIT;
     lockrun_told_t told = LOCKRUN_TOLD_INIT;
-    uint32_t answer;
-    asked.what = what;
-    asked.which = which;
-    do {
-        answer = lockrun_ask(thread, &asked, &told);
-        asked.what = LOCKRUN_GO_ON;
-    } while (answer == LOCKRUN_AGAIN);
+    uint32_t answer = lockrun_ask(thread, what, which, 0, &none, &told);
+    while (answer == LOCKRUN_AGAIN)
+        answer = lockrun_ask(thread, LOCKRUN_GO_ON, 0, 0, &none, &told);
     return answer;
 }
 

@@ -20,10 +20,8 @@ static lockrun_told_t told;
 
 static uint32_t ask(lockrun_thread_t *thread, uint32_t what, uint32_t which)
 {
-    lockrun_asked_t asked = LOCKRUN_ASKED_INIT;
-    asked.what = what;
-    asked.which = which;
-    return lockrun_ask(thread, &asked, &told);
+    static const lockrun_cell_t no_cell = LOCKRUN_CELL_INIT;
+    return lockrun_ask(thread, what, which, 0, &no_cell, &told);
 }
 
 /* Goes on with a call until that answers something else than to go on. */
@@ -108,7 +106,6 @@ int main(void)
 {
     lockrun_floor_t floor = LOCKRUN_FLOOR_INIT, other = LOCKRUN_FLOOR_INIT;
     lockrun_thread_t t = LOCKRUN_THREAD_INIT, u = t, v = t, w = t, x = t, y = t;
-    lockrun_asked_t about = LOCKRUN_ASKED_INIT;
     static char text[4000];
     size_t written = 0;
     lockrun_cell_t one, two, none;
@@ -173,6 +170,9 @@ int main(void)
     EXPECT(lockrun_gather(&floor, &t), LOCKRUN_NOT_ENDED);
     EXPECT(ask(&u, LOCKRUN_TRY, M), LOCKRUN_BUSY);
     EXPECT((uint32_t)told.word, 4);
+    /* a fault tells nothing, and leaves what was told */
+    EXPECT(ask(&u, LOCKRUN_RELEASE, M), LOCKRUN_NOT_HELD);
+    EXPECT((uint32_t)told.word, 4);
     EXPECT(lockrun_release(&u, M, LOCKRUN_EXCLUSIVE), LOCKRUN_NOT_HELD);
 
     /* Thread u waits for it, and is woken. */
@@ -204,9 +204,7 @@ int main(void)
     EXPECT(lockrun_take(&v, SX, LOCKRUN_SHARED), LOCKRUN_DONE);
     EXPECT(lockrun_take(&v, OTHER_SX, LOCKRUN_EXCLUSIVE), LOCKRUN_DONE);
     EXPECT(lockrun_release(&v, SX, LOCKRUN_SHARED), LOCKRUN_DONE);
-    about.what = LOCKRUN_TAKE;
-    about.which = SX;
-    EXPECT(lockrun_call(&v, about, &told), LOCKRUN_REVERSED);
+    EXPECT(lockrun_call(&v, LOCKRUN_TAKE, SX, 0, NULL, &told), LOCKRUN_REVERSED);
     EXPECT(told.held_class, 3);
     EXPECT(told.wanted_class, 2);
     EXPECT(lockrun_release(&v, OTHER_SX, LOCKRUN_EXCLUSIVE), LOCKRUN_DONE);
@@ -270,9 +268,7 @@ int main(void)
     EXPECT((uint32_t)value, 12);
     EXPECT(lockrun_get(&y, &two, &value), LOCKRUN_ABSENT);
     EXPECT(lockrun_release(&y, M, LOCKRUN_EXCLUSIVE), LOCKRUN_DONE);
-    about.what = LOCKRUN_PRIORITY;
-    about.number = 256;
-    EXPECT(lockrun_call(&y, about, NULL), LOCKRUN_NO_REQUEST);
+    EXPECT(lockrun_call(&y, LOCKRUN_PRIORITY, 0, 256, NULL, NULL), LOCKRUN_NO_REQUEST);
     EXPECT(lockrun_set_priority(&y, 90), LOCKRUN_DONE);
     EXPECT(lockrun_priorities(&y, &base, &effective), LOCKRUN_SHOWN);
     EXPECT(base, 90);

@@ -17,20 +17,14 @@ static struct task tasks[THREADS];
 static long parts, sleeps, holder = -1;
 
 /* What a thread asks next: it takes both locks, and releases both. */
-static lockrun_asked_t next_of(const struct task *task)
+static const uint32_t requests[] = {LOCKRUN_TAKE, LOCKRUN_TAKE_SHARED, LOCKRUN_RELEASE_SHARED, LOCKRUN_RELEASE};
+static const uint32_t which[] = {M, R, R, M};
+
+static uint32_t next_of(const struct task *task)
 {
-    static const uint32_t what[] = {LOCKRUN_TAKE, LOCKRUN_TAKE_SHARED, LOCKRUN_RELEASE_SHARED, LOCKRUN_RELEASE};
-    static const uint32_t which[] = {M, R, R, M};
-    lockrun_asked_t asked = LOCKRUN_ASKED_INIT;
     if (task->in_call)
-        asked.what = LOCKRUN_GO_ON;
-    else if (task->round == ROUNDS)
-        asked.what = LOCKRUN_END;
-    else {
-        asked.what = what[task->step];
-        asked.which = which[task->step];
-    }
-    return asked;
+        return LOCKRUN_GO_ON;
+    return task->round == ROUNDS ? LOCKRUN_END : requests[task->step];
 }
 
 static void done(struct task *task, long number)
@@ -50,13 +44,14 @@ static void done(struct task *task, long number)
 
 static void turn(struct task *task, long number)
 {
-    lockrun_asked_t asked = next_of(task);
+    static const lockrun_cell_t none = LOCKRUN_CELL_INIT;
+    uint32_t what = next_of(task);
     lockrun_told_t told = LOCKRUN_TOLD_INIT;
     parts++;
     /* the release may let another one in before it is told that it is done */
-    if (!task->in_call && asked.what == LOCKRUN_RELEASE)
+    if (what == LOCKRUN_RELEASE)
         holder = -1;
-    switch (lockrun_ask(&task->thread, &asked, &told)) {
+    switch (lockrun_ask(&task->thread, what, which[task->step], 0, &none, &told)) {
     case LOCKRUN_DONE:
         done(task, number);
         break;

@@ -29,41 +29,32 @@ pub const HELP: &[&str] = &[
 /// The version, which is the date of the newest change in `CHANGELOG.md`.
 pub const VERSION: &str = "2026.11.30";
 
+// An option: its name, what its text may be, and what that is called.
+macro_rules! option {
+    ($name:literal, $kind:expr, $value_name:literal) => {
+        LongOption {
+            name: $name,
+            kind: $kind,
+            value_name: $value_name,
+        }
+    };
+}
+
 // What the words may be, but for `--version`.
 const SYNOPSIS: Synopsis<'static> = Synopsis {
     program: "lockchart",
     operands: &[],
     options: &[
-        LongOption {
-            name: "turns",
-            kind: ValueKind::Number(1, TURNS),
-            value_name: "N",
-        },
-        LongOption {
-            name: "chains",
-            kind: ValueKind::Number(1, CHAINS),
-            value_name: "N",
-        },
-        LongOption {
-            name: "from",
-            kind: ValueKind::Number(0, TURNS),
-            value_name: "A",
-        },
-        LongOption {
-            name: "to",
-            kind: ValueKind::Number(0, TURNS),
-            value_name: "B",
-        },
-        LongOption {
-            name: "title",
-            kind: ValueKind::AnyText,
-            value_name: "TEXT",
-        },
-        LongOption {
-            name: "form",
-            kind: ValueKind::OneOf(&["svg", "html", "trace", "text", "json"]),
-            value_name: "FORM",
-        },
+        option!("turns", ValueKind::Number(1, TURNS), "N"),
+        option!("chains", ValueKind::Number(1, CHAINS), "N"),
+        option!("from", ValueKind::Number(0, TURNS), "A"),
+        option!("to", ValueKind::Number(0, TURNS), "B"),
+        option!("title", ValueKind::AnyText, "TEXT"),
+        option!(
+            "form",
+            ValueKind::OneOf(&["svg", "html", "trace", "text", "json"]),
+            "FORM"
+        ),
     ],
     lines: HELP,
     help: Some(Help {

@@ -1,15 +1,8 @@
 -- What all bytes of a list pass, and those of a number.
-use Rattle.std.proofs.Common.{ℕ, ◌/◌, ◌%◌, ◌≡◌, ◌∙◌, ◌<◌, zero, suc, ap, refl, Bool, true, false, ◌&&◌, ◌==◌, if◌then◌else◌, List, [], ◌∷◌, decimal, arith}
+use Rattle.std.proofs.Common.{ℕ, ◌/◌, ◌%◌, ◌≡◌, ◌<◌, zero, suc, refl, Bool, true, false, ◌==◌, if◌then◌else◌, List, [], ◌∷◌, decimal, arith}
 use Rattle.std.specs.Fmt.{digits, digits_onto, digit_glyph}
 use Rattle.std.specs.List.{list_all}
-use Rattle.std.proofs.lemmas.Bool.{false≢true}
-
-pub both : (a b : Bool) → (a && b) ≡ true → (a ≡ true) × (b ≡ true)
-both true b h = (refl, h)
-both false b h = absurd (false≢true h)
-
-pub consed : (p : ℕ → Bool) (b : ℕ) (bs : List ℕ) → p b ≡ true → list_all p bs ≡ true → list_all p (b ∷ bs) ≡ true
-consed p b bs h hs = ap (λ c. c && list_all p bs) h ∙ hs
+use Rattle.std.proofs.lemmas.Bool.{and_from}
 
 either : (p : ℕ → Bool) (c : Bool) (xs ys : List ℕ) → list_all p xs ≡ true → list_all p ys ≡ true
     → list_all p (if c then xs else ys) ≡ true
@@ -21,7 +14,7 @@ digits_pass : (p : ℕ → Bool) → ((d : ℕ) → d < 10 → p (digit_glyph fa
 digits_pass p each zero n acc h = h
 digits_pass p each (suc k) n acc h =
     let small : n % 10 < 10 = grind arith in
-    let more = consed p (digit_glyph false (n % 10)) acc (each (n % 10) small) h in
+    let more = and_from _ _ (each (n % 10) small) h in
     either p (n / 10 == 0) (digit_glyph false (n % 10) ∷ acc) (digits_onto k 10 false (n / 10) (digit_glyph false (n % 10) ∷ acc))
     more (digits_pass p each k (n / 10) (digit_glyph false (n % 10) ∷ acc) more)
 

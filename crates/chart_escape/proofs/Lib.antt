@@ -1,4 +1,6 @@
 mod Digits
 mod Escapes
-pub mod JsonReadings
+pub mod Numbers
 pub mod Readings
+mod Strings
+pub mod Written

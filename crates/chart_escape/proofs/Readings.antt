@@ -2,8 +2,8 @@
 use Rattle.std.proofs.Common.{ℕ, ◌≡◌, ◌∙◌, ◌++◌, ◌<◌, ap, refl, sym, Bool, true, false, not, ◌||◌, ◌==◌, List, [], ◌∷◌, Some, None, decimal, arith}
 use Rattle.std.specs.Fmt.{digit_glyph}
 use Rattle.std.specs.List.{list_all}
-use Rattle.std.proofs.lemmas.Bool.{false≢true}
-use Rattle.chart_escape.proofs.Digits.{both, decimal_passes}
+use Rattle.std.proofs.lemmas.Bool.{and_parts, false≢true}
+use Rattle.chart_escape.proofs.Digits.{decimal_passes}
 use Rattle.chart_escape.specs.Markup.{escaped, markup_byte}
 use Rattle.chart_escape.specs.Pieces.{piece_bytes, pieces_bytes}
 use Rattle.chart_escape.specs.Reader.{Text, Between, Quoted, Place, InText, InReference, InName, InTag, AtSlash, InClosing, Broken, Reader, at, behind, behind_byte, behind_piece, behind_pieces, behind_text, behind_words, read, is_between, IsBetweenTags, AddsElements, AreElements}
@@ -28,7 +28,7 @@ plain_byte (Quoted name) elements b h = grind (arith, h)
 plain_stays : (t : Text) (elements : List (List ℕ)) (bs : List ℕ) → list_all is_plain bs ≡ true → behind (at (InText t) elements) bs ≡ at (InText t) elements
 plain_stays t elements [] h = refl
 plain_stays t elements (b ∷ bs) h =
-    let hs = both (is_plain b) (list_all is_plain bs) h in
+    let hs = and_parts (is_plain b) (list_all is_plain bs) h in
     ap (λ r. behind r bs) (plain_byte t elements b hs.0) ∙ plain_stays t elements bs hs.1
 
 digit_plain : (d : ℕ) → d < 10 → is_plain (digit_glyph false d) ≡ true

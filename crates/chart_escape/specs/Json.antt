@@ -1,14 +1,12 @@
 -- How text is written as a JSON string.
-use Rattle.std.specs.Prelude.{ℕ, ◌+◌, ◌-◌, ◌/◌, ◌%◌, ◌++◌, not, ◌||◌, ◌==◌, nat_lt, if◌then◌else◌, IsTrue, List, [], ◌∷◌, codes, flat_map}
+use Rattle.std.specs.Prelude.{◌≡◌, ℕ, ◌/◌, ◌%◌, ◌++◌, not, ◌||◌, ◌==◌, nat_lt, if◌then◌else◌, IsTrue, List, [], ◌∷◌, codes, flat_map, Some}
+use Rattle.std.specs.Char.{digit_char}
 use Rattle.std.specs.List.{list_all}
-
--- a hexadecimal digit
-abbrev pub hex_digit : ℕ → ℕ
-hex_digit n = if nat_lt n 10 then 48 + n else 97 + (n - 10)
+use Rattle.json.specs.Json.{document, string}
 
 -- a byte by its number
 abbrev pub by_number : ℕ → List ℕ
-by_number b = codes "\\u00" ++ hex_digit (b / 16) ∷ hex_digit (b % 16) ∷ []
+by_number b = codes "\\u00" ++ digit_char (b / 16) ∷ digit_char (b % 16) ∷ []
 
 -- a byte by itself: the quote and the backslash behind a backslash, control bytes and `<` by their numbers
 abbrev pub json_byte : ℕ → List ℕ
@@ -20,6 +18,10 @@ json_byte b =
 -- the string, with its quotes
 abbrev pub json_string : List ℕ → List ℕ
 json_string text = 34 ∷ flat_map json_byte text ++ 34 ∷ []
+
+-- a reader takes it for just the text
+abbrev pub IsReadBack : List ℕ → Type 0
+IsReadBack text = document (json_string text) ≡ Some (string text)
 
 -- `<` stands nowhere in it, so no tag of the page round it does
 abbrev pub HasNoTag : List ℕ → Type 0

@@ -1,5 +1,5 @@
 pub mod Json
-pub mod JsonReader
 pub mod Markup
 pub mod Pieces
 pub mod Reader
+pub mod Values

@@ -1,12 +1,12 @@
 //! What a line of markup or JSON is made of.
 
-ghost use Rattle.std.specs.Prelude.{◌≡◌, ◌++◌, decimal, OnOk};
-ghost use Rattle.chart_escape.specs.JsonReader as json;
-ghost use Rattle.chart_escape.specs.Pieces.{piece_bytes, pieces_bytes};
+ghost use Rattle.std.specs.Prelude.{◌≡◌, ◌++◌, codes, decimal, OnOk};
+ghost use Rattle.chart_escape.specs.Pieces.{piece_bytes, pieces_bytes, tokens_bytes, written};
 ghost use Rattle.chart_escape.specs.Reader.{behind_pieces, read, AddsElements, AreElements, IsBetweenTags};
+ghost use Rattle.chart_escape.specs.Values.{comma_before, number_bytes};
 
-use crate::json::push_json;
 use crate::markup::push_text;
+use crate::quoted::push_json;
 use lock_model::push_digits;
 use std::alloc::AllocError;
 
@@ -29,30 +29,25 @@ pub enum Piece<'a> {
     Json(&'a [u8]),
 }
 
-/// Pushes pieces one behind the other, and tells where a reader of JSON is behind them. It fails where memory runs out.
+/// Pushes pieces of JSON one behind the other. It fails where memory runs out.
 ///
 /// ```
 /// push_tokens(&mut out, &[Piece::Own("{\"title\":"), Piece::Json(title)])?;
 /// ```
 pub fn push_tokens(out: &mut Vec<u8>, pieces: &[Piece<'_>]) -> Result<(), AllocError>
-    ensures pushed { OnOk result (out.new.items ≡ out.old.items ++ pieces_bytes pieces.now) }
-    ensures reads { OnOk result (json.read out.new.items
-        ≡ json.behind_pieces (json.read out.old.items) pieces.now) }
+    ensures { OnOk result (out.new.items ≡ out.old.items ++ tokens_bytes pieces.now) }
 {
-    for piece in pieces {
-        push_piece(out, *piece)?;
-    }
-    Ok(())
+    push_all(out, pieces)
 }
 
-/// The same where a reader of markup is.
+/// Pushes pieces of markup one behind the other, and tells where a reader is behind them.
 #[tactic(auto, using(crate::proofs::Readings::pieces_read_on))]
 pub fn push_pieces(out: &mut Vec<u8>, pieces: &[Piece<'_>]) -> Result<(), AllocError>
     ensures pushed { OnOk result (out.new.items ≡ out.old.items ++ pieces_bytes pieces.now) }
     ensures reads { OnOk result (read out.new.items
         ≡ behind_pieces (read out.old.items) pieces.now) }
 {
-    push_tokens(out, pieces)
+    push_all(out, pieces)
 }
 
 /// The same for pieces that are whole elements and text, where a reader of markup is between tags.
@@ -65,11 +60,20 @@ pub fn push_elements(out: &mut Vec<u8>, pieces: &[Piece<'_>]) -> Result<(), Allo
     push_pieces(out, pieces)
 }
 
-#[tactic(auto, using(crate::proofs::JsonReadings::read_on, crate::proofs::JsonReadings::text_read_on))]
+// Of either form.
+fn push_all(out: &mut Vec<u8>, pieces: &[Piece<'_>]) -> Result<(), AllocError>
+    ensures pushed { OnOk result (out.new.items ≡ out.old.items ++ pieces_bytes pieces.now) }
+    ensures told { OnOk result (out.new.items ≡ out.old.items ++ tokens_bytes pieces.now) }
+{
+    for piece in pieces {
+        push_piece(out, *piece)?;
+    }
+    Ok(())
+}
+
 fn push_piece(out: &mut Vec<u8>, piece: Piece<'_>) -> Result<(), AllocError>
     ensures pushed { OnOk result (out.new.items ≡ out.old.items ++ piece_bytes piece.entry) }
-    ensures reads { OnOk result (json.read out.new.items
-        ≡ json.behind_piece (json.read out.old.items) piece.entry) }
+    ensures told { OnOk result (out.new.items ≡ out.old.items ++ written number_bytes piece.entry) }
 {
     match piece {
         Piece::Own(text) => out.extend_from_slice(text.as_bytes()),
@@ -80,11 +84,22 @@ fn push_piece(out: &mut Vec<u8>, piece: Piece<'_>) -> Result<(), AllocError>
     }
 }
 
-#[tactic(auto, using(crate::proofs::JsonReadings::number_read_on))]
+#[tactic(auto, using(crate::proofs::Numbers::number_is_decimal))]
 fn push_number(out: &mut Vec<u8>, n: u64) -> Result<(), AllocError>
     ensures pushed { OnOk result (out.new.items ≡ out.old.items ++ decimal n) }
-    ensures reads { OnOk result (json.read out.new.items
-        ≡ json.behind_number (json.read out.old.items).place (json.read out.old.items).opens n) }
+    ensures told { OnOk result (out.new.items ≡ out.old.items ++ number_bytes n) }
 {
     push_digits(out, n)
+}
+
+/// Pushes what stands before the item of an array that has a line of its own: a comma, but for the first, and the end
+/// of the line before.
+pub fn begin_line_item(out: &mut Vec<u8>, first: bool) -> Result<(), AllocError>
+    ensures { OnOk result (out.new.items ≡ out.old.items ++ comma_before first ++ codes "\n") }
+{
+    if first {
+        out.extend_from_slice(b"\n")
+    } else {
+        out.extend_from_slice(b",\n")
+    }
 }

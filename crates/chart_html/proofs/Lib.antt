@@ -1,4 +1,3 @@
-pub mod Arrays
 mod Changed
-pub mod Members
-mod Pages
+mod Joined
+pub mod Shallow

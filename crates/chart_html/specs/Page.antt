@@ -1,7 +1,7 @@
 -- What the page of a chart is.
 use Rattle.std.specs.Prelude.{◌≡◌, ◌++◌, ℕ, List}
 use Rattle.chart_escape.specs.Json.{HasNoTag}
-use Rattle.chart_escape.specs.JsonReader.{IsJson}
+use Rattle.chart_escape.specs.Values.{IsJson}
 use Rattle.chart_escape.specs.Markup.{escaped}
 use Rattle.chart_escape.specs.Reader.{IsWellFormed}
 use Rattle.chart_html.specs.Data.{data_bytes}

@@ -1,8 +1,7 @@
--- How the page writes arrays and tracks as JSON.
-use Rattle.std.specs.Prelude.{ℕ, ◌+◌, Bool, false, if◌then◌else◌, List, [], ◌∷◌, ◌++◌, codes, decimal, Option, Some, None}
+-- How the page tells tracks, and of a thread's rows a column each as a track.
+use Rattle.std.specs.Prelude.{ℕ, Bool, false, if◌then◌else◌, List, [], ◌∷◌, codes, Option, Some, None}
 use Rattle.std.specs.Str.{bytes_eq}
-use Rattle.chart_escape.specs.Json.{json_string}
-use Rattle.chart_escape.specs.Pieces.{comma}
+use Rattle.chart_escape.specs.Values.{list, tuple, value_bytes, Number, String, Value}
 use Rattle.chart_words.specs.Words.{queue_name, queue_words}
 use Rattle.chart_html.specs.declared.columns.Column.{Column}
 use Rattle.chart_html.specs.declared.columns.Column.TheVariants as columns
@@ -17,38 +16,23 @@ use Rattle.lock_objects.specs.declared.wait.Wait.{Wait}
 use Rattle.lock_objects.specs.declared.wait.Wait.TheVariants.{Running, Queued, Woken}
 use Rattle.run_tracks.specs.declared.threads.ThreadRow.{ThreadRow}
 
--- 1. Arrays
+-- 1. Tracks
 
--- the items of an array that stand behind `i` others, each behind its comma
-abbrev pub items_bytes : {T : Type 0} → (ℕ → T → List ℕ) → ℕ → List T → List ℕ
-items_bytes item i [] = []
-items_bytes item i (x ∷ xs) = comma i ++ item i x ++ items_bytes item (i + 1) xs
+-- a row and what holds from it on, which is told so
+abbrev pub pair : {T : Type 0} → (T → Value) → ℕ × T → Value
+pair told change = tuple (Number change.0 ∷ told change.1 ∷ [])
 
--- an array, each item of which is told by its place and its value
-abbrev pub numbered_bytes : {T : Type 0} → (ℕ → T → List ℕ) → List T → List ℕ
-numbered_bytes item xs = codes "[" ++ items_bytes item 0 xs ++ codes "]"
+-- a track: its changes
+abbrev pub track : {T : Type 0} → (T → Value) → List (ℕ × T) → Value
+track told changes = list (pair told) changes
 
--- an array, each item of which is told by its value
-abbrev pub array_bytes : {T : Type 0} → (T → List ℕ) → List T → List ℕ
-array_bytes item xs = numbered_bytes (λ i x. item x) xs
+-- how a lock is held: exclusive, shared, or not
+abbrev pub hold : Option Mode → Value
+hold None = String []
+hold (Some Excl) = String (codes "x")
+hold (Some Shared) = String (codes "s")
 
--- 2. Tracks
-
--- a row and what holds from it on
-abbrev pub pair_bytes : ℕ → List ℕ → List ℕ
-pair_bytes row value = codes "[" ++ decimal row ++ codes "," ++ value ++ codes "]"
-
--- a track: an array of its changes, whose values are written so
-abbrev pub track_bytes : {T : Type 0} → (T → List ℕ) → List (ℕ × T) → List ℕ
-track_bytes value changes = array_bytes (λ change. pair_bytes change.0 (value change.1)) changes
-
--- how a lock is held: exclusive, shared, or not, as the value of a track
-abbrev pub hold_bytes : Option Mode → List ℕ
-hold_bytes None = json_string []
-hold_bytes (Some Excl) = json_string (codes "x")
-hold_bytes (Some Shared) = json_string (codes "s")
-
--- 3. Columns of a thread's rows
+-- 2. Columns of a thread's rows
 
 -- whether a thread runs, is queued or was woken
 abbrev pub wait_word : Wait → List ℕ
@@ -72,41 +56,31 @@ walk_name plan walk.None = []
 walk_name plan (walk.AtLock l) = lock_name plan l.0
 walk_name plan (walk.AtThread t) = thread_name plan t.0
 
--- what a column tells of a row: a number in decimal, or words
+-- what a column tells of a row
+abbrev pub cell : Plan → Column → ThreadRow → Value
+cell plan columns.Base row = Number row.base.0
+cell plan columns.Runs row = Number row.effective.0
+cell plan columns.Wait row = String (wait_word row.wait)
+cell plan columns.On row = String (name_of plan row.blocked_on)
+cell plan columns.Stands row = String (standing_words plan row.stands_on)
+cell plan columns.Walk row = String (walk_name plan row.walk)
+
+-- as it is written
 abbrev pub told : Plan → Column → ThreadRow → List ℕ
-told plan columns.Base row = decimal row.base.0
-told plan columns.Runs row = decimal row.effective.0
-told plan columns.Wait row = wait_word row.wait
-told plan columns.On row = name_of plan row.blocked_on
-told plan columns.Stands row = standing_words plan row.stands_on
-told plan columns.Walk row = walk_name plan row.walk
+told plan column row = value_bytes (cell plan column row)
 
--- as JSON: a number, or a string
-abbrev pub value_bytes : Plan → Column → ThreadRow → List ℕ
-value_bytes plan columns.Base row = decimal row.base.0
-value_bytes plan columns.Runs row = decimal row.effective.0
-value_bytes plan columns.Wait row = json_string (wait_word row.wait)
-value_bytes plan columns.On row = json_string (name_of plan row.blocked_on)
-value_bytes plan columns.Stands row = json_string (standing_words plan row.stands_on)
-value_bytes plan columns.Walk row = json_string (walk_name plan row.walk)
-
--- whether it is what was told before
+-- whether it is what was told last
 abbrev pub is_told : Option (List ℕ) → List ℕ → Bool
 is_told None text = false
-is_told (Some before) text = bytes_eq before text
+is_told (Some last) text = bytes_eq last text
 
--- the changes of rows at which something else is told than before
-abbrev pub changed_at : Option (List ℕ) → List ℕ → ℕ × ThreadRow → List (ℕ × ThreadRow)
-changed_at before text row = if is_told before text then [] else row ∷ []
-
--- all of them, where this was told before
-abbrev pub changed : (ThreadRow → List ℕ) → Option (List ℕ) → List (ℕ × ThreadRow)
-    → List (ℕ × ThreadRow)
-changed tells before [] = []
-changed tells before (row ∷ rows) =
-    changed_at before (tells row.1) row ++ changed tells (Some (tells row.1)) rows
+-- the changes at which something else is told than was told last
+abbrev pub changed : {T : Type 0} → (T → List ℕ) → Option (List ℕ) → List (ℕ × T) → List (ℕ × T)
+changed tells last [] = []
+changed tells last (row ∷ rows) =
+    if is_told last (tells row.1) then changed tells last rows
+    else row ∷ changed tells (Some (tells row.1)) rows
 
 -- a column: the track of these
-abbrev pub column_bytes : Plan → Column → List (ℕ × ThreadRow) → List ℕ
-column_bytes plan column rows =
-    track_bytes (value_bytes plan column) (changed (told plan column) None rows)
+abbrev pub column_track : Plan → Column → List (ℕ × ThreadRow) → Value
+column_track plan column rows = track (cell plan column) (changed (told plan column) None rows)

@@ -1,19 +1,18 @@
-//! What the rows of a thread tell, column by column, as tracks of JSON.
-ghost use Rattle.std.specs.Prelude.{◌≡◌, ◌++◌, ℕ, List, option_map, None, IfOk, OnOk};
-ghost use Rattle.chart_escape.specs.JsonReader.{AddsItem, AddsValue, AreBehind, IsAtValue};
-ghost use Rattle.chart_escape.specs.Pieces.{comma};
-ghost use Rattle.chart_html.specs.Tracks.{changed, changed_at, column_bytes, pair_bytes, told, value_bytes};
+//! What the rows of a thread tell, column by column, as tracks.
+ghost use Rattle.std.specs.Prelude.{◌≡◌, ◌++◌, ℕ, List, option_map, None, OnOk};
+ghost use Rattle.chart_escape.specs.Values.{value_bytes};
+ghost use Rattle.chart_html.specs.Tracks.{changed, column_track, is_told, told};
 ghost use Rattle.chart_html.specs.declared.columns.Column as columns;
 ghost use Rattle.lock_model.specs.declared.plan.Plan as plans;
 ghost use Rattle.run_tracks.specs.Tracks.{value_in, IsTrack};
 ghost use Rattle.run_tracks.specs.declared.threads.ThreadRow as threads;
 
-use crate::tracks::{push_number, push_word};
-use chart_escape::{begin_array, end_array};
+use crate::tracks::begin_pair;
+use chart_escape::{Piece, begin_line_item, push_tokens};
 use chart_words::{push_queue, queue_name};
-use lock_model::{Plan, push_digits};
+use lock_model::Plan;
 use run_tracks::{ThreadRow, Wait, Walk};
-use std::alloc::{AllocError, Global};
+use std::alloc::AllocError;
 
 /// What a track tells of a thread.
 #[derive(Clone, Copy)]
@@ -44,118 +43,81 @@ pub fn columns_tell_rows()
         ≡ option_map (told plan column) (value_in n rows) }
 {}
 
-/// Pushes a column as a track: a pair for each change at which it tells something else.
+/// Pushes a member that is the track of a column: what stands up to it, and a pair for each change at which the column
+/// tells something else.
 pub fn push_column(
-    alloc: Global,
     out: &mut Vec<u8>,
+    name: &[u8],
     plan: &Plan,
     column: Column,
     rows: &[(u32, ThreadRow)],
 ) -> Result<(), AllocError>
-    requires { IsAtValue out.old.items }
-    ensures pushed { OnOk result (out.new.items
-        ≡ out.old.items ++ column_bytes plan.now column rows.now) }
-    ensures reads { OnOk result (AddsValue out.old.items out.new.items) }
+    ensures { OnOk result (out.new.items ≡ out.old.items
+        ++ name.now ++ value_bytes (column_track plan.now column rows.now)) }
 {
-    let changes = changes_of(alloc, plan, column, rows)?;
-    begin_array(out)?;
-    for (i, change) in changes.iter().enumerate() {
-        push_pair(alloc, out, i, plan, column, *change)?;
-    }
-    end_array(out, changes.len())
-}
-
-fn changes_of(
-    alloc: Global,
-    plan: &Plan,
-    column: Column,
-    rows: &[(u32, ThreadRow)],
-) -> Result<Vec<(u32, ThreadRow)>, AllocError>
-    ensures { IfOk result (λ changes. changes.items
-        ≡ changed (told plan.now column) None rows.now) }
-{
-    let mut changes = Vec::new(alloc);
-    let mut before = None;
+    out.extend_from_slice(name)?;
+    out.push(b'[')?;
+    let mut last = None;
+    let mut n = 0usize;
     for row in rows {
-        let mut text = Vec::new(alloc);
-        push_told(&mut text, plan, column, row.1)?;
-        push_change(&mut changes, &before, &text, *row)?;
-        before = Some(text);
-    }
-    Ok(changes)
-}
-
-fn push_change(
-    changes: &mut Vec<(u32, ThreadRow)>,
-    before: &Option<Vec<u8>>,
-    text: &[u8],
-    row: (u32, ThreadRow),
-) -> Result<(), AllocError>
-    ensures { OnOk result (changes.new.items ≡ changes.old.items
-        ++ changed_at (option_map (λ text. text.items) before.now) text.now row) }
-{
-    if let Some(before) = before {
-        if before.as_slice() == text {
-            return Ok(());
+        let mut text = Vec::new(*out.allocator());
+        push_cell(&mut text, plan, column, row.1)?;
+        if is_told(&last, &text) {
+            continue;
         }
+        begin_line_item(out, n == 0)?;
+        begin_pair(out, row.0)?;
+        out.extend_from_slice(&text)?;
+        out.push(b']')?;
+        last = Some(text);
+        n += 1;
     }
-    changes.push(row)?;
+    out.push(b']')?;
     Ok(())
 }
 
-fn push_pair(
-    alloc: Global,
-    out: &mut Vec<u8>,
-    i: usize,
-    plan: &Plan,
-    column: Column,
-    change: (u32, ThreadRow),
-) -> Result<(), AllocError>
-    requires { AreBehind i out.old.items }
-    ensures pushed { OnOk result (out.new.items
-        ≡ out.old.items ++ comma i ++ pair_bytes change.0 (value_bytes plan.now column change.1)) }
-    ensures reads { OnOk result (AddsItem i out.old.items out.new.items) }
+fn is_told(last: &Option<Vec<u8>>, text: &[u8]) -> bool
+    ensures { result ≡ is_told (option_map (λ last. last.items) last.now) text.now }
 {
-    match column {
-        Column::Base => push_number(out, i, change.0, u64::from(change.1.base.0)),
-        Column::Runs => push_number(out, i, change.0, u64::from(change.1.effective.0)),
-        Column::Wait | Column::On | Column::Stands | Column::Walk => {
-            let mut words = Vec::new(alloc);
-            push_told(&mut words, plan, column, change.1)?;
-            push_word(out, i, change.0, &words)
-        }
+    match last {
+        Some(last) => last.as_slice() == text,
+        None => false,
     }
 }
 
 // What a column tells of a row.
-fn push_told(
-    text: &mut Vec<u8>,
+fn push_cell(
+    out: &mut Vec<u8>,
     plan: &Plan,
     column: Column,
     row: ThreadRow,
 ) -> Result<(), AllocError>
-    ensures { OnOk result (text.new.items ≡ text.old.items ++ told plan.now column row) }
+    ensures { OnOk result (out.new.items ≡ out.old.items ++ told plan.now column row) }
 {
     match column {
-        Column::Base => push_digits(text, u64::from(row.base.0)),
-        Column::Runs => push_digits(text, u64::from(row.effective.0)),
+        Column::Base => push_tokens(out, &[Piece::Number(u64::from(row.base.0))]),
+        Column::Runs => push_tokens(out, &[Piece::Number(u64::from(row.effective.0))]),
         Column::Wait => match row.wait {
-            Wait::Running => text.extend_from_slice(b"running"),
-            Wait::Queued => text.extend_from_slice(b"queued"),
-            Wait::Woken(_) => text.extend_from_slice(b"woken"),
+            Wait::Running => push_tokens(out, &[Piece::Json(b"running")]),
+            Wait::Queued => push_tokens(out, &[Piece::Json(b"queued")]),
+            Wait::Woken(_) => push_tokens(out, &[Piece::Json(b"woken")]),
         },
         Column::On => match row.blocked_on {
-            Some(q) => text.extend_from_slice(queue_name(plan, q)),
-            None => Ok(()),
+            Some(q) => push_tokens(out, &[Piece::Json(queue_name(plan, q))]),
+            None => push_tokens(out, &[Piece::Json(b"")]),
         },
         Column::Stands => match row.stands_on {
-            Some(q) => push_queue(text, plan, q),
-            None => Ok(()),
+            Some(q) => {
+                let mut words = Vec::new(*out.allocator());
+                push_queue(&mut words, plan, q)?;
+                push_tokens(out, &[Piece::Json(&words)])
+            }
+            None => push_tokens(out, &[Piece::Json(b"")]),
         },
         Column::Walk => match row.walk {
-            Walk::None => Ok(()),
-            Walk::AtLock(l) => text.extend_from_slice(plan.lock_name(l)),
-            Walk::AtThread(t) => text.extend_from_slice(plan.thread_name(t)),
+            Walk::None => push_tokens(out, &[Piece::Json(b"")]),
+            Walk::AtLock(l) => push_tokens(out, &[Piece::Json(plan.lock_name(l))]),
+            Walk::AtThread(t) => push_tokens(out, &[Piece::Json(plan.thread_name(t))]),
         },
     }
 }

@@ -1,16 +1,12 @@
-//! What the page knows of each row, as JSON.
+//! What the page knows of a run, as JSON.
 ghost use Rattle.std.specs.Prelude.{◌≡◌, ◌++◌, [], slice_get, unwrap_or, IfOk, OnOk};
-ghost use Rattle.chart_escape.specs.JsonReader.{AddsValue, IsAtValue, IsJson};
-ghost use Rattle.chart_html.specs.Data.{data_bytes, done_words, edits_bytes, lock_bytes, locks_bytes, marks_bytes, said_bytes};
+ghost use Rattle.chart_escape.specs.Values.{IsJson};
+ghost use Rattle.chart_html.specs.Data.{data_bytes, done_words, kind_word, lock, mark, sentence};
 
-use crate::edits::edits_of;
-use crate::queues::push_changes;
-use crate::threads::push_threads;
-use crate::tracks::push_words;
-use chart_escape::{
-    Piece, begin_array, begin_item, begin_member, begin_object, end_array, end_object, push_item,
-};
-use chart_layout::{Chart, MarkKind, TurnMark};
+use crate::edits::push_edits;
+use crate::items::{Known, Listed, push_items};
+use chart_escape::{Piece, push_tokens};
+use chart_layout::{Chart, MarkKind, Sentence, TurnMark};
 use chart_words::{push_mark, push_note, push_sentence};
 use lock_model::{Kind, LockDecl, Plan};
 use run_tracks::Rows;
@@ -30,69 +26,49 @@ pub fn data_of(
     ensures told { IfOk result (λ text. text.items ≡ data_bytes plan.now rows.now chart.now) }
     ensures reads { IfOk result (λ text. IsJson text.items) }
 {
+    let known = &Known { plan, rows, chart };
     let mut out = Vec::new(alloc);
-    begin_object(
+    push_tokens(
         &mut out,
         &[
             Piece::Own("{\"first\":"),
             Piece::Number(u64::from(chart.first)),
             Piece::Own(",\"last\":"),
             Piece::Number(u64::from(chart.last)),
-            Piece::Own(",\n\"marks\":"),
         ],
     )?;
-    push_marks(alloc, &mut out, plan, chart.marks.as_slice())?;
-    begin_member(&mut out, &[Piece::Own(",\n\"said\":")])?;
-    push_said(alloc, &mut out, plan, chart)?;
-    begin_member(&mut out, &[Piece::Own(",\n\"threads\":")])?;
-    push_threads(alloc, &mut out, plan, rows, chart)?;
-    begin_member(&mut out, &[Piece::Own(",\n\"locks\":")])?;
-    push_locks(&mut out, plan, rows)?;
-    begin_member(&mut out, &[Piece::Own(",\n\"queues\":")])?;
-    push_changes(&mut out, plan, rows)?;
-    begin_member(&mut out, &[Piece::Own(",\n\"edits\":")])?;
-    push_edits(alloc, &mut out, rows)?;
-    end_object(&mut out, &[Piece::Own("}\n")])?;
+    push_items(&mut out, b",\n\"marks\":", known, chart.marks.as_slice())?;
+    push_items(&mut out, b",\n\"said\":", known, chart.sentences.as_slice())?;
+    push_items(&mut out, b",\n\"threads\":", known, rows.threads.as_slice())?;
+    push_items(&mut out, b",\n\"locks\":", known, plan.locks.as_slice())?;
+    push_items(&mut out, b",\n\"queues\":", known, rows.queues.changes())?;
+    out.extend_from_slice(b",\n\"edits\":")?;
+    push_edits(&mut out, rows.turns.as_slice())?;
+    out.extend_from_slice(b"}")?;
+    out.extend_from_slice(b"\n")?;
     Ok(out)
 }
 
-// Turns: number, thread, and what was done.
-fn push_marks(
-    alloc: Global,
-    out: &mut Vec<u8>,
-    plan: &Plan,
-    marks: &[TurnMark],
-) -> Result<(), AllocError>
-    requires { IsAtValue out.old.items }
-    ensures pushed { OnOk result (out.new.items ≡ out.old.items ++ marks_bytes plan.now marks.now) }
-    ensures reads { OnOk result (AddsValue out.old.items out.new.items) }
-{
-    begin_array(out)?;
-    for (i, mark) in marks.iter().enumerate() {
-        let words = words_of(alloc, plan, mark.what)?;
-        push_item(
+/// A turn: number, thread, and what was done.
+impl Listed for TurnMark {
+    ghost value = { λ known n its. mark known.plan.now its };
+
+    fn push(&self, out: &mut Vec<u8>, known: &Known<'_>, _n: usize) -> Result<(), AllocError> {
+        let mut words = Vec::new(*out.allocator());
+        push_done(&mut words, known.plan, self.what)?;
+        push_tokens(
             out,
-            i,
             &[
                 Piece::Own("["),
-                Piece::Number(u64::from(mark.turn)),
+                Piece::Number(u64::from(self.turn)),
                 Piece::Own(","),
-                Piece::Number(u64::from(mark.thread.0)),
+                Piece::Number(u64::from(self.thread.0)),
                 Piece::Own(","),
                 Piece::Json(&words),
                 Piece::Own("]"),
             ],
-        )?;
+        )
     }
-    end_array(out, marks.len())
-}
-
-fn words_of(alloc: Global, plan: &Plan, what: MarkKind) -> Result<Vec<u8>, AllocError>
-    ensures { IfOk result (λ words. words.items ≡ done_words plan.now what) }
-{
-    let mut words = Vec::new(alloc);
-    push_done(&mut words, plan, what)?;
-    Ok(words)
 }
 
 // What was done, with all that its event tells.
@@ -109,46 +85,54 @@ fn push_done(out: &mut Vec<u8>, plan: &Plan, what: MarkKind) -> Result<(), Alloc
     }
 }
 
-// Sentences, each with its turn.
-fn push_said(alloc: Global, out: &mut Vec<u8>, plan: &Plan, chart: &Chart) -> Result<(), AllocError>
-    requires { IsAtValue out.old.items }
-    ensures pushed { OnOk result (out.new.items
-        ≡ out.old.items ++ said_bytes plan.now chart.now.sentences) }
-    ensures reads { OnOk result (AddsValue out.old.items out.new.items) }
-{
-    let sentences = chart.sentences.as_slice();
-    begin_array(out)?;
-    for (i, sentence) in sentences.iter().enumerate() {
-        let mut words = Vec::new(alloc);
-        push_sentence(&mut words, plan, sentence)?;
-        push_item(
+/// A sentence, with its turn.
+impl Listed for Sentence {
+    ghost value = { λ known n its. sentence known.plan.now its };
+
+    fn push(&self, out: &mut Vec<u8>, known: &Known<'_>, _n: usize) -> Result<(), AllocError> {
+        let mut words = Vec::new(*out.allocator());
+        push_sentence(&mut words, known.plan, self)?;
+        push_tokens(
             out,
-            i,
             &[
                 Piece::Own("["),
-                Piece::Number(u64::from(sentence.turn)),
+                Piece::Number(u64::from(self.turn)),
                 Piece::Own(","),
                 Piece::Json(&words),
                 Piece::Own("]"),
             ],
-        )?;
+        )
     }
-    end_array(out, sentences.len())
 }
 
-fn push_locks(out: &mut Vec<u8>, plan: &Plan, rows: &Rows) -> Result<(), AllocError>
-    requires { IsAtValue out.old.items }
-    ensures pushed { OnOk result (out.new.items
-        ≡ out.old.items ++ locks_bytes plan.now rows.now.words) }
-    ensures reads { OnOk result (AddsValue out.old.items out.new.items) }
-{
-    let locks = plan.locks.as_slice();
-    begin_array(out)?;
-    for (l, lock) in locks.iter().enumerate() {
-        begin_item(out, l)?;
-        push_lock(out, lock, track_of(rows, l))?;
+/// A lock: its name, its kind, and the track of its word.
+impl Listed for LockDecl {
+    ghost value = { λ known l its. lock known.rows.now.words l its };
+
+    fn push(&self, out: &mut Vec<u8>, known: &Known<'_>, l: usize) -> Result<(), AllocError> {
+        push_tokens(
+            out,
+            &[
+                Piece::Own("{\"name\":"),
+                Piece::Json(self.name.as_bytes()),
+                Piece::Own(",\"kind\":"),
+                Piece::Json(kind_word(self.kind)),
+            ],
+        )?;
+        push_items(out, b",\"word\":", known, track_of(known.rows, l))?;
+        out.extend_from_slice(b"}")?;
+        Ok(())
     }
-    end_array(out, locks.len())
+}
+
+fn kind_word(kind: Kind) -> &'static [u8]
+    ensures { result.now ≡ kind_word kind }
+{
+    match kind {
+        Kind::Mtx => b"mutex",
+        Kind::Rw => b"rw",
+        Kind::Sx => b"sx",
+    }
 }
 
 // The track of a lock's word.
@@ -159,59 +143,4 @@ fn track_of(rows: &Rows, l: usize) -> &[(u32, u64)]
         Some(track) => track.changes(),
         None => &[],
     }
-}
-
-// A lock: its name, its kind, and its word.
-fn push_lock(out: &mut Vec<u8>, lock: &LockDecl, words: &[(u32, u64)]) -> Result<(), AllocError>
-    requires { IsAtValue out.old.items }
-    ensures pushed { OnOk result (out.new.items ≡ out.old.items ++ lock_bytes lock.now words.now) }
-    ensures reads { OnOk result (AddsValue out.old.items out.new.items) }
-{
-    let kind: &[u8] = match lock.kind {
-        Kind::Mtx => b"mutex",
-        Kind::Rw => b"rw",
-        Kind::Sx => b"sx",
-    };
-    begin_object(
-        out,
-        &[
-            Piece::Own("{\"name\":"),
-            Piece::Json(lock.name.as_bytes()),
-            Piece::Own(",\"kind\":"),
-            Piece::Json(kind),
-            Piece::Own(",\"word\":"),
-        ],
-    )?;
-    push_words(out, words)?;
-    end_object(out, &[Piece::Own("}")])
-}
-
-// Edits of the locks' tables. A key and a value may have 64 bits, so they are strings.
-fn push_edits(alloc: Global, out: &mut Vec<u8>, rows: &Rows) -> Result<(), AllocError>
-    requires { IsAtValue out.old.items }
-    ensures pushed { OnOk result (out.new.items ≡ out.old.items ++ edits_bytes rows.now) }
-    ensures reads { OnOk result (AddsValue out.old.items out.new.items) }
-{
-    let edits = edits_of(alloc, rows)?;
-    begin_array(out)?;
-    for (i, edit) in edits.iter().enumerate() {
-        push_item(
-            out,
-            i,
-            &[
-                Piece::Own("["),
-                Piece::Number(edit.row),
-                Piece::Own(","),
-                Piece::Number(u64::from(edit.l.0)),
-                Piece::Own(",\""),
-                Piece::Number(edit.key),
-                Piece::Own("\","),
-                Piece::Number(u64::from(edit.adds)),
-                Piece::Own(",\""),
-                Piece::Number(edit.amount),
-                Piece::Own("\"]"),
-            ],
-        )?;
-    }
-    end_array(out, edits.len())
 }

@@ -1,17 +1,16 @@
 //! What was set and added in the locks' tables, each with its row.
+ghost use Rattle.std.specs.Prelude.{◌≡◌, ◌++◌, OnOk};
+ghost use Rattle.chart_escape.specs.Values.{value_bytes, Array};
+ghost use Rattle.chart_html.specs.Data.{edit, edit_of, edits_behind};
 
-ghost use Rattle.std.specs.Prelude.{◌≡◌, ◌++◌, IfOk, OnOk};
-ghost use Rattle.chart_html.specs.Data.{edit, run_edits, turn_edits};
-
-use lock_model::{Event, LockNo, OfTable};
-use run_tracks::Rows;
-use std::alloc::{AllocError, Global};
+use chart_escape::{Piece, begin_line_item, push_tokens};
+use lock_model::{LockNo, OfTable};
+use run_tracks::TurnRow;
+use std::alloc::AllocError;
 
 /// An edit of a lock's table.
 #[derive(Clone, Copy)]
 pub struct Edit {
-    /// The row from which on it stands.
-    pub row: u64,
     pub l: LockNo,
     pub key: u64,
     /// Whether the amount was added to what stood there.
@@ -19,53 +18,59 @@ pub struct Edit {
     pub amount: u64,
 }
 
-/// The edits of a run, by row. A turn makes one entry of the history, or none.
-pub fn edits_of(alloc: Global, rows: &Rows) -> Result<Vec<Edit>, AllocError>
-    ensures { IfOk result (λ edits. edits.items ≡ run_edits rows.now) }
+/// Pushes the edits of a run, by row. A turn made one, or none.
+pub fn push_edits(out: &mut Vec<u8>, turns: &[TurnRow]) -> Result<(), AllocError>
+    ensures { OnOk result (out.new.items
+        ≡ out.old.items ++ value_bytes (Array (edits_behind 0 turns.now))) }
 {
-    let mut edits = Vec::new(alloc);
-    let mut made = 0;
-    for (turn, its) in rows.turns.as_slice().iter().enumerate() {
-        push_made(&mut edits, rows, turn as u64 + 1, made, its.entries)?;
-        made = its.entries;
+    out.push(b'[')?;
+    let mut first = true;
+    for (turn, its) in turns.iter().enumerate() {
+        let Some(edit) = edit_of(*its) else {
+            continue;
+        };
+        begin_line_item(out, first)?;
+        push_edit(out, turn as u64 + 1, edit)?;
+        first = false;
     }
-    Ok(edits)
+    out.push(b']')?;
+    Ok(())
 }
 
-// What a turn made, behind which the history has so many entries where it had `made`.
-fn push_made(
-    edits: &mut Vec<Edit>,
-    rows: &Rows,
-    row: u64,
-    made: u32,
-    entries: u32,
-) -> Result<(), AllocError>
-    ensures { OnOk result (edits.new.items ≡ edits.old.items
-        ++ turn_edits rows.now.outcome.history row made entries) }
+fn edit_of(turn: TurnRow) -> Option<Edit>
+    ensures { result ≡ edit_of turn }
 {
-    if made >= entries {
-        return Ok(());
-    }
-    match rows.outcome.history.at(made) {
-        Some(entry) => push_edit(edits, row, entry.event),
-        None => Ok(()),
-    }
-}
-
-fn push_edit(edits: &mut Vec<Edit>, row: u64, event: Event) -> Result<(), AllocError>
-    ensures { OnOk result (edits.new.items ≡ edits.old.items ++ edit row event) }
-{
-    let (l, key, adds, amount) = match event.at_table() {
+    let (l, key, adds, amount) = match turn.entry?.event.at_table() {
         OfTable::SetsTo { l, key, value } => (l, key, false, value),
         OfTable::AddsTo { l, key, amount } => (l, key, true, amount),
-        OfTable::NoTable | OfTable::Reads { .. } => return Ok(()),
+        OfTable::NoTable | OfTable::Reads { .. } => return None,
     };
-    edits.push(Edit {
-        row,
+    Some(Edit {
         l,
         key,
         adds,
         amount,
-    })?;
-    Ok(())
+    })
+}
+
+// A key and an amount may have 64 bits, so they are strings.
+fn push_edit(out: &mut Vec<u8>, row: u64, its: Edit) -> Result<(), AllocError>
+    ensures { OnOk result (out.new.items ≡ out.old.items ++ value_bytes (edit row its)) }
+{
+    push_tokens(
+        out,
+        &[
+            Piece::Own("["),
+            Piece::Number(row),
+            Piece::Own(","),
+            Piece::Number(u64::from(its.l.0)),
+            Piece::Own(",\""),
+            Piece::Number(its.key),
+            Piece::Own("\","),
+            Piece::Number(u64::from(its.adds)),
+            Piece::Own(",\""),
+            Piece::Number(its.amount),
+            Piece::Own("\"]"),
+        ],
+    )
 }

@@ -1,133 +1,73 @@
-//! The queues that weren't empty, as JSON.
-ghost use Rattle.std.specs.Prelude.{◌≡◌, ◌++◌, OnOk};
-ghost use Rattle.chart_escape.specs.JsonReader.{AddsValue, IsAtValue};
-ghost use Rattle.chart_html.specs.Data.{change_bytes, line_bytes, name_bytes, queues_bytes, waiters_bytes};
-ghost use Rattle.chart_html.specs.Tracks.{array_bytes};
+//! The queues that weren't empty.
+ghost use Rattle.chart_html.specs.Data.{queue, queues_from, thread_called, waiter};
 
-use chart_escape::{
-    Piece, begin_array, begin_item, begin_member, begin_object, end_array, end_object, push_item,
-};
+use crate::items::{Known, Listed, push_items};
+use chart_escape::{Piece, push_tokens};
 use chart_words::queue_name;
 use lock_history::QueueLine;
-use lock_model::{Plan, Prio, ThreadNo};
-use run_tracks::Rows;
+use lock_model::{Prio, Sequence, ThreadNo};
 use std::alloc::AllocError;
 
-/// Pushes the queues of a run, by the row from which on they hold.
-pub fn push_changes(out: &mut Vec<u8>, plan: &Plan, rows: &Rows) -> Result<(), AllocError>
-    requires { IsAtValue out.old.items }
-    ensures pushed { OnOk result (out.new.items
-        ≡ out.old.items ++ queues_bytes plan.now rows.now.queues) }
-    ensures reads { OnOk result (AddsValue out.old.items out.new.items) }
-{
-    let changes = rows.queues.changes();
-    begin_array(out)?;
-    for (i, change) in changes.iter().enumerate() {
-        begin_item(out, i)?;
-        push_change(out, plan, change.0, change.1.as_slice())?;
-    }
-    end_array(out, changes.len())
-}
+/// A row, and the queues that from it on weren't empty.
+impl Listed for (u32, Sequence<QueueLine>) {
+    ghost value = { λ known n change. queues_from known.plan.now change };
 
-fn push_change(
-    out: &mut Vec<u8>,
-    plan: &Plan,
-    row: u32,
-    lines: &[QueueLine],
-) -> Result<(), AllocError>
-    requires { IsAtValue out.old.items }
-    ensures pushed { OnOk result (out.new.items
-        ≡ out.old.items ++ change_bytes plan.now (row, lines.now)) }
-    ensures reads { OnOk result (AddsValue out.old.items out.new.items) }
-{
-    begin_object(
-        out,
-        &[
-            Piece::Own("{\"row\":"),
-            Piece::Number(u64::from(row)),
-            Piece::Own(",\"lines\":"),
-        ],
-    )?;
-    push_lines(out, plan, lines)?;
-    end_object(out, &[Piece::Own("}")])
-}
-
-fn push_lines(out: &mut Vec<u8>, plan: &Plan, lines: &[QueueLine]) -> Result<(), AllocError>
-    requires { IsAtValue out.old.items }
-    ensures pushed { OnOk result (out.new.items
-        ≡ out.old.items ++ array_bytes (line_bytes plan.now) lines.now) }
-    ensures reads { OnOk result (AddsValue out.old.items out.new.items) }
-{
-    begin_array(out)?;
-    for (i, line) in lines.iter().enumerate() {
-        begin_item(out, i)?;
-        push_line(out, plan, line)?;
-    }
-    end_array(out, lines.len())
-}
-
-fn push_line(out: &mut Vec<u8>, plan: &Plan, line: &QueueLine) -> Result<(), AllocError>
-    requires { IsAtValue out.old.items }
-    ensures pushed { OnOk result (out.new.items ≡ out.old.items ++ line_bytes plan.now line.now) }
-    ensures reads { OnOk result (AddsValue out.old.items out.new.items) }
-{
-    begin_object(
-        out,
-        &[
-            Piece::Own("{\"name\":"),
-            Piece::Json(queue_name(plan, line.q)),
-            Piece::Own(",\"slot\":"),
-            Piece::Number(u64::from(line.slot)),
-            Piece::Own(",\"head\":"),
-            Piece::Json(plan.thread_name(line.head)),
-            Piece::Own(",\"free\":"),
-        ],
-    )?;
-    push_names(out, plan, line.free.as_slice())?;
-    begin_member(out, &[Piece::Own(",\"excl\":")])?;
-    push_waiters(out, plan, line.excl.as_slice())?;
-    begin_member(out, &[Piece::Own(",\"shared\":")])?;
-    push_waiters(out, plan, line.shared.as_slice())?;
-    end_object(out, &[Piece::Own("}")])
-}
-
-fn push_names(out: &mut Vec<u8>, plan: &Plan, threads: &[ThreadNo]) -> Result<(), AllocError>
-    requires { IsAtValue out.old.items }
-    ensures pushed { OnOk result (out.new.items
-        ≡ out.old.items ++ array_bytes (name_bytes plan.now) threads.now) }
-    ensures reads { OnOk result (AddsValue out.old.items out.new.items) }
-{
-    begin_array(out)?;
-    for (i, t) in threads.iter().enumerate() {
-        push_item(out, i, &[Piece::Json(plan.thread_name(*t))])?;
-    }
-    end_array(out, threads.len())
-}
-
-// Waiters with their kept priorities.
-fn push_waiters(
-    out: &mut Vec<u8>,
-    plan: &Plan,
-    waiters: &[(ThreadNo, Prio)],
-) -> Result<(), AllocError>
-    requires { IsAtValue out.old.items }
-    ensures pushed { OnOk result (out.new.items
-        ≡ out.old.items ++ waiters_bytes plan.now waiters.now) }
-    ensures reads { OnOk result (AddsValue out.old.items out.new.items) }
-{
-    begin_array(out)?;
-    for (i, waiter) in waiters.iter().enumerate() {
-        push_item(
+    fn push(&self, out: &mut Vec<u8>, known: &Known<'_>, _n: usize) -> Result<(), AllocError> {
+        push_tokens(
             out,
-            i,
+            &[Piece::Own("{\"row\":"), Piece::Number(u64::from(self.0))],
+        )?;
+        push_items(out, b",\"lines\":", known, self.1.as_slice())?;
+        out.extend_from_slice(b"}")?;
+        Ok(())
+    }
+}
+
+impl Listed for QueueLine {
+    ghost value = { λ known n line. queue known.plan.now line };
+
+    fn push(&self, out: &mut Vec<u8>, known: &Known<'_>, _n: usize) -> Result<(), AllocError> {
+        push_tokens(
+            out,
             &[
-                Piece::Own("["),
-                Piece::Json(plan.thread_name(waiter.0)),
-                Piece::Own(","),
-                Piece::Number(u64::from(waiter.1.0)),
-                Piece::Own("]"),
+                Piece::Own("{\"name\":"),
+                Piece::Json(queue_name(known.plan, self.q)),
+                Piece::Own(",\"slot\":"),
+                Piece::Number(u64::from(self.slot)),
+                Piece::Own(",\"head\":"),
+                Piece::Json(known.plan.thread_name(self.head)),
             ],
         )?;
+        push_items(out, b",\"free\":", known, self.free.as_slice())?;
+        push_items(out, b",\"excl\":", known, self.excl.as_slice())?;
+        push_items(out, b",\"shared\":", known, self.shared.as_slice())?;
+        out.extend_from_slice(b"}")?;
+        Ok(())
     }
-    end_array(out, waiters.len())
+}
+
+impl Listed for ThreadNo {
+    ghost value = { λ known n t. thread_called known.plan.now t };
+
+    fn push(&self, out: &mut Vec<u8>, known: &Known<'_>, _n: usize) -> Result<(), AllocError> {
+        push_tokens(out, &[Piece::Json(known.plan.thread_name(*self))])
+    }
+}
+
+/// A waiter, with the priority that is kept for it.
+impl Listed for (ThreadNo, Prio) {
+    ghost value = { λ known n its. waiter known.plan.now its };
+
+    fn push(&self, out: &mut Vec<u8>, known: &Known<'_>, _n: usize) -> Result<(), AllocError> {
+        push_tokens(
+            out,
+            &[
+                Piece::Own("["),
+                Piece::Json(known.plan.thread_name(self.0)),
+                Piece::Own(","),
+                Piece::Number(u64::from(self.1.0)),
+                Piece::Own("]"),
+            ],
+        )
+    }
 }

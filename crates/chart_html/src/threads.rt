@@ -1,46 +1,35 @@
-//! What threads were, as JSON.
-ghost use Rattle.std.specs.Prelude.{◌≡◌, ◌++◌, codes, OnOk};
-ghost use Rattle.chart_escape.specs.JsonReader.{at, outer, read, AddsValue, BehindValue, IsAtValue, IsInObject};
-ghost use Rattle.chart_html.specs.Data.{done_bytes, held_bytes, lane_end, thread_bytes, threads_bytes};
+//! What threads were.
+ghost use Rattle.std.specs.Prelude.{◌≡◌, ◌++◌, false, OnOk};
+ghost use Rattle.chart_escape.specs.Values.{members, members_bytes};
+ghost use Rattle.chart_html.specs.Data.{done, lane_end, thread};
 ghost use Rattle.lock_model.specs.Plans.{thread_name};
 
 use crate::columns::{Column, push_column};
-use crate::tracks::push_holds;
-use chart_escape::{
-    Piece, begin_array, begin_item, begin_member, begin_object, end_array, end_object,
-};
+use crate::items::{Known, Listed, push_items};
+use chart_escape::{Piece, push_tokens};
 use chart_layout::Chart;
 use lock_model::Plan;
-use run_tracks::{Rows, ThreadRows};
-use std::alloc::{AllocError, Global};
+use run_tracks::ThreadRows;
+use std::alloc::AllocError;
 
-/// Pushes the threads of a run.
-pub fn push_threads(
-    alloc: Global,
-    out: &mut Vec<u8>,
-    plan: &Plan,
-    rows: &Rows,
-    chart: &Chart,
-) -> Result<(), AllocError>
-    requires { IsAtValue out.old.items }
-    ensures pushed { OnOk result (out.new.items
-        ≡ out.old.items ++ threads_bytes plan.now rows.now.threads chart.now) }
-    ensures reads { OnOk result (AddsValue out.old.items out.new.items) }
-{
-    let threads = rows.threads.as_slice();
-    begin_array(out)?;
-    for (t, thread) in threads.iter().enumerate() {
-        begin_item(out, t)?;
-        push_thread(
-            alloc,
-            out,
-            plan,
-            name_of(plan, t),
-            thread,
-            ended_of(chart, t),
-        )?;
+impl Listed for ThreadRows {
+    ghost value = { λ known t its. thread known.plan.now known.chart.now t its };
+
+    fn push(&self, out: &mut Vec<u8>, known: &Known<'_>, t: usize) -> Result<(), AllocError> {
+        let plan = known.plan;
+        let rows = self.row.changes();
+        let name = Piece::Json(name_of(plan, t));
+        push_tokens(out, &[Piece::Own("{\"name\":"), name])?;
+        push_column(out, b",\"base\":", plan, Column::Base, rows)?;
+        push_column(out, b",\"runs\":", plan, Column::Runs, rows)?;
+        push_column(out, b",\"wait\":", plan, Column::Wait, rows)?;
+        push_column(out, b",\"on\":", plan, Column::On, rows)?;
+        push_column(out, b",\"stands\":", plan, Column::Stands, rows)?;
+        push_column(out, b",\"walk\":", plan, Column::Walk, rows)?;
+        push_items(out, b",\"held\":", known, self.held.as_slice())?;
+        push_end(out, known.chart, t)?;
+        Ok(())
     }
-    end_array(out, threads.len())
 }
 
 fn name_of(plan: &Plan, t: usize) -> &[u8]
@@ -59,68 +48,13 @@ fn ended_of(chart: &Chart, t: usize) -> Option<u32>
     chart.lanes.as_slice().get(t)?.ended
 }
 
-fn push_thread(
-    alloc: Global,
-    out: &mut Vec<u8>,
-    plan: &Plan,
-    name: &[u8],
-    thread: &ThreadRows,
-    ended: Option<u32>,
-) -> Result<(), AllocError>
-    requires { IsAtValue out.old.items }
-    ensures pushed { OnOk result (out.new.items
-        ≡ out.old.items ++ thread_bytes plan.now name.now thread.now ended) }
-    ensures reads { OnOk result (AddsValue out.old.items out.new.items) }
+// That row, if there is one, and the end of the object.
+fn push_end(out: &mut Vec<u8>, chart: &Chart, t: usize) -> Result<(), AllocError>
+    ensures { OnOk result (out.new.items
+        ≡ out.old.items ++ members_bytes false (members (done (lane_end chart.now t)))) }
 {
-    begin_object(
-        out,
-        &[
-            Piece::Own("{\"name\":"),
-            Piece::Json(name),
-            Piece::Own(",\"base\":"),
-        ],
-    )?;
-    let rows = thread.row.changes();
-    push_column(alloc, out, plan, Column::Base, rows)?;
-    begin_member(out, &[Piece::Own(",\"runs\":")])?;
-    push_column(alloc, out, plan, Column::Runs, rows)?;
-    begin_member(out, &[Piece::Own(",\"wait\":")])?;
-    push_column(alloc, out, plan, Column::Wait, rows)?;
-    begin_member(out, &[Piece::Own(",\"on\":")])?;
-    push_column(alloc, out, plan, Column::On, rows)?;
-    begin_member(out, &[Piece::Own(",\"stands\":")])?;
-    push_column(alloc, out, plan, Column::Stands, rows)?;
-    begin_member(out, &[Piece::Own(",\"walk\":")])?;
-    push_column(alloc, out, plan, Column::Walk, rows)?;
-    begin_member(out, &[Piece::Own(",\"held\":")])?;
-    push_held(out, thread)?;
-    end_thread(out, ended)
-}
-
-// By lock: how the thread held it.
-fn push_held(out: &mut Vec<u8>, thread: &ThreadRows) -> Result<(), AllocError>
-    requires { IsAtValue out.old.items }
-    ensures pushed { OnOk result (out.new.items ≡ out.old.items ++ held_bytes thread.now) }
-    ensures reads { OnOk result (AddsValue out.old.items out.new.items) }
-{
-    let held = thread.held.as_slice();
-    begin_array(out)?;
-    for (l, track) in held.iter().enumerate() {
-        begin_item(out, l)?;
-        push_holds(out, track.changes())?;
-    }
-    end_array(out, held.len())
-}
-
-// The first row in which it has come to its end, if it has.
-fn end_thread(out: &mut Vec<u8>, ended: Option<u32>) -> Result<(), AllocError>
-    requires { IsInObject out.old.items }
-    ensures pushed { OnOk result (out.new.items ≡ out.old.items ++ done_bytes ended ++ codes "}") }
-    ensures reads { OnOk result (read out.new.items
-        ≡ at BehindValue (outer (read out.old.items).opens)) }
-{
-    match ended {
-        Some(row) => end_object(
+    match ended_of(chart, t) {
+        Some(row) => push_tokens(
             out,
             &[
                 Piece::Own(",\"done\":"),
@@ -128,6 +62,6 @@ fn end_thread(out: &mut Vec<u8>, ended: Option<u32>) -> Result<(), AllocError>
                 Piece::Own("}"),
             ],
         ),
-        None => end_object(out, &[Piece::Own("}")]),
+        None => out.extend_from_slice(b"}"),
     }
 }

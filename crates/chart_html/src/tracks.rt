@@ -1,83 +1,51 @@
-//! Tracks as JSON: arrays of pairs, each a row and the value that holds from it on.
-ghost use Rattle.std.specs.Prelude.{◌≡◌, ◌++◌, decimal, OnOk};
-ghost use Rattle.chart_escape.specs.Json.{json_string};
-ghost use Rattle.chart_escape.specs.JsonReader.{AddsItem, AddsValue, AreBehind, IsAtValue};
-ghost use Rattle.chart_escape.specs.Pieces.{comma};
-ghost use Rattle.chart_html.specs.Tracks.{hold_bytes, pair_bytes, track_bytes};
+//! Tracks: arrays of pairs, each a row and the value that holds from it on.
+ghost use Rattle.std.specs.Prelude.{◌≡◌, ◌++◌, codes, OnOk};
+ghost use Rattle.chart_escape.specs.Values.{number_bytes, Number};
+ghost use Rattle.chart_html.specs.Tracks.{hold, pair, track};
 
-use chart_escape::{Piece, begin_array, end_array, push_item};
+use crate::items::{Known, Listed, push_items};
+use chart_escape::{Piece, push_tokens};
 use lock_model::Mode;
-use std::alloc::{AllocError, Global};
+use run_tracks::Track;
+use std::alloc::AllocError;
 
-/// Pushes a track of lock words.
-pub fn push_words(out: &mut Vec<u8>, changes: &[(u32, u64)]) -> Result<(), AllocError>
-    requires { IsAtValue out.old.items }
-    ensures pushed { OnOk result (out.new.items
-        ≡ out.old.items ++ track_bytes decimal changes.now) }
-    ensures reads { OnOk result (AddsValue out.old.items out.new.items) }
+/// Pushes a pair up to its value.
+pub fn begin_pair(out: &mut Vec<u8>, row: u32) -> Result<(), AllocError>
+    ensures { OnOk result (out.new.items
+        ≡ out.old.items ++ codes "[" ++ number_bytes row ++ codes ",") }
 {
-    begin_array(out)?;
-    for (i, change) in changes.iter().enumerate() {
-        push_number(out, i, change.0, change.1)?;
+    let row = Piece::Number(u64::from(row));
+    push_tokens(out, &[Piece::Own("["), row, Piece::Own(",")])
+}
+
+/// A lock's word.
+impl Listed for (u32, u64) {
+    ghost value = { λ known n change. pair Number change };
+
+    fn push(&self, out: &mut Vec<u8>, _known: &Known<'_>, _n: usize) -> Result<(), AllocError> {
+        begin_pair(out, self.0)?;
+        push_tokens(out, &[Piece::Number(self.1), Piece::Own("]")])
     }
-    end_array(out, changes.len())
 }
 
-/// Pushes a track of holds: `x` for exclusive, `s` for shared.
-pub fn push_holds(out: &mut Vec<u8>, changes: &[(u32, Option<Mode>)]) -> Result<(), AllocError>
-    requires { IsAtValue out.old.items }
-    ensures pushed { OnOk result (out.new.items
-        ≡ out.old.items ++ track_bytes hold_bytes changes.now) }
-    ensures reads { OnOk result (AddsValue out.old.items out.new.items) }
-{
-    begin_array(out)?;
-    for (i, change) in changes.iter().enumerate() {
-        let word: &[u8] = match change.1 {
-            Some(Mode::Excl) => b"x",
-            Some(Mode::Shared) => b"s",
-            None => b"",
-        };
-        push_word(out, i, change.0, word)?;
+/// How a lock is held: `x` where it is held alone, `s` where it is shared.
+impl Listed for (u32, Option<Mode>) {
+    ghost value = { λ known n change. pair hold change };
+
+    fn push(&self, out: &mut Vec<u8>, _known: &Known<'_>, _n: usize) -> Result<(), AllocError> {
+        begin_pair(out, self.0)?;
+        match self.1 {
+            Some(Mode::Excl) => out.extend_from_slice(b"\"x\"]"),
+            Some(Mode::Shared) => out.extend_from_slice(b"\"s\"]"),
+            None => out.extend_from_slice(b"\"\"]"),
+        }
     }
-    end_array(out, changes.len())
 }
 
-/// Pushes the pair of a row and a number, behind so many others.
-pub fn push_number(out: &mut Vec<u8>, i: usize, row: u32, n: u64) -> Result<(), AllocError>
-    requires { AreBehind i out.old.items }
-    ensures pushed { OnOk result (out.new.items
-        ≡ out.old.items ++ comma i ++ pair_bytes row (decimal n)) }
-    ensures reads { OnOk result (AddsItem i out.old.items out.new.items) }
-{
-    push_item(
-        out,
-        i,
-        &[
-            Piece::Own("["),
-            Piece::Number(u64::from(row)),
-            Piece::Own(","),
-            Piece::Number(n),
-            Piece::Own("]"),
-        ],
-    )
-}
+impl Listed for Track<Option<Mode>> {
+    ghost value = { λ known n changes. track hold changes };
 
-/// Pushes the pair of a row and a word, behind so many others.
-pub fn push_word(out: &mut Vec<u8>, i: usize, row: u32, word: &[u8]) -> Result<(), AllocError>
-    requires { AreBehind i out.old.items }
-    ensures pushed { OnOk result (out.new.items
-        ≡ out.old.items ++ comma i ++ pair_bytes row (json_string word.now)) }
-    ensures reads { OnOk result (AddsItem i out.old.items out.new.items) }
-{
-    push_item(
-        out,
-        i,
-        &[
-            Piece::Own("["),
-            Piece::Number(u64::from(row)),
-            Piece::Own(","),
-            Piece::Json(word),
-            Piece::Own("]"),
-        ],
-    )
+    fn push(&self, out: &mut Vec<u8>, known: &Known<'_>, _n: usize) -> Result<(), AllocError> {
+        push_items(out, b"", known, self.changes())
+    }
 }

@@ -1,9 +1,3 @@
-pub mod Drawn
-pub mod Elements
-pub mod Laying
 pub mod Places
-pub mod Placing
-pub mod Ranks
 pub mod Room
 pub mod Standing
-pub mod Whole

@@ -1,52 +1,100 @@
--- What is drawn of the lanes of a page stands in the lanes of its threads.
-use Rattle.std.proofs.Common.{ℕ, ◌+◌, ◌*◌, ◌<◌, ◌≤◌, ◌≡◌, ◌≢◌, ◌==◌, ◌∙◌, ◌⊎◌, inl, inr, ap, refl, sym, subst, true, arith, Bool, List, length, get_or, codes, All, Contains, Option, Some, None}
-use Rattle.std.specs.Prelude.{slice_get, Any}
-use Rattle.std.proofs.lemmas.Bool.Decides.{Decides-eqb}
-use Rattle.std.proofs.lemmas.List.Elements.{filter_passes, All-contains, All-contains_itself, All-filter, All-weaker, Contains-get_or}
+-- What stands on a page draws its chart.
+use Rattle.std.proofs.Common.{ℕ, suc, zero, ◌+◌, ◌<◌, ◌≤◌, ◌≡◌, ◌∙◌, ◌++◌, flat_map, ap, refl, Bool, true, false, cond, List, [], ◌∷◌, length, Contains, arith, ◌*◌, ◌≢◌, ◌==◌, ◌⊎◌, inl, inr, sym, subst, nat_lt, if◌then◌else◌, get_or, codes, All, Option, Some, None}
+use Rattle.std.specs.Prelude.{nat_eq, slice_get, Any}
+use Rattle.std.specs.List.{filter}
+use Rattle.std.proofs.lemmas.Bool.Decides.{nat_tests, Decides-eqb}
+use Rattle.lock_model.specs.declared.numbers.Prio.{Prio}
+use Rattle.std.proofs.lemmas.List.Elements.{All-cons, All-nil, All-weaker, Contains-append_right, filter_passes, All-contains, All-contains_itself, All-filter, Contains-get_or}
+use Rattle.chart_layout.specs.declared.layout.PrioSpan.{PrioSpan}
+use Rattle.chart_svg.specs.Lanes.{prios_in, rank_in, HasPrios, bar_bottom, bar_place, bar_top, begin_of, lane_top, of_thread, pitch_of, scale_of, strip_of, top_of, AreSame, BarIsOn, BarsAreDrawn, IsLaid, IsLaidOut, IsLentAt, IsWithin, LoansAreDrawn}
+use Rattle.std.proofs.lemmas.Bool.{false≢true, le-ltb}
 use Rattle.std.proofs.lemmas.Option.{get_or_from_slice_get, slice_get_cases, slice_get_within}
 use Rattle.chart_layout.specs.declared.layout.Bar.{Bar}
-use Rattle.chart_layout.specs.declared.layout.BarKind.{BarKind}
-use Rattle.chart_layout.specs.declared.layout.BarKind.TheVariants as bars
 use Rattle.chart_layout.specs.declared.layout.Chart.{Chart}
-use Rattle.chart_layout.specs.declared.layout.PrioSpan.{PrioSpan}
-use Rattle.lock_model.specs.declared.numbers.Prio.{Prio}
+use Rattle.chart_layout.specs.declared.layout.Lane.{Lane as ChartLane}
+use Rattle.lock_model.specs.Plans.{thread_name}
 use Rattle.lock_model.specs.declared.numbers.ThreadNo.{ThreadNo}
-use Rattle.chart_svg.proofs.Laying.{of_own}
-use Rattle.chart_svg.proofs.Ranks.{rank-lt}
-use Rattle.chart_svg.proofs.Standing.{told}
-use Rattle.chart_svg.specs.Drawn.{bar_height, pixels, prio_words, words_bytes, BarIsDrawn, Changes, HasLane, IsFlat, IsInLane, IsPrioOf, LoanIsDrawn, PrioIsDrawn, SaysAs}
-use Rattle.chart_svg.specs.Lanes.{bar_bottom, bar_place, bar_top, begin_of, lane_top, of_thread, pitch_of, rank_in, scale_of, strip_of, top_of, AreSame, BarIsOn, BarsAreDrawn, Fits, HasLanes, HasPrios, HasRoom, IsDrawnAt, IsLaid, IsLentAt, LoansAreDrawn}
-use Rattle.chart_svg.specs.Pages.{shown_words, FrameIsOn, PrioIsOn}
+use Rattle.lock_model.specs.declared.plan.Plan.{Plan}
+use Rattle.chart_svg.proofs.Standing.{all_still, arrows_still, bars_kept, frame_kept, loans_kept, mark_kept, told}
+use Rattle.chart_svg.specs.Drawn.{is_walk, pixels, prio_words, row_begin, words_bytes, BarIsDrawn, Changes, Draws, HasLane, IsFlat, IsInLane, IsPrioOf, LoanIsDrawn, NameIsDrawn, PrioIsDrawn, SaysAs, Stands, StopIsDrawn}
+use Rattle.chart_svg.specs.Pages.{begin_in, row_of, shown_words, stop_at, ArrowIsOn, FrameIsOn, LanesAreDrawn, MarkIsOn, StopsAt}
 use Rattle.chart_svg.specs.declared.page.LaneBand.{LaneBand}
 use Rattle.chart_svg.specs.declared.page.Page.{Page}
 use Rattle.chart_svg.specs.declared.pixels.Px.{Px}
 
--- 1. Lanes
+-- 1. Lists
 
-pub among : {X : Type 0} (xs : List X) (k : ℕ) (x : X) → slice_get xs k ≡ Some x → Contains xs x
+among : {X : Type 0} (xs : List X) (k : ℕ) (x : X) → slice_get xs k ≡ Some x → Contains xs x
 among xs k x is = (k, slice_get_within xs k x is, get_or_from_slice_get xs k x x is)
 
-lane_begins : (page : Page) (t : ℕ) (lane : LaneBand) → slice_get page.lanes.items t ≡ Some lane
-    → lane_top page t ≡ lane.top.0
-lane_begins page t lane is = ap (top_of page.bottom.0) is
+some_or_none : {X : Type 0} (o : Option X) → ((x : X) × (o ≡ Some x)) ⊎ (o ≡ None)
+some_or_none None = inr refl
+some_or_none (Some x) = inl (x, refl)
 
--- what stands between the top and the bottom of a lane
-pub in_lane : (page : Page) (t : ℕ) (lane : LaneBand) (y : ℕ) → HasRoom page → slice_get page.lanes.items t ≡ Some lane
-    → lane.top.0 ≤ y → pixels (y + 1) ≤ lane.bottom.0
-    → IsInLane (scale_of page) t y
-in_lane page t lane y room is top bottom = record {
-  begins = omega (arith, lane_begins page t lane is);
-  ends = omega (arith, room.ends t lane is);
-}
+kept : {X : Type 0} (b : Bool) (y x : X) (more : List X) → b ≡ true → y ≡ x → Contains (cond b (y ∷ more) more) x
+kept true y x more t same = (0, omega arith, same)
+kept false y x more t same = absurd (false≢true t)
 
-pub lanes_apart : (page : Page) → HasRoom page → HasLanes page page.chart.now → (t : ℕ) → HasLane page.chart.now t
-    → pixels (lane_top page t + 45) ≤ lane_top page (t + 1)
-lanes_apart page room has t lt =
-    let at = has t lt in
-    let fit : Fits page at.lane = room.fits t at.lane at.is in
-    omega (arith, lane_begins page t at.lane at.is, room.ends t at.lane at.is, fit.has_room, fit.begins)
+passed : {X : Type 0} (b : Bool) (y x : X) (more : List X) → Contains more x → Contains (cond b (y ∷ more) more) x
+passed true y x more (k, lt, is) = (suc k, omega arith, is)
+passed false y x more has = has
 
-pub ranks_apart : (page : Page) → HasPrios page.prios.items page.chart.now.steps → (p q : ℕ) → p < q
+filtered : {X : Type 0} (p : X → Bool) (xs : List X) (x : X) → Contains xs x → p x ≡ true → Contains (filter p xs) x
+filtered p [] x (k, lt, is) t = absurd (omega arith)
+filtered p (y ∷ ys) x (zero, lt, is) t = kept (p y) y x (filter p ys) (ap p is ∙ t) is
+filtered p (y ∷ ys) x (suc k, lt, is) t = passed (p y) y x (filter p ys) (filtered p ys x (k, omega arith, is) t)
+
+-- what is of a thread is among what is of it
+of_own : {X : Type 0} (number : X → ℕ) (things : List X) (x : X) → Contains things x
+    → Contains (of_thread number (number x) things) x
+of_own {X} number things x has =
+    filtered (λ (y : X). number y == number x) things x has ((Decides-eqb (number x) (number x)).1 refl)
+
+-- 2. Priorities
+
+counted : (b : Bool) (x : Prio) (xs : List Prio) → length (cond b (x ∷ xs) xs) ≡ cond b 1 0 + length xs
+counted true x xs = omega arith
+counted false x xs = omega arith
+
+rank-cons : (x : Prio) (xs : List Prio) (p : ℕ) → rank_in (x ∷ xs) p ≡ cond (nat_lt x.0 p) 1 0 + rank_in xs p
+rank-cons x xs p = counted (nat_lt x.0 p) x (filter (λ other. nat_lt other.0 p) xs)
+
+test-le : (x p q : ℕ) → p < q → cond (nat_lt x p) 1 0 ≤ cond (nat_lt x q) 1 0
+test-le x p q lt = grind (arith, nat_tests)
+
+test-lt : (x p q : ℕ) → x ≡ p → p < q → cond (nat_lt x p) 1 0 + 1 ≡ cond (nat_lt x q) 1 0
+test-lt x p q is lt = grind (arith, nat_tests)
+
+rank-le : (xs : List Prio) (p q : ℕ) → p < q → rank_in xs p ≤ rank_in xs q
+rank-le [] p q lt = omega arith
+rank-le (x ∷ xs) p q lt = omega (arith, rank-cons x xs p, rank-cons x xs q, test-le x.0 p q lt, rank-le xs p q lt)
+
+rank-lt : (xs : List Prio) (prio : Prio) (p q : ℕ) → prio.0 ≡ p → p < q → Contains xs prio
+    → rank_in xs p < rank_in xs q
+rank-lt [] prio p q is lt (k, within, at) = absurd (omega arith)
+rank-lt (x ∷ xs) prio p q is lt (zero, within, at) =
+    let here : x.0 ≡ p = ap (λ y. y.0) at ∙ is in
+    omega (arith, rank-cons x xs p, rank-cons x xs q, test-lt x.0 p q here lt, rank-le xs p q lt)
+rank-lt (x ∷ xs) prio p q is lt (suc k, within, at) =
+    let behind : k < length xs = omega arith in
+    omega (arith, rank-cons x xs p, rank-cons x xs q, test-le x.0 p q lt, rank-lt xs prio p q is lt (k, behind, at))
+
+pub same_prio : (x y : Prio) → nat_eq x.0 y.0 ≡ true → x ≡ y
+same_prio x y e = let prio : ℕ → Prio = λ n. record { 0 = n } in ap prio ((Decides-eqb x.0 y.0).0 e)
+
+pub has_prios : (steps : List PrioSpan) → HasPrios (flat_map prios_in steps) steps
+has_prios [] = All-nil _
+has_prios (step ∷ steps) =
+    let own = prios_in step in
+    let rest = flat_map prios_in steps in
+    let Among : List Prio → PrioSpan → Type 0 = λ prios s. Contains prios s.effective × Contains prios s.base in
+    All-cons (Among (own ++ rest)) step steps ((0, omega arith, refl), (1, omega arith, refl))
+    (All-weaker (Among rest) (Among (own ++ rest)) (λ s has. (
+      Contains-append_right own rest s.effective has.0,
+      Contains-append_right own rest s.base has.1,
+    )) steps (has_prios steps))
+
+ranks_apart : (page : Page) → HasPrios page.prios.items page.chart.now.steps → (p q : ℕ) → p < q
     → Any (IsPrioOf p) page.chart.now.steps
     → rank_in page.prios.items p < rank_in page.prios.items q
 ranks_apart page has p q lt (k, step, within, is, which) =
@@ -56,83 +104,6 @@ ranks_apart page has p q lt (k, step, within, is, which) =
       | inl e ↦ rank-lt page.prios.items step.effective p q e lt both.0
       | inr e ↦ rank-lt page.prios.items step.base p q e lt both.1
     ]
-
--- 2. Bars
-
-low : (what : BarKind) → bar_height what ≤ 18
-low (bars.Holds l mode) = omega arith
-low (bars.Waits q) = omega arith
-low (bars.TakenOff q) = omega arith
-low (bars.Woken q) = omega arith
-low bars.Walks = omega arith
-
--- what stands there with room for a bar
-bar_drawn : (page : Page) (picture : List ℕ) (lane : LaneBand) (bar : Bar) (top : ℕ) → HasRoom page
-    → slice_get page.lanes.items bar.thread.0 ≡ Some lane
-    → lane.top.0 ≤ top → pixels (top + 18) ≤ lane.bottom.0 → IsDrawnAt page picture top bar
-    → BarIsDrawn page.plan.now page.chart.now (scale_of page) picture bar
-bar_drawn page picture lane bar top room is begins ends stands = record {
-  top = top;
-  in_lane = in_lane page bar.thread.0 lane top room is begins (omega arith);
-  ends_in_lane = omega (arith, room.ends bar.thread.0 lane is, low bar.what);
-  stands = stands;
-}
-
-place_of : (lane : LaneBand) (what : BarKind) (level : ℕ)
-    → (bar_place lane what level ≡ bar_top lane level) ⊎
-    (bar_place lane what level ≡ pixels (bar_bottom lane level + 2))
-place_of lane (bars.Holds l mode) level = inl refl
-place_of lane (bars.Waits q) level = inl refl
-place_of lane (bars.TakenOff q) level = inl refl
-place_of lane (bars.Woken q) level = inl refl
-place_of lane bars.Walks level = inr refl
-
-pub bars_drawn : (page : Page) (picture : List ℕ) → HasRoom page → HasLanes page page.chart.now
-    → All (BarsAreDrawn page picture) page.lanes.items
-    → (bar : Bar) → Contains page.chart.now.bars bar → HasLane page.chart.now bar.thread.0
-    → BarIsDrawn page.plan.now page.chart.now (scale_of page) picture bar
-bars_drawn page picture room has drawn bar in_chart lt =
-    let at = has bar.thread.0 lt in
-    let lane = at.lane in
-    let fit : Fits page lane = room.fits bar.thread.0 lane at.is in
-    let laid : IsLaid lane.bars bar =
-    All-contains (IsLaid lane.bars) _ bar at.bars
-    (of_own (λ (b : Bar). b.thread.0) page.chart.now.bars bar in_chart) in
-    let level = laid.0 in
-    let below : pixels (bar_bottom lane level + 20) ≤ lane.bottom.0 = fit.bars level laid.1 in
-    let stands : BarIsOn page lane picture (bar, level) =
-    All-contains (BarIsOn page lane picture) lane.bars.laid.items (bar, level)
-    (All-contains (BarsAreDrawn page picture) page.lanes.items lane drawn
-    (among page.lanes.items bar.thread.0 lane at.is)) laid.2 in
-    elim (place_of lane bar.what level) [
-      | inl e ↦ bar_drawn page picture lane bar (bar_place lane bar.what level) room at.is
-          (omega (arith, e, fit.begins, fit.begin_fits)) (omega (arith, e)) stands
-      | inr e ↦ bar_drawn page picture lane bar (bar_place lane bar.what level) room at.is
-          (omega (arith, e, fit.begins, fit.begin_fits)) (omega (arith, e)) stands
-    ]
-
--- 3. Priorities
-
--- a step of a lane that has a strip
-loan_drawn : (page : Page) (picture : List ℕ) (lane : LaneBand) (strip : Px) (step : PrioSpan) → HasRoom page
-    → slice_get page.lanes.items step.thread.0 ≡ Some lane
-    → lane.strip ≡ Some strip → Contains lane.steps.items step → LoansAreDrawn page picture lane
-    → step.effective ≢ step.base
-    → LoanIsDrawn page.chart.now (scale_of page) picture step
-loan_drawn page picture lane strip step room is has_strip has drawn lent =
-    let fit : Fits page lane = room.fits step.thread.0 lane is in
-    let at : strip_of (slice_get page.lanes.items step.thread.0) ≡ strip.0 = ap strip_of is ∙ ap begin_of has_strip in
-    let place : (prio : ℕ) → IsInLane (scale_of page) step.thread.0
-    (pixels (strip_of (slice_get page.lanes.items step.thread.0) + rank_in page.prios.items prio * pitch_of
-    (length page.prios.items))) =
-    λ prio. in_lane page step.thread.0 lane _ room is
-    (omega (arith, at, fit.strip_begins strip has_strip, fit.strip_fits strip has_strip))
-    (omega (arith, at, fit.strip_ends strip prio has_strip)) in
-    record {
-      top_in_lane = place step.effective.0;
-      base_in_lane = place step.base.0;
-      stands = All-contains (IsLentAt page picture strip.0) lane.steps.items step (drawn strip has_strip) has at lent;
-    }
 
 -- the first step of a lane that has one
 first_of : (lane : LaneBand) (step : PrioSpan) → Contains lane.steps.items step
@@ -152,31 +123,6 @@ says_as lane step other same has others =
     let that : SaysAs first.0 other = All-contains (SaysAs first.0) lane.steps.items other all others in
     (that.0 ∙ sym this.0, that.1 ∙ sym this.1)
 
-number_drawn : (page : Page) (picture : List ℕ) (lane : LaneBand) (step : PrioSpan) → HasRoom page
-    → slice_get page.lanes.items step.thread.0 ≡ Some lane
-    → lane.strip ≡ None → AreSame lane.steps.items → Contains lane.steps.items step → PrioIsOn picture lane
-    → PrioIsDrawn (scale_of page) picture step
-number_drawn page picture lane step room is none same has drawn =
-    let at = first_of lane step has in
-    let first = at.0 in
-    let this : SaysAs first step = All-contains (SaysAs first) lane.steps.items step (same first at.1) has in
-    let fit : Fits page lane = room.fits step.thread.0 lane is in
-    let below : pixels (bar_bottom lane 0 + 20) ≤ lane.bottom.0 = fit.bars 0 (omega arith) in
-    let y : ℕ = pixels (pixels (lane.begin.0 + 36) + 20) in
-    record {
-      y = y;
-      in_lane = in_lane page step.thread.0 lane y room is (omega (arith, fit.begins, fit.begin_fits))
-          (omega (arith, below));
-      stands = told picture _ _ (ap (λ (o : Option Px). words_bytes (codes "gray") 24 y (shown_words o first)) none
-          ∙ ap (λ (p : Prio). words_bytes (codes "gray") 24 y (prio_words p.0 first.base.0)) (sym this.0)
-          ∙ ap (λ (p : Prio). words_bytes (codes "gray") 24 y (prio_words step.effective.0 p.0)) (sym this.1))
-          (drawn first at.1);
-    }
-
-some_or_none : {X : Type 0} (o : Option X) → ((x : X) × (o ≡ Some x)) ⊎ (o ≡ None)
-some_or_none None = inr refl
-some_or_none (Some x) = inl (x, refl)
-
 -- the steps of a thread whose priorities don't change are the same
 are_same : (chart : Chart) (step : PrioSpan) → IsFlat chart step
     → AreSame (of_thread (λ other. other.thread.0) step.thread.0 chart.steps)
@@ -195,37 +141,220 @@ are_same chart step flat =
     λ first at. (let this = All-contains (SaysAs step) own first said (among own 0 first at) in
     All-weaker (SaysAs step) (SaysAs first) (λ other that. (that.0 ∙ sym this.0, that.1 ∙ sym this.1)) own said)
 
-pub prios_drawn : (page : Page) (picture : List ℕ) → HasRoom page → HasLanes page page.chart.now
-    → All (FrameIsOn page picture) page.lanes.items
-    → (step : PrioSpan) → Contains page.chart.now.steps step → HasLane page.chart.now step.thread.0
-    → IsFlat page.chart.now step → PrioIsDrawn (scale_of page) picture step
-prios_drawn page picture room has frame step in_chart lt flat =
-    let at = has step.thread.0 lt in
-    let Own : List PrioSpan → Type 0 = λ xs. Contains xs step in
-    let same : AreSame at.lane.steps.items = subst AreSame (sym at.steps) (are_same page.chart.now step flat) in
-    number_drawn page picture at.lane step room at.is (at.flat.1 same) same
-    (subst Own (sym at.steps) (of_own (λ (s : PrioSpan). s.thread.0) page.chart.now.steps step in_chart))
-    (All-contains (FrameIsOn page picture) page.lanes.items at.lane frame
-    (among page.lanes.items step.thread.0 at.lane at.is)).prio
+-- 3. Bars and ends
 
-pub loans_drawn : (page : Page) (picture : List ℕ) → HasRoom page → HasLanes page page.chart.now
-    → All (LoansAreDrawn page picture) page.lanes.items
-    → (step : PrioSpan) → Contains page.chart.now.steps step → HasLane page.chart.now step.thread.0
-    → Changes page.chart.now step → step.effective ≢ step.base → LoanIsDrawn page.chart.now (scale_of page) picture step
-loans_drawn page picture room has drawn step in_chart lt changes lent =
+low : (b : Bool) → (if b then 3 else 18) ≤ 18
+low true = omega arith
+low false = omega arith
+
+bar_fits : (lane : LaneBand) (b : Bool) (level : ℕ) → lane.top.0 ≤ lane.begin.0 → lane.begin.0 ≤ 4294967295
+    → pixels (bar_bottom lane level + 20) ≤ lane.bottom.0
+    → (lane.top.0 ≤ (if b then pixels (bar_bottom lane level + 2) else bar_top lane level))
+    × (pixels ((if b then pixels (bar_bottom lane level + 2) else bar_top lane level) + 18) ≤ lane.bottom.0)
+bar_fits lane true level begins fits below = (omega arith, omega arith)
+bar_fits lane false level begins fits below = (omega arith, omega arith)
+
+stop_told : (page : Page) (t row : ℕ) (own : ThreadNo) (lane : ChartLane) → slice_get page.chart.now.lanes t ≡ Some lane
+    → own ≡ lane.thread → lane.thread.0 ≡ t
+    → lane.ended ≡ Some row → row ≤ page.chart.now.last
+    → stop_at page own.0 ≡ Some (row_begin (scale_of page) page.chart.now row)
+stop_told page t row own lane is same thread ended within =
+    let scale = scale_of page in
     let chart = page.chart.now in
-    let at = has step.thread.0 lt in
-    let lane = at.lane in
-    let within : (other : PrioSpan) → Contains chart.steps other → other.thread ≡ step.thread
-    → Contains lane.steps.items other =
-    λ other in_it same. (let Own : List PrioSpan → Type 0 = λ xs. Contains xs other in
-    let Of : ThreadNo → Type 0 = λ n. Contains (of_thread (λ s. s.thread.0) n.0 chart.steps) other in
-    subst Own (sym at.steps) (subst Of same (of_own (λ (s : PrioSpan). s.thread.0) chart.steps other in_it))) in
-    elim (some_or_none lane.strip) [
-      | inl (strip, is) ↦ loan_drawn page picture lane strip step room at.is is (within step in_chart refl)
-          (All-contains (LoansAreDrawn page picture) page.lanes.items lane drawn
-          (among page.lanes.items step.thread.0 lane at.is)) lent
-      | inr none ↦ absurd (changes (λ k d below same.
-          says_as lane step (get_or chart.steps k d) (at.flat.0 none) (within step in_chart refl)
-          (within (get_or chart.steps k d) (Contains-get_or chart.steps k d below) same)))
-    ]
+    let late : nat_lt chart.last row ≡ false = le-ltb chart.last row within in
+    ap (λ (n : ThreadNo). stop_at page n.0) same ∙ ap (stop_at page) thread
+    ∙ ap (λ o. begin_in scale chart (row_of o)) is ∙ ap (begin_in scale chart) ended
+    ∙ ap (λ b. if b then None else Some (row_begin scale chart row)) late
+
+-- 4. Lanes
+
+lane_begins : (page : Page) (t : ℕ) (lane : LaneBand) → slice_get page.lanes.items t ≡ Some lane
+    → lane_top page t ≡ lane.top.0
+lane_begins page t lane is = ap (top_of page.bottom.0) is
+
+-- what stands between the top and the bottom of a lane
+pub in_lane : (page : Page) → IsLaidOut page → (t : ℕ) (lane : LaneBand) (y : ℕ)
+    → slice_get page.lanes.items t ≡ Some lane → IsWithin lane y → IsInLane (scale_of page) t y
+in_lane page out t lane y is at = record {
+  begins = omega (arith, at.0, lane_begins page t lane is);
+  ends = omega (arith, at.1, out.ends t lane is);
+}
+
+module _ (page : Page) (picture : List ℕ) (out : IsLaidOut page)
+    (long : length page.lanes.items ≡ length page.chart.now.lanes)
+    (drawn : LanesAreDrawn page picture) where
+  -- a thread that has a lane in the chart has one on the page
+  at : (t : ℕ) → HasLane page.chart.now t → (lane : LaneBand) × (slice_get page.lanes.items t ≡ Some lane)
+  at t lt = elim (slice_get_cases page.lanes.items t).1 [
+    | inl (lane, within, is, read) ↦ (lane, is)
+    | inr (past, none) ↦ absurd (omega arith)
+  ]
+
+  framed : (t : ℕ) (lane : LaneBand) → slice_get page.lanes.items t ≡ Some lane → FrameIsOn page picture lane
+  framed t lane is =
+      All-contains (FrameIsOn page picture) page.lanes.items lane drawn.frame (among page.lanes.items t lane is)
+
+  apart : (t : ℕ) → HasLane page.chart.now t → pixels (lane_top page t + 45) ≤ lane_top page (t + 1)
+  apart t lt =
+      let (lane, is) = at t lt in
+      let fit = (out.lanes t lane is).fits in
+      omega (arith, lane_begins page t lane is, out.ends t lane is, fit.has_room, fit.begins)
+
+  names : (t : ℕ) (own : ChartLane) → slice_get page.chart.now.lanes t ≡ Some own
+      → NameIsDrawn page.plan.now (scale_of page) picture t own
+  names t own of =
+      let (lane, is) = at t (slice_get_within page.chart.now.lanes t own of) in
+      let laid = out.lanes t lane is in
+      let fit = laid.fits in
+      let y = pixels (pixels (lane.begin.0 + 36) + 4) in
+      record {
+        y = y;
+        in_lane = in_lane page out t lane y is
+            (omega (arith, fit.begins, fit.begin_fits), omega (arith, fit.has_room));
+        stands = told picture _ _ (ap (λ (thread : ThreadNo). words_bytes (codes "name") 24 y
+            (thread_name page.plan.now thread.0)) (laid.thread own of)) (framed t lane is).name;
+      }
+
+  stops : (t row : ℕ) (own : ChartLane) → slice_get page.chart.now.lanes t ≡ Some own → own.thread.0 ≡ t
+      → own.ended ≡ Some row → row ≤ page.chart.now.last → StopIsDrawn page.chart.now (scale_of page) picture t row
+  stops t row own of thread ended within =
+      let (lane, is) = at t (slice_get_within page.chart.now.lanes t own of) in
+      let laid = out.lanes t lane is in
+      let fit = laid.fits in
+      let P : Option ℕ → Type 0 = λ x. StopsAt picture lane x in
+      record {
+        begin = pixels (lane.begin.0 + 25);
+        end = pixels (lane.begin.0 + 47);
+        begins = in_lane page out t lane _ is
+            (omega (arith, fit.begins, fit.begin_fits), omega (arith, fit.has_room));
+        ends = in_lane page out t lane _ is
+            (omega (arith, fit.begins, fit.begin_fits), omega (arith, fit.has_room));
+        stands = subst P (stop_told page t row lane.thread own of (laid.thread own of) thread ended within)
+            (framed t lane is).stop;
+      }
+
+  bars_drawn : (bar : Bar) → Contains page.chart.now.bars bar → HasLane page.chart.now bar.thread.0
+      → BarIsDrawn page.plan.now page.chart.now (scale_of page) picture bar
+  bars_drawn bar in_chart lt =
+      let (lane, is) = at bar.thread.0 lt in
+      let laid = out.lanes bar.thread.0 lane is in
+      let fit = laid.fits in
+      let on : IsLaid lane.bars bar = All-contains (IsLaid lane.bars) _ bar laid.bars
+      (of_own (λ (b : Bar). b.thread.0) page.chart.now.bars bar in_chart) in
+      let (level, reached, has) = on in
+      let top = bar_place lane bar.what level in
+      let within : IsWithin lane top × (pixels (top + 18) ≤ lane.bottom.0) =
+      (let (begins, ends) = bar_fits lane (is_walk bar.what) level fit.begins fit.begin_fits (fit.bars level reached) in
+      ((begins, omega (arith, ends)), ends)) in
+      record {
+        top = top;
+        in_lane = in_lane page out bar.thread.0 lane top is within.0;
+        ends_in_lane = omega (arith, within.1, out.ends bar.thread.0 lane is, low (is_walk bar.what));
+        stands = All-contains (BarIsOn page lane picture) lane.bars.laid.items (bar, level)
+            (All-contains (BarsAreDrawn page picture) page.lanes.items lane drawn.bars
+            (among page.lanes.items bar.thread.0 lane is)) has;
+      }
+
+  -- a thread's step is among those of its lane
+  own_step : (lane : LaneBand) (step other : PrioSpan) → slice_get page.lanes.items step.thread.0 ≡ Some lane
+      → Contains page.chart.now.steps other → other.thread ≡ step.thread → Contains lane.steps.items other
+  own_step lane step other is in_chart same =
+      let Own : List PrioSpan → Type 0 = λ xs. Contains xs other in
+      let Of : ThreadNo → Type 0 = λ n. Contains (of_thread (λ s. s.thread.0) n.0 page.chart.now.steps) other in
+      subst Own (sym (out.lanes step.thread.0 lane is).steps)
+      (subst Of same (of_own (λ (s : PrioSpan). s.thread.0) page.chart.now.steps other in_chart))
+
+  prios_drawn : (step : PrioSpan) → Contains page.chart.now.steps step → HasLane page.chart.now step.thread.0
+      → IsFlat page.chart.now step → PrioIsDrawn (scale_of page) picture step
+  prios_drawn step in_chart lt flat =
+      let (lane, is) = at step.thread.0 lt in
+      let laid = out.lanes step.thread.0 lane is in
+      let fit = laid.fits in
+      let same : AreSame lane.steps.items = subst AreSame (sym laid.steps) (are_same page.chart.now step flat) in
+      let has = own_step lane step step is in_chart refl in
+      let (first, at_first) = first_of lane step has in
+      let this : SaysAs first step = All-contains (SaysAs first) lane.steps.items step (same first at_first) has in
+      let below : pixels (bar_bottom lane 0 + 20) ≤ lane.bottom.0 = fit.bars 0 (omega arith) in
+      let y : ℕ = pixels (pixels (lane.begin.0 + 36) + 20) in
+      record {
+        y = y;
+        in_lane = in_lane page out step.thread.0 lane y is
+            (omega (arith, fit.begins, fit.begin_fits), omega (arith, below));
+        stands = told picture _ _ (ap (λ (o : Option Px). words_bytes (codes "gray") 24 y (shown_words o first))
+            (laid.flat.1 same)
+            ∙ ap (λ (p : Prio). words_bytes (codes "gray") 24 y (prio_words p.0 first.base.0)) (sym this.0)
+            ∙ ap (λ (p : Prio). words_bytes (codes "gray") 24 y (prio_words step.effective.0 p.0)) (sym this.1))
+            ((framed step.thread.0 lane is).prio first at_first);
+      }
+
+  -- a step of a lane that has a strip
+  loan_drawn : (lane : LaneBand) (strip : Px) (step : PrioSpan) → slice_get page.lanes.items step.thread.0 ≡ Some lane
+      → lane.strip ≡ Some strip → Contains lane.steps.items step → step.effective ≢ step.base
+      → LoanIsDrawn page.chart.now (scale_of page) picture step
+  loan_drawn lane strip step is has_strip has lent =
+      let fit = (out.lanes step.thread.0 lane is).fits in
+      let here : strip_of (slice_get page.lanes.items step.thread.0) ≡ strip.0 =
+      ap strip_of is ∙ ap begin_of has_strip in
+      let place : (prio : ℕ) → IsInLane (scale_of page) step.thread.0
+      (pixels (strip_of (slice_get page.lanes.items step.thread.0) + rank_in page.prios.items prio * pitch_of
+      (length page.prios.items))) =
+      λ prio. in_lane page out step.thread.0 lane _ is (subst (λ y. IsWithin lane
+      (pixels (y + rank_in page.prios.items prio * pitch_of (length page.prios.items)))) (sym here)
+      (fit.strip strip prio has_strip)) in
+      record {
+        top_in_lane = place step.effective.0;
+        base_in_lane = place step.base.0;
+        stands = All-contains (IsLentAt page picture strip.0) lane.steps.items step
+            (All-contains (LoansAreDrawn page picture) page.lanes.items lane drawn.loans
+            (among page.lanes.items step.thread.0 lane is) strip has_strip) has here lent;
+      }
+
+  loans_drawn : (step : PrioSpan) → Contains page.chart.now.steps step → HasLane page.chart.now step.thread.0
+      → Changes page.chart.now step → step.effective ≢ step.base
+      → LoanIsDrawn page.chart.now (scale_of page) picture step
+  loans_drawn step in_chart lt changes lent =
+      let steps = page.chart.now.steps in
+      let (lane, is) = at step.thread.0 lt in
+      elim (some_or_none lane.strip) [
+        | inl (strip, has) ↦ loan_drawn lane strip step is has (own_step lane step step is in_chart refl) lent
+        | inr none ↦ absurd (changes (λ k d below same.
+            says_as lane step (get_or steps k d) ((out.lanes step.thread.0 lane is).flat.0 none)
+            (own_step lane step step is in_chart refl)
+            (own_step lane step (get_or steps k d) is (Contains-get_or steps k d below) same)))
+      ]
+
+  has_lane : (t : ℕ) → HasLane page.chart.now t → t < length page.lanes.items
+  has_lane t lt = omega arith
+
+  page_drawn : Draws page.plan.now page.chart.now picture
+  page_drawn = record {
+    scale = scale_of page;
+    has_width = out.wide;
+    has_height = omega arith;
+    lanes = apart;
+    ranks = ranks_apart page out.prios;
+    names = names;
+    stops = stops;
+    bars = bars_drawn;
+    prios = prios_drawn;
+    loans = loans_drawn;
+    arrows = λ arrow in_chart from to. All-contains (ArrowIsOn page picture picture) page.chart.now.arrows arrow
+        drawn.arrows in_chart (has_lane arrow.from.0 from, has_lane arrow.to.0 to);
+    marks = λ mark in_chart on. All-contains (MarkIsOn page picture) page.chart.now.marks mark drawn.marks in_chart
+        (has_lane mark.thread.0 on);
+  }
+
+pub picture_draws : (page : Page) (plan : Plan) (chart : Chart) (laned picture : List ℕ) → page.plan.now ≡ plan
+    → page.chart.now ≡ chart → IsLaidOut page → length page.lanes.items ≡ length chart.lanes → LanesAreDrawn page laned
+    → Stands picture laned → Draws plan chart picture
+picture_draws page plan chart laned picture ep ec out long h on =
+    let drawn : LanesAreDrawn page picture = record {
+      frame = all_still (FrameIsOn page) (frame_kept page) laned picture page.lanes.items on h.frame;
+      bars = all_still (BarsAreDrawn page) (bars_kept page) laned picture page.lanes.items on h.bars;
+      loans = all_still (LoansAreDrawn page) (loans_kept page) laned picture page.lanes.items on h.loans;
+      arrows = arrows_still page laned laned picture page.chart.now.arrows on on h.arrows;
+      marks = all_still (MarkIsOn page) (mark_kept page) laned picture page.chart.now.marks on h.marks;
+    } in
+    let draws : Draws page.plan.now page.chart.now picture = page_drawn page picture out
+    (subst (λ (c : Chart). length page.lanes.items ≡ length c.lanes) (sym ec) long) drawn in
+    subst (λ (c : Chart). Draws plan c picture) ec (subst (λ (p : Plan). Draws p page.chart.now picture) ep draws)

@@ -1,21 +1,24 @@
--- What stands in a text stands there still when more is put before it or behind it.
-use Rattle.std.proofs.Common.{ℕ, ◌+◌, ◌<◌, ◌≤◌, length, take, get_or, subst, ◌≡◌, ◌∙◌, ◌++◌, ◌∷◌, ap, sym, List, [], append_assoc, append-nil, All}
+-- What stands in a text, and what is drawn by it, does so still when more is put before it or behind it.
+use Rattle.std.proofs.Common.{ℕ, ◌+◌, ◌<◌, ◌≤◌, length, take, get_or, subst, ◌≡◌, ◌∙◌, ◌++◌, ◌∷◌, ap, sym, List, [], append_assoc, append-nil, All, Option, Some, None}
 use Rattle.std.proofs.lemmas.Grind.{flat_map-append}
 use Rattle.std.proofs.lemmas.List.Elements.{All-more, All-same, All-weaker}
 use Rattle.std.proofs.lemmas.List.{take_all}
-use Rattle.chart_svg.specs.Drawn.{words_bytes, Stands}
+use Rattle.chart_svg.specs.Drawn.{Stands, rect_bytes}
 use Rattle.chart_svg.specs.Shapes.{shape_bytes, shapes_bytes}
 use Rattle.chart_svg.specs.declared.shapes.Shape.{Shape}
+use Rattle.chart_layout.specs.declared.layout.Arrow.{Arrow}
+use Rattle.chart_svg.specs.Lanes.{BarIsOn, BarsAreDrawn, IsLentAt, LoansAreDrawn}
+use Rattle.chart_svg.specs.Pages.{stop_at, ArrowIsOn, FrameIsOn, MarkIsOn, StopsAt}
+use Rattle.chart_svg.specs.declared.page.LaneBand.{LaneBand}
+use Rattle.chart_svg.specs.declared.page.Page.{Page}
+use Rattle.chart_svg.specs.declared.shapes.Area.{Area}
 
--- what stands in the old text stands in the new one
-abbrev pub Keeps : List ℕ → List ℕ → Type 0
-Keeps old new = (part : List ℕ) → Stands old part → Stands new part
-
-pub keeps_within : (before text behind new : List ℕ) → new ≡ before ++ (text ++ behind) → Keeps text new
-keeps_within before text behind new e part h = record {
-  before = before ++ h.before;
-  behind = h.behind ++ behind;
-  is = e ∙ ap (λ t. before ++ (t ++ behind)) h.is ∙ simp append_assoc;
+-- what stands in a part stands in the whole
+pub within : (whole text part : List ℕ) → Stands whole text → Stands text part → Stands whole part
+within whole text part h k = record {
+  before = h.before ++ k.before;
+  behind = k.behind ++ h.behind;
+  is = h.is ∙ ap (λ t. h.before ++ (t ++ h.behind)) k.is ∙ simp append_assoc;
 }
 
 pub told : (picture part other : List ℕ) → part ≡ other → Stands picture part → Stands picture other
@@ -26,44 +29,33 @@ told picture part other same h = subst (λ p. Stands picture p) same h
 joined : (old new more : List Shape) → new ≡ old ++ more → shapes_bytes new ≡ shapes_bytes old ++ shapes_bytes more
 joined old new more e = ap (λ shapes. shapes_bytes shapes) e ∙ flat_map-append shape_bytes old more
 
--- what stands in shapes stands there still when others are put behind them
-pub keeps_left : (old new more : List Shape) → new ≡ old ++ more → Keeps (shapes_bytes old) (shapes_bytes new)
-keeps_left old new more e =
-    keeps_within [] (shapes_bytes old) (shapes_bytes more) (shapes_bytes new) (joined old new more e)
+-- shapes stand in longer lists of shapes
+pub left : (old new more : List Shape) → new ≡ old ++ more → Stands (shapes_bytes new) (shapes_bytes old)
+left old new more e = record { before = []; behind = shapes_bytes more; is = joined old new more e }
 
-pub keeps_right : (old new more : List Shape) → new ≡ old ++ more → Keeps (shapes_bytes more) (shapes_bytes new)
-keeps_right old new more e =
-    keeps_within (shapes_bytes old) (shapes_bytes more) [] (shapes_bytes new)
-    (joined old new more e ∙ ap (λ b. shapes_bytes old ++ b) (sym (append-nil (shapes_bytes more))))
+pub right : (old new more : List Shape) → new ≡ old ++ more → Stands (shapes_bytes new) (shapes_bytes more)
+right old new more e = record {
+  before = shapes_bytes old;
+  behind = [];
+  is = joined old new more e ∙ ap (λ b. shapes_bytes old ++ b) (sym (append-nil (shapes_bytes more)));
+}
 
 -- the last shape stands there as it is written
-pub last_stands : (old new : List Shape) (shape : Shape) (part : List ℕ) → new ≡ old ++ shape ∷ []
-    → shape_bytes shape ≡ part
+pub last : (old new : List Shape) (shape : Shape) (part : List ℕ) → new ≡ old ++ shape ∷ [] → shape_bytes shape ≡ part
     → Stands (shapes_bytes new) part
-last_stands old new shape part e is = record {
+last old new shape part e is = record {
   before = shapes_bytes old;
   behind = [];
   is = joined old new (shape ∷ []) e ∙ ap (λ p. shapes_bytes old ++ (p ++ [])) is;
 }
 
--- words that are told by equal parts
-pub words_same : (class1 class2 : List ℕ) (x y1 y2 : ℕ) (words1 words2 : List ℕ) → class1 ≡ class2 → y1 ≡ y2
-    → words1 ≡ words2
-    → words_bytes class1 x y1 words1 ≡ words_bytes class2 x y2 words2
-words_same class1 class2 x y1 y2 words1 words2 ec ey ew =
-    ap (λ c. words_bytes c x y1 words1) ec ∙ ap (λ y. words_bytes class2 x y words1) ey
-    ∙ ap (words_bytes class2 x y2) ew
-
 -- 2. What stays drawn
 
-pub keeps_then : (old mid new : List ℕ) → Keeps old mid → Keeps mid new → Keeps old new
-keeps_then old mid new before behind part h = behind part (before part h)
-
--- what is so of a thing by a text is so by each text that keeps it
+-- what is so of a thing by a text is so by each text in which that stands
 abbrev pub IsKept : {X : Type 0} → (List ℕ → X → Type 0) → Type 0
-IsKept {X} P = (old new : List ℕ) (x : X) → Keeps old new → P old x → P new x
+IsKept {X} P = (old new : List ℕ) (x : X) → Stands new old → P old x → P new x
 
-pub all_still : {X : Type 0} (P : List ℕ → X → Type 0) → IsKept P → (old new : List ℕ) (xs : List X) → Keeps old new
+pub all_still : {X : Type 0} (P : List ℕ → X → Type 0) → IsKept P → (old new : List ℕ) (xs : List X) → Stands new old
     → All (P old) xs → All (P new) xs
 all_still {X} P still old new xs keeps h = All-weaker (P old) (P new) (λ x. still old new x keeps) xs h
 
@@ -83,17 +75,92 @@ all_in_all {X} P xs ys i e le h =
     All-same P xs (take i xs) (sym (take_all i xs le2)) h
 
 -- a thing more is drawn, by shapes behind those so far
-pub each_drawn : {X : Type 0} (P : List ℕ → X → Type 0) → IsKept P → (old new own : List Shape) → new ≡ old ++ own
+pub more_drawn : {X : Type 0} (P : List ℕ → X → Type 0) → IsKept P → (old new own : List Shape) → new ≡ old ++ own
     → (xs ys : List X) (i : ℕ) (d : X) → ys ≡ xs → i < length ys
     → All (P (shapes_bytes old)) (take i xs) → P (shapes_bytes own) (get_or ys i d)
     → All (P (shapes_bytes new)) (take (i + 1) xs)
-each_drawn {X} P still old new own is xs ys i d e lt h p =
+more_drawn {X} P still old new own is xs ys i d e lt h p =
     all_more (P (shapes_bytes new)) xs ys i d e lt
-    (all_still P still (shapes_bytes old) (shapes_bytes new) (take i xs) (keeps_left old new own is) h)
-    (still (shapes_bytes own) (shapes_bytes new) (get_or ys i d) (keeps_right old new own is) p)
+    (all_still P still (shapes_bytes old) (shapes_bytes new) (take i xs) (left old new own is) h)
+    (still (shapes_bytes own) (shapes_bytes new) (get_or ys i d) (right old new own is) p)
 
 pub item_drawn : {X : Type 0} (P : List ℕ → X → Type 0) → IsKept P → (old new own : List Shape) → new ≡ old ++ own
     → (xs ys : List X) (i : ℕ) (x : X) → ys ≡ xs → i < length ys → x ≡ get_or ys i x
     → All (P (shapes_bytes old)) (take i xs) → P (shapes_bytes own) x → All (P (shapes_bytes new)) (take (i + 1) xs)
 item_drawn {X} P still old new own is xs ys i x e lt at h p =
-    each_drawn P still old new own is xs ys i x e lt h (subst (P (shapes_bytes own)) at p)
+    more_drawn P still old new own is xs ys i x e lt h (subst (P (shapes_bytes own)) at p)
+
+-- 4. What is drawn of a page
+
+pub bars_kept : (page : Page) → IsKept (BarsAreDrawn page)
+bars_kept page old new lane keeps was =
+    all_still (BarIsOn page lane) (λ before behind at keeps. within _ _ _ keeps) old new lane.bars.laid.items keeps was
+
+pub loan_kept : (page : Page) (strip : ℕ) → IsKept (λ picture. IsLentAt page picture strip)
+loan_kept page strip old new step keeps was is lent = within _ _ _ keeps (was is lent)
+
+pub loans_kept : (page : Page) → IsKept (LoansAreDrawn page)
+loans_kept page old new lane keeps was y is =
+    all_still (λ picture. IsLentAt page picture y.0) (loan_kept page y.0) old new lane.steps.items keeps (was y is)
+
+pub stop_kept : (lane : LaneBand) (at : Option ℕ) (old new : List ℕ) → Stands new old → StopsAt old lane at
+    → StopsAt new lane at
+stop_kept lane None old new keeps was = was
+stop_kept lane (Some x) old new keeps was = within _ _ _ keeps was
+
+pub frame_kept : (page : Page) → IsKept (FrameIsOn page)
+frame_kept page old new lane keeps was = record {
+  name = within _ _ _ keeps was.name;
+  prio = λ step is. within _ _ _ keeps (was.prio step is);
+  stop = stop_kept lane (stop_at page lane.thread.0) old new keeps was.stop;
+}
+
+pub arrow_kept : (page : Page) (lines more_lines heads more_heads : List ℕ) (arrow : Arrow) → Stands more_lines lines
+    → Stands more_heads heads → ArrowIsOn page lines heads arrow → ArrowIsOn page more_lines more_heads arrow
+arrow_kept page lines more_lines heads more_heads arrow keeps_lines keeps_heads was ends =
+    let h = was ends in record {
+      begin = h.begin;
+      tip = h.tip;
+      begins = h.begins;
+      ends = h.ends;
+      line = within _ _ _ keeps_lines h.line;
+      head = within _ _ _ keeps_heads h.head;
+    }
+
+pub arrows_still : (page : Page) (lines heads new : List ℕ) (arrows : List Arrow) → Stands new lines → Stands new heads
+    → All (ArrowIsOn page lines heads) arrows → All (ArrowIsOn page new new) arrows
+arrows_still page lines heads new arrows keeps_lines keeps_heads was =
+    All-weaker (ArrowIsOn page lines heads) (ArrowIsOn page new new)
+    (λ arrow. arrow_kept page lines new heads new arrow keeps_lines keeps_heads) arrows was
+
+-- an arrow more is drawn
+pub arrows_more : (page : Page) (lines new_lines own_lines heads new_heads own_heads : List Shape)
+    → new_lines ≡ lines ++ own_lines → new_heads ≡ heads ++ own_heads
+    → (arrows ys : List Arrow) (i : ℕ) (d : Arrow) → ys ≡ arrows → i < length ys
+    → All (ArrowIsOn page (shapes_bytes lines) (shapes_bytes heads)) (take i arrows)
+    → ArrowIsOn page (shapes_bytes own_lines) (shapes_bytes own_heads) (get_or ys i d)
+    → All (ArrowIsOn page (shapes_bytes new_lines) (shapes_bytes new_heads)) (take (i + 1) arrows)
+arrows_more page lines new_lines own_lines heads new_heads own_heads el eh arrows ys i d e lt h p =
+    let l = shapes_bytes lines in
+    let nl = shapes_bytes new_lines in
+    let g = shapes_bytes heads in
+    let ng = shapes_bytes new_heads in
+    all_more (ArrowIsOn page nl ng) arrows ys i d e lt
+    (All-weaker (ArrowIsOn page l g) (ArrowIsOn page nl ng)
+    (λ arrow. arrow_kept page l nl g ng arrow (left lines new_lines own_lines el)
+    (left heads new_heads own_heads eh))
+    (take i arrows) h)
+    (arrow_kept page (shapes_bytes own_lines) nl (shapes_bytes own_heads) ng (get_or ys i d)
+    (right lines new_lines own_lines el) (right heads new_heads own_heads eh) p)
+
+pub mark_kept : (page : Page) → IsKept (MarkIsOn page)
+mark_kept page old new mark keeps was has = let h = was has in
+    record { y = h.y; in_lane = h.in_lane; stands = within _ _ _ keeps h.stands }
+
+-- 5. Rectangles
+
+-- one that is told by equal parts
+pub rect_same : (class told said title : List ℕ) (area drawn : Area) → class ≡ told → area ≡ drawn → said ≡ title
+    → rect_bytes class area said ≡ rect_bytes told drawn title
+rect_same class told said title area drawn ec ea es =
+    ap (λ c. rect_bytes c area said) ec ∙ ap (λ a. rect_bytes told a said) ea ∙ ap (λ t. rect_bytes told drawn t) es

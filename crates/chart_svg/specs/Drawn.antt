@@ -1,8 +1,6 @@
 -- Where the names of threads and their ends, bars, loans, arrows and marks of a chart stand in its picture.
-use Rattle.std.specs.Prelude.{◌≡◌, ◌≢◌, ◌⊎◌, ℕ, ◌+◌, ◌-◌, ◌*◌, ◌/◌, ◌<◌, ◌≤◌, ◌==◌, nat_lt, min, max, if◌then◌else◌, All, Any, List, [], ◌∷◌, ◌++◌, length, slice_get, Some, codes, decimal, Contains}
+use Rattle.std.specs.Prelude.{◌≡◌, ◌≢◌, ◌⊎◌, ℕ, ◌+◌, ◌-◌, ◌*◌, ◌/◌, ◌<◌, ◌≤◌, ◌==◌, nat_lt, min, max, Bool, true, false, if◌then◌else◌, All, Any, List, [], ◌∷◌, ◌++◌, length, slice_get, Some, codes, decimal, Contains}
 use Rattle.chart_escape.specs.Markup.{escaped}
-use Rattle.chart_escape.specs.Pieces.{piece_bytes}
-use Rattle.chart_escape.specs.declared.piece.Piece.TheVariants.{Optional}
 use Rattle.chart_layout.specs.Marks.{is_refusal}
 use Rattle.chart_layout.specs.declared.layout.Arrow.{Arrow}
 use Rattle.chart_layout.specs.declared.layout.ArrowKind.{ArrowKind}
@@ -23,6 +21,7 @@ use Rattle.lock_model.specs.declared.plan.Plan.{Plan}
 use Rattle.lock_model.specs.declared.plan.QueueName.TheVariants.{Lock, Chan}
 use Rattle.chart_svg.specs.declared.shapes.Area.{Area}
 use Rattle.chart_svg.specs.declared.shapes.Class.{Class}
+use Rattle.chart_svg.specs.declared.shapes.Class.TheVariants.{None as NoClass, Word, OfLock}
 use Rattle.chart_svg.specs.declared.shapes.Figure.{Figure}
 use Rattle.chart_svg.specs.declared.shapes.Figure.TheVariants.{Up, Down, Cross}
 
@@ -36,29 +35,35 @@ pub record Stands (text part : List ℕ) : Type 0 where
 
 -- 2. Shapes, each of a class. What a shape says is shown where it is pointed at.
 
--- a class as it is written: its word, and the number of its lock if it has one
+-- a class: its word, and the number of its lock if it has one
 abbrev pub class_bytes : Class → List ℕ
-class_bytes class = escaped class.word.now ++ piece_bytes (Optional class.lock)
+class_bytes NoClass = []
+class_bytes (Word word) = word.now
+class_bytes (OfLock word l) = word.now ++ decimal l.0
 
 -- a rectangle, and what it says
 abbrev pub rect_bytes : List ℕ → Area → List ℕ → List ℕ
 rect_bytes class area said =
-    codes "<rect class='" ++ class
+    codes "<rect class='" ++ escaped class
     ++ codes "' x='" ++ decimal area.x.0 ++ codes "' y='" ++ decimal area.y.0
     ++ codes "' width='" ++ decimal area.width ++ codes "' height='" ++ decimal area.height
     ++ codes "' rx='3'><title>" ++ escaped said ++ codes "</title></rect>\n"
 
--- a line straight up or down, from one height to another
+-- a line from one point to another
+abbrev pub stroke_bytes : List ℕ → ℕ → ℕ → ℕ → ℕ → List ℕ
+stroke_bytes class x1 y1 x2 y2 =
+    codes "<line class='" ++ escaped class
+    ++ codes "' x1='" ++ decimal x1 ++ codes "' y1='" ++ decimal y1
+    ++ codes "' x2='" ++ decimal x2 ++ codes "' y2='" ++ decimal y2 ++ codes "'></line>\n"
+
+-- one straight up or down, from one height to another
 abbrev pub line_bytes : List ℕ → ℕ → ℕ → ℕ → List ℕ
-line_bytes class x begin end =
-    codes "<line class='" ++ class
-    ++ codes "' x1='" ++ decimal x ++ codes "' y1='" ++ decimal begin
-    ++ codes "' x2='" ++ decimal x ++ codes "' y2='" ++ decimal end ++ codes "'></line>\n"
+line_bytes class x begin end = stroke_bytes class x begin x end
 
 -- a dot round a point, and what it says
 abbrev pub dot_bytes : List ℕ → ℕ → ℕ → List ℕ → List ℕ
 dot_bytes class x y said =
-    codes "<circle class='" ++ class
+    codes "<circle class='" ++ escaped class
     ++ codes "' cx='" ++ decimal x ++ codes "' cy='" ++ decimal y
     ++ codes "' r='3'><title>" ++ escaped said ++ codes "</title></circle>\n"
 
@@ -68,17 +73,21 @@ outline Up = codes "l-4 8h8z"
 outline Down = codes "l-4-8h8z"
 outline Cross = codes "m-5-5l10 10m0-10l-10 10"
 
+-- a path, as SVG writes one, and what it says
+abbrev pub curve_bytes : List ℕ → List ℕ → List ℕ → List ℕ
+curve_bytes class path said =
+    codes "<path class='" ++ escaped class ++ codes "' d='" ++ escaped path
+    ++ codes "'><title>" ++ escaped said ++ codes "</title></path>\n"
+
 -- a figure at its point, and what it says
 abbrev pub figure_bytes : List ℕ → Figure → ℕ → ℕ → List ℕ → List ℕ
 figure_bytes class figure x y said =
-    codes "<path class='" ++ class
-    ++ codes "' d='" ++ escaped (codes "M" ++ decimal x ++ 32 ∷ decimal y ++ outline figure)
-    ++ codes "'><title>" ++ escaped said ++ codes "</title></path>\n"
+    curve_bytes class (codes "M" ++ decimal x ++ 32 ∷ decimal y ++ outline figure) said
 
 -- words at a point
 abbrev pub words_bytes : List ℕ → ℕ → ℕ → List ℕ → List ℕ
 words_bytes class x y words =
-    codes "<text class='" ++ class
+    codes "<text class='" ++ escaped class
     ++ codes "' x='" ++ decimal x ++ codes "' y='" ++ decimal y
     ++ codes "'>" ++ escaped words ++ codes "</text>\n"
 
@@ -124,6 +133,12 @@ pub record IsInLane (scale : Scale) (t y : ℕ) : Type 0 where
   pub begins : scale.lane t ≤ y
   pub ends : pixels (y + 1) ≤ scale.lane (t + 1)
 
+-- something stands in the lane of a thread, as it is written for its place there
+pub record StandsIn (scale : Scale) (picture : List ℕ) (t : ℕ) (written : ℕ → List ℕ) : Type 0 where
+  pub y : ℕ
+  pub in_lane : IsInLane scale t y
+  pub stands : Stands picture (written y)
+
 -- where a priority is in the strip of a thread
 abbrev pub prio_at : Scale → ℕ → ℕ → ℕ
 prio_at scale t prio = pixels (scale.strip t + scale.rank prio * scale.pitch)
@@ -135,11 +150,9 @@ IsPrioOf prio step = (step.effective.0 ≡ prio) ⊎ (step.base.0 ≡ prio)
 -- 4. Names and ends of threads
 
 -- the name of the thread that has the t-th lane stands in that lane
-pub record NameIsDrawn (plan : Plan) (scale : Scale) (picture : List ℕ) (t : ℕ) (lane : Lane)
-    : Type 0 where
-  pub y : ℕ
-  pub in_lane : IsInLane scale t y
-  pub stands : Stands picture (words_bytes (codes "name") 24 y (thread_name plan lane.thread.0))
+abbrev pub NameIsDrawn : Plan → Scale → List ℕ → ℕ → Lane → Type 0
+NameIsDrawn plan scale picture t lane =
+    StandsIn scale picture t (λ y. words_bytes (codes "name") 24 y (thread_name plan lane.thread.0))
 
 -- a stroke stands in the t-th lane where the row begins
 pub record StopIsDrawn (chart : Chart) (scale : Scale) (picture : List ℕ) (t row : ℕ)
@@ -163,13 +176,16 @@ bar_class (TakenOff (Chan c)) = codes "taken"
 bar_class (Woken q) = codes "woken"
 bar_class Walks = codes "walks"
 
+abbrev pub is_walk : BarKind → Bool
+is_walk (Holds l mode) = false
+is_walk (Waits q) = false
+is_walk (TakenOff q) = false
+is_walk (Woken q) = false
+is_walk Walks = true
+
 -- a walk is a thin line
 abbrev pub bar_height : BarKind → ℕ
-bar_height (Holds l mode) = 18
-bar_height (Waits q) = 18
-bar_height (TakenOff q) = 18
-bar_height (Woken q) = 18
-bar_height Walks = 3
+bar_height what = if is_walk what then 3 else 18
 
 -- a bar whose top is there, from the begin of its first row to the end of its last
 abbrev pub bar_area : Scale → Chart → Bar → ℕ → Area
@@ -244,11 +260,9 @@ prio_words prio base =
     ++ (if prio == base then [] else codes " (base " ++ decimal base ++ codes ")")
 
 -- the number stands in the thread's lane
-pub record PrioIsDrawn (scale : Scale) (picture : List ℕ) (step : PrioSpan) : Type 0 where
-  pub y : ℕ
-  pub in_lane : IsInLane scale step.thread.0 y
-  pub stands : Stands picture (words_bytes (codes "gray") 24 y
-      (prio_words step.effective.0 step.base.0))
+abbrev pub PrioIsDrawn : Scale → List ℕ → PrioSpan → Type 0
+PrioIsDrawn scale picture step = StandsIn scale picture step.thread.0
+    (λ y. words_bytes (codes "gray") 24 y (prio_words step.effective.0 step.base.0))
 
 -- 7. Arrows
 
@@ -286,16 +300,17 @@ arrow_title plan arrow =
     thread_name plan arrow.from.0 ++ codes " " ++ arrow_words arrow
     ++ to_word arrow.kind ++ thread_name plan arrow.to.0
 
--- the arrow stands in the column of its turn, and goes from the one lane to the other
-pub record ArrowIsDrawn (plan : Plan) (chart : Chart) (scale : Scale) (picture : List ℕ)
+-- the arrow stands in the column of its turn, and goes from the one lane to the other; of a picture in two parts its
+-- line stands in the one, and its head in the other
+pub record ArrowIsDrawn (plan : Plan) (chart : Chart) (scale : Scale) (lines heads : List ℕ)
     (arrow : Arrow) : Type 0 where
   pub begin : ℕ
   pub tip : ℕ
   pub begins : IsInLane scale arrow.from.0 begin
   pub ends : IsInLane scale arrow.to.0 tip
-  pub line : Stands picture (line_bytes (line_class arrow.kind)
+  pub line : Stands lines (line_bytes (line_class arrow.kind)
       (turn_at scale chart arrow.turn) begin tip)
-  pub head : Stands picture (figure_bytes (head_class arrow.kind) (head_figure scale arrow)
+  pub head : Stands heads (figure_bytes (head_class arrow.kind) (head_figure scale arrow)
       (turn_at scale chart arrow.turn) tip (arrow_title plan arrow))
 
 -- 8. Marks
@@ -325,11 +340,9 @@ mark_bytes plan mark x y =
     else dot_bytes (dot_class mark.what) x y (mark_title plan mark)
 
 -- the mark stands in the column of its turn and in its thread's lane
-pub record MarkIsDrawn (plan : Plan) (chart : Chart) (scale : Scale) (picture : List ℕ)
-    (mark : TurnMark) : Type 0 where
-  pub y : ℕ
-  pub in_lane : IsInLane scale mark.thread.0 y
-  pub stands : Stands picture (mark_bytes plan mark (turn_at scale chart mark.turn) y)
+abbrev pub MarkIsDrawn : Plan → Chart → Scale → List ℕ → TurnMark → Type 0
+MarkIsDrawn plan chart scale picture mark = StandsIn scale picture mark.thread.0
+    (λ y. mark_bytes plan mark (turn_at scale chart mark.turn) y)
 
 -- 9. Pictures
 
@@ -360,6 +373,6 @@ pub record Draws (plan : Plan) (chart : Chart) (picture : List ℕ) : Type 0 whe
       → Changes chart step → step.effective ≢ step.base → LoanIsDrawn chart scale picture step
   pub arrows : (arrow : Arrow) → Contains chart.arrows arrow
       → HasLane chart arrow.from.0 → HasLane chart arrow.to.0
-      → ArrowIsDrawn plan chart scale picture arrow
+      → ArrowIsDrawn plan chart scale picture picture arrow
   pub marks : (mark : TurnMark) → Contains chart.marks mark → HasLane chart mark.thread.0
       → MarkIsDrawn plan chart scale picture mark

@@ -1,16 +1,12 @@
 -- Where the lanes of a page are, and what stands in them.
-use Rattle.std.specs.Prelude.{◌≡◌, ◌≢◌, ◌↔◌, ℕ, ◌+◌, ◌-◌, ◌*◌, ◌/◌, ◌<◌, ◌≤◌, ◌==◌, nat_lt, min, max, List, [], ◌∷◌, ◌++◌, length, slice_get, codes, decimal, Contains, All, Option, Some, None}
-use Rattle.std.specs.Global.{Vec}
+use Rattle.std.specs.Prelude.{◌≡◌, ◌≢◌, ◌↔◌, ℕ, ◌+◌, ◌-◌, ◌*◌, ◌/◌, ◌≤◌, ◌==◌, nat_lt, if◌then◌else◌, min, max, List, [], ◌∷◌, ◌++◌, length, slice_get, codes, decimal, Contains, All, Option, Some, None}
 use Rattle.std.specs.List.{filter}
 use Rattle.chart_layout.specs.declared.layout.Bar.{Bar}
 use Rattle.chart_layout.specs.declared.layout.BarKind.{BarKind}
-use Rattle.chart_layout.specs.declared.layout.BarKind.TheVariants.{Holds, Waits, TakenOff, Woken, Walks}
-use Rattle.chart_layout.specs.declared.layout.Chart.{Chart}
 use Rattle.chart_layout.specs.declared.layout.Lane.{Lane as ChartLane}
 use Rattle.chart_layout.specs.declared.layout.PrioSpan.{PrioSpan}
 use Rattle.lock_model.specs.declared.numbers.Prio.{Prio}
-use Rattle.lock_model.specs.declared.numbers.ThreadNo.{ThreadNo}
-use Rattle.chart_svg.specs.Drawn.{bar_area, bar_class, bar_title, loan_area, pixels, rect_bytes, SaysAs, Scale, Stands}
+use Rattle.chart_svg.specs.Drawn.{bar_area, bar_class, bar_title, is_walk, loan_area, pixels, rect_bytes, SaysAs, Scale, Stands}
 use Rattle.chart_svg.specs.declared.packing.Packed.{Packed}
 use Rattle.chart_svg.specs.declared.page.LaneBand.{LaneBand}
 use Rattle.chart_svg.specs.declared.page.Page.{Page}
@@ -64,48 +60,30 @@ bar_bottom lane level = pixels (bar_top lane level + 18)
 
 -- the top of a bar on a level: a walk is a line below the wait from which it begins
 abbrev pub bar_place : LaneBand → BarKind → ℕ → ℕ
-bar_place lane (Holds l mode) level = bar_top lane level
-bar_place lane (Waits q) level = bar_top lane level
-bar_place lane (TakenOff q) level = bar_top lane level
-bar_place lane (Woken q) level = bar_top lane level
-bar_place lane Walks level = pixels (bar_bottom lane level + 2)
+bar_place lane what level =
+    if is_walk what then pixels (bar_bottom lane level + 2) else bar_top lane level
+
+-- a place in a lane
+abbrev pub IsWithin : LaneBand → ℕ → Type 0
+IsWithin lane y = (lane.top.0 ≤ y) × (pixels (y + 1) ≤ lane.bottom.0)
 
 -- what stands in a lane stands between its top and its bottom: marks, the line of its thread, bars on all levels with a
--- walk below them, and each priority of the strip
-pub record Fits (page : Page) (lane : LaneBand) : Type 0 where
+-- walk below them, and each of the priorities in its strip
+pub record Fits (prios : List Prio) (lane : LaneBand) : Type 0 where
   pub begins : lane.top.0 ≤ lane.begin.0
   pub begin_fits : lane.begin.0 ≤ 4294967295
   pub bottom_fits : lane.bottom.0 ≤ 4294967295
   pub has_room : pixels (lane.begin.0 + 48) ≤ lane.bottom.0
   pub bars : (level : ℕ) → level ≤ length lane.bars.ends.items - 1
       → pixels (bar_bottom lane level + 20) ≤ lane.bottom.0
-  pub strip_begins : (y : Px) → lane.strip ≡ Some y → lane.top.0 ≤ y.0
-  pub strip_fits : (y : Px) → lane.strip ≡ Some y → y.0 ≤ 4294967295
-  pub strip_ends : (y : Px) (prio : ℕ) → lane.strip ≡ Some y
-      → pixels (y.0 + rank_in page.prios.items prio * pitch_of (length page.prios.items) + 1)
-      ≤ lane.bottom.0
-
--- each lane of a page has room for what stands in it, and ends where the next begins
-pub record HasRoom (page : Page) : Type 0 where
-  pub fits : (t : ℕ) (lane : LaneBand) → slice_get page.lanes.items t ≡ Some lane → Fits page lane
-  pub ends : (t : ℕ) (lane : LaneBand) → slice_get page.lanes.items t ≡ Some lane
-      → lane.bottom.0 ≡ lane_top page (t + 1)
-  pub bottom_fits : page.bottom.0 ≤ 4294967295
+  pub strip : (y : Px) (prio : ℕ) → lane.strip ≡ Some y
+      → IsWithin lane (pixels (y.0 + rank_in prios prio * pitch_of (length prios)))
 
 -- 3. What is of a thread
 
 -- the things of a thread, in order
 abbrev pub of_thread : {X : Type 0} → (X → ℕ) → ℕ → List X → List X
 of_thread number t things = filter (λ thing. number thing == t) things
-
--- the things in a list, if there is one
-abbrev pub items_of : {X : Type 0} → Option (Vec X) → List X
-items_of None = []
-items_of (Some list) = list.items
-
--- those in the list at a place
-abbrev pub list_at : {X : Type 0} → List (Vec X) → ℕ → List X
-list_at lists place = items_of (slice_get lists place)
 
 -- the bar lies on some level, or is a walk below one
 abbrev pub IsLaid : Packed → Bar → Type 0
@@ -116,34 +94,34 @@ IsLaid packed bar = (level : ℕ) × (level ≤ length packed.ends.items - 1)
 abbrev pub AreSame : List PrioSpan → Type 0
 AreSame steps = (first : PrioSpan) → slice_get steps 0 ≡ Some first → All (SaysAs first) steps
 
--- the t-th lane is that of the thread that the chart names there; these bars are laid in it, and it has these steps, and
--- no strip exactly where they are all the same
-pub record LaneAt (lanes : List LaneBand) (named : List ChartLane) (t : ℕ) (own_bars : List Bar)
-    (own_steps : List PrioSpan) : Type 0 where
-  pub lane : LaneBand
-  pub own : ChartLane
-  pub is : slice_get lanes t ≡ Some lane
-  pub of : slice_get named t ≡ Some own
-  pub thread : lane.thread ≡ own.thread
-  pub bars : All (IsLaid lane.bars) own_bars
-  pub steps : lane.steps.items ≡ own_steps
+-- the t-th lane of a page has room for what stands in it; it is that of the thread that the chart names there, with the
+-- bars and the steps of this, and has no strip exactly where the steps are all the same
+pub record IsLane (page : Page) (t : ℕ) (lane : LaneBand) : Type 0 where
+  pub fits : Fits page.prios.items lane
+  pub thread : (own : ChartLane) → slice_get page.chart.now.lanes t ≡ Some own
+      → lane.thread ≡ own.thread
+  pub bars : All (IsLaid lane.bars) (of_thread (λ bar. bar.thread.0) t page.chart.now.bars)
+  pub steps : lane.steps.items ≡ of_thread (λ step. step.thread.0) t page.chart.now.steps
   pub flat : lane.strip ≡ None ↔ AreSame lane.steps.items
 
--- a page has the lanes of a chart, in order, each with the bars and the steps of its thread
-abbrev pub HasLanes : Page → Chart → Type 0
-HasLanes page chart = (t : ℕ) → t < length chart.lanes
-    → LaneAt page.lanes.items chart.lanes t (of_thread (λ bar. bar.thread.0) t chart.bars)
-    (of_thread (λ step. step.thread.0) t chart.steps)
+-- the priority by which a thread runs in a step, and its own
+abbrev pub prios_in : PrioSpan → List Prio
+prios_in step = step.effective ∷ step.base ∷ []
 
--- the lanes are one more, with these bars and steps of its thread
-pub record HasLaneMore (old new : List LaneBand) (own : ThreadNo) (own_bars : List Bar)
-    (own_steps : List PrioSpan) : Type 0 where
-  pub lane : LaneBand
-  pub pushed : new ≡ old ++ lane ∷ []
-  pub thread : lane.thread ≡ own
-  pub bars : All (IsLaid lane.bars) own_bars
-  pub steps : lane.steps.items ≡ own_steps
-  pub flat : lane.strip ≡ None ↔ AreSame lane.steps.items
+-- the priorities by which the threads of a chart run, and their own, are among those of a page
+abbrev pub HasPrios : List Prio → List PrioSpan → Type 0
+HasPrios prios steps = All (λ step. Contains prios step.effective × Contains prios step.base) steps
+
+-- a column of a page has room for a mark; each lane is laid out, and ends where the next begins; and the page has the
+-- priorities of its chart
+pub record IsLaidOut (page : Page) : Type 0 where
+  pub wide : 9 ≤ page.column
+  pub prios : HasPrios page.prios.items page.chart.now.steps
+  pub lanes : (t : ℕ) (lane : LaneBand) → slice_get page.lanes.items t ≡ Some lane
+      → IsLane page t lane
+  pub ends : (t : ℕ) (lane : LaneBand) → slice_get page.lanes.items t ≡ Some lane
+      → lane.bottom.0 ≡ lane_top page (t + 1)
+  pub bottom_fits : page.bottom.0 ≤ 4294967295
 
 -- 4. Bars
 
@@ -165,11 +143,7 @@ BarIsOn page lane picture at =
 abbrev pub BarsAreDrawn : Page → List ℕ → LaneBand → Type 0
 BarsAreDrawn page picture lane = All (BarIsOn page lane picture) lane.bars.laid.items
 
--- 5. Steps and loans
-
--- the priorities by which the threads of a chart run, and their own, are among those of a page
-abbrev pub HasPrios : List Prio → List PrioSpan → Type 0
-HasPrios prios steps = All (λ step. Contains prios step.effective × Contains prios step.base) steps
+-- 5. Loans
 
 -- a loan stands in the picture if the strip of its thread's lane begins there
 abbrev pub IsLentAt : Page → List ℕ → ℕ → PrioSpan → Type 0

@@ -1,12 +1,13 @@
 -- What is drawn of a page: its arrows and marks, and the names and ends of its threads.
-use Rattle.std.specs.Prelude.{◌≡◌, ⊤, ℕ, ◌+◌, ◌<◌, ◌≤◌, nat_lt, if◌then◌else◌, List, length, slice_get, codes, All, Option, Some, None}
+use Rattle.std.specs.Prelude.{◌≡◌, ⊤, ℕ, ◌+◌, ◌<◌, nat_lt, if◌then◌else◌, List, length, slice_get, codes, All, Option, Some, None}
 use Rattle.chart_layout.specs.declared.layout.Arrow.{Arrow}
 use Rattle.chart_layout.specs.declared.layout.Chart.{Chart}
 use Rattle.chart_layout.specs.declared.layout.Lane.{Lane as ChartLane}
 use Rattle.chart_layout.specs.declared.layout.PrioSpan.{PrioSpan}
 use Rattle.chart_layout.specs.declared.layout.TurnMark.{TurnMark}
 use Rattle.lock_model.specs.Plans.{thread_name}
-use Rattle.chart_svg.specs.Drawn.{arrow_title, figure_bytes, head_class, head_figure, line_bytes, line_class, pixels, prio_words, row_begin, turn_at, words_bytes, IsInLane, MarkIsDrawn, Scale, Stands}
+use Rattle.lock_model.specs.declared.numbers.Prio.{Prio}
+use Rattle.chart_svg.specs.Drawn.{line_bytes, pixels, prio_words, row_begin, words_bytes, ArrowIsDrawn, MarkIsDrawn, Scale, Stands}
 use Rattle.chart_svg.specs.Lanes.{scale_of, BarsAreDrawn, Fits, LoansAreDrawn}
 use Rattle.chart_svg.specs.declared.page.LaneBand.{LaneBand}
 use Rattle.chart_svg.specs.declared.page.Page.{Page}
@@ -14,33 +15,19 @@ use Rattle.chart_svg.specs.declared.pixels.Px.{Px}
 
 -- 1. Arrows
 
--- a lane with room for what stands in it, on some page
+-- a lane with room for what stands in it, whatever its priorities
 abbrev pub HasPlaces : LaneBand → Type 0
-HasPlaces lane = (page : Page) × Fits page lane
-
--- a place in a lane
-abbrev pub IsWithin : LaneBand → ℕ → Type 0
-IsWithin lane y = (lane.top.0 ≤ y) × (pixels (y + 1) ≤ lane.bottom.0)
+HasPlaces lane = (prios : List Prio) × Fits prios lane
 
 -- the lanes from which and to which an arrow goes are there
 abbrev pub HasEnds : Page → Arrow → Type 0
 HasEnds page arrow =
     (arrow.from.0 < length page.lanes.items) × (arrow.to.0 < length page.lanes.items)
 
--- the arrow begins in the one lane and ends in the other; its line stands in the one text, and its head in the other
-pub record ArrowStands (page : Page) (lines heads : List ℕ) (arrow : Arrow) : Type 0 where
-  pub begin : ℕ
-  pub tip : ℕ
-  pub begins : IsInLane (scale_of page) arrow.from.0 begin
-  pub ends : IsInLane (scale_of page) arrow.to.0 tip
-  pub line : Stands lines (line_bytes (line_class arrow.kind)
-      (turn_at (scale_of page) page.chart.now arrow.turn) begin tip)
-  pub head : Stands heads (figure_bytes (head_class arrow.kind) (head_figure (scale_of page) arrow)
-      (turn_at (scale_of page) page.chart.now arrow.turn) tip (arrow_title page.plan.now arrow))
-
--- it does so if its lanes are there
+-- the arrow is drawn if its lanes are there
 abbrev pub ArrowIsOn : Page → List ℕ → List ℕ → Arrow → Type 0
-ArrowIsOn page lines heads arrow = HasEnds page arrow → ArrowStands page lines heads arrow
+ArrowIsOn page lines heads arrow = HasEnds page arrow
+    → ArrowIsDrawn page.plan.now page.chart.now (scale_of page) lines heads arrow
 
 -- 2. Marks
 
@@ -49,16 +36,7 @@ abbrev pub MarkIsOn : Page → List ℕ → TurnMark → Type 0
 MarkIsOn page picture mark = mark.thread.0 < length page.lanes.items
     → MarkIsDrawn page.plan.now page.chart.now (scale_of page) picture mark
 
--- 3. Lanes
-
--- what stands in the lanes is drawn
-pub record LanesAreDrawn (page : Page) (picture : List ℕ) : Type 0 where
-  pub bars : All (BarsAreDrawn page picture) page.lanes.items
-  pub loans : All (LoansAreDrawn page picture) page.lanes.items
-  pub arrows : All (ArrowIsOn page picture picture) page.chart.now.arrows
-  pub marks : All (MarkIsOn page picture) page.chart.now.marks
-
--- 4. Names and ends of threads
+-- 3. Names and ends of threads
 
 -- the name of a lane's thread stands beside its line
 abbrev pub NameIsOn : Page → List ℕ → LaneBand → Type 0
@@ -103,3 +81,13 @@ pub record FrameIsOn (page : Page) (picture : List ℕ) (lane : LaneBand) : Type
   pub name : NameIsOn page picture lane
   pub prio : PrioIsOn picture lane
   pub stop : StopsAt picture lane (stop_at page lane.thread.0)
+
+-- 4. Lanes
+
+-- what stands in the lanes and beside them is drawn
+pub record LanesAreDrawn (page : Page) (picture : List ℕ) : Type 0 where
+  pub frame : All (FrameIsOn page picture) page.lanes.items
+  pub bars : All (BarsAreDrawn page picture) page.lanes.items
+  pub loans : All (LoansAreDrawn page picture) page.lanes.items
+  pub arrows : All (ArrowIsOn page picture picture) page.chart.now.arrows
+  pub marks : All (MarkIsOn page picture) page.chart.now.marks

@@ -1,42 +1,42 @@
 -- What shapes are written as.
 use Rattle.std.specs.Prelude.{ℕ, List, ◌++◌, Some, None, codes, decimal, flat_map}
 use Rattle.chart_escape.specs.Markup.{escaped}
-use Rattle.chart_svg.specs.Drawn.{class_bytes, dot_bytes, rect_bytes, words_bytes}
+use Rattle.chart_svg.specs.Drawn.{class_bytes, curve_bytes, dot_bytes, rect_bytes, stroke_bytes, words_bytes}
 use Rattle.chart_svg.specs.declared.shapes.Area.{Area}
+use Rattle.chart_svg.specs.declared.shapes.Form.{Form}
+use Rattle.chart_svg.specs.declared.shapes.Form.TheVariants as form
 use Rattle.chart_svg.specs.declared.shapes.Shape.{Shape}
-use Rattle.chart_svg.specs.declared.shapes.Shape.TheVariants as shape
 
 -- a rectangle that says nothing
 abbrev pub plain_rect_bytes : List ℕ → Area → List ℕ
 plain_rect_bytes class area =
-    codes "<rect class='" ++ class
+    codes "<rect class='" ++ escaped class
     ++ codes "' x='" ++ decimal area.x.0 ++ codes "' y='" ++ decimal area.y.0
     ++ codes "' width='" ++ decimal area.width ++ codes "' height='" ++ decimal area.height
     ++ codes "' rx='3'></rect>\n"
 
--- a line from one point to another
-abbrev pub stroke_bytes : List ℕ → ℕ → ℕ → ℕ → ℕ → List ℕ
-stroke_bytes class x1 y1 x2 y2 =
-    codes "<line class='" ++ class
-    ++ codes "' x1='" ++ decimal x1 ++ codes "' y1='" ++ decimal y1
-    ++ codes "' x2='" ++ decimal x2 ++ codes "' y2='" ++ decimal y2 ++ codes "'></line>\n"
+-- what has a class is written so
+abbrev pub form_bytes : List ℕ → Form → List ℕ
+form_bytes class (form.Rect area None) = plain_rect_bytes class area
+form_bytes class (form.Rect area (Some said)) = rect_bytes class area said.items
+form_bytes class (form.Dot at said) = dot_bytes class at.0.0 at.1.0 said.items
+form_bytes class (form.Line from to) = stroke_bytes class from.0.0 from.1.0 to.0.0 to.1.0
+form_bytes class (form.Curve path said) = curve_bytes class path.items said.items
+form_bytes class (form.Words at words) = words_bytes class at.0.0 at.1.0 words.items
+form_bytes class (form.Heading title words) =
+    codes "<title>" ++ escaped title.items ++ codes "</title>\n<desc>" ++ escaped words.items
+    ++ codes "</desc>\n"
+form_bytes class (form.Style rules) =
+    codes "<style>\n" ++ escaped rules.items ++ codes "</style>\n"
+form_bytes class (form.Hatch name) =
+    codes "<pattern id='h" ++ escaped name.items
+    ++ codes "' width='7' height='7' patternTransform='rotate(45)'"
+    ++ codes " patternUnits='userSpaceOnUse'><path class='paper' d='M0 0H7V7H0z'/>"
+    ++ codes "<path class='hatch" ++ escaped name.items ++ codes "' d='M0 0V7'/></pattern>\n"
 
--- a path, and what it says
-abbrev pub curve_bytes : List ℕ → List ℕ → List ℕ → List ℕ
-curve_bytes class path said =
-    codes "<path class='" ++ class ++ codes "' d='" ++ escaped path
-    ++ codes "'><title>" ++ escaped said ++ codes "</title></path>\n"
-
--- any shape
+-- a shape is its form, with its class
 abbrev pub shape_bytes : Shape → List ℕ
-shape_bytes (shape.Rect class area None) = plain_rect_bytes (class_bytes class) area
-shape_bytes (shape.Rect class area (Some said)) = rect_bytes (class_bytes class) area said.items
-shape_bytes (shape.Dot class at said) = dot_bytes (class_bytes class) at.0.0 at.1.0 said.items
-shape_bytes (shape.Line class from to) =
-    stroke_bytes (class_bytes class) from.0.0 from.1.0 to.0.0 to.1.0
-shape_bytes (shape.Curve class path said) = curve_bytes (class_bytes class) path.items said.items
-shape_bytes (shape.Words class at words) =
-    words_bytes (class_bytes class) at.0.0 at.1.0 words.items
+shape_bytes shape = form_bytes (class_bytes shape.0) shape.1
 
 -- shapes, one behind the other
 abbrev pub shapes_bytes : List Shape → List ℕ

@@ -1,16 +1,17 @@
 //! The arrows from lane to lane, in the column of their turn. Their lines pass behind bars; their heads and words stand
 //! before all of these.
 ghost use Rattle.std.specs.Prelude.{◌≡◌, ◌-◌, ◌≤◌, if◌then◌else◌, length, slice_get, All, IfOk, Some};
-ghost use Rattle.chart_svg.specs.Drawn.{arrow_title, class_bytes, figure_bytes, head_class, line_bytes, line_class, to_word, turn_at};
-ghost use Rattle.chart_svg.specs.Lanes.{scale_of, Fits, HasRoom};
-ghost use Rattle.chart_svg.specs.Pages.{ArrowIsOn, ArrowStands, HasPlaces, IsWithin};
+ghost use Rattle.chart_svg.specs.Drawn.{arrow_title, class_bytes, figure_bytes, head_class, line_bytes, line_class, to_word, turn_at, ArrowIsDrawn};
+ghost use Rattle.chart_svg.specs.Lanes.{scale_of, Fits, IsLaidOut, IsWithin};
+ghost use Rattle.chart_svg.specs.Pages.{ArrowIsOn, HasPlaces};
 ghost use Rattle.chart_svg.specs.Shapes.{shape_bytes, shapes_bytes};
 ghost use Rattle.chart_svg.specs.declared.shapes.Figure.TheVariants.{Up, Down};
 
 use crate::packing::is_wait;
 use crate::page::{LaneBand, Page};
 use crate::pixels::{Px, count};
-use crate::shapes::{Class, Figure, Shape, Shapes};
+use crate::shapes::Class::Word;
+use crate::shapes::{Class, Figure, Form, Shape, Shapes};
 use chart_layout::{Arrow, ArrowKind, BarKind, Saying};
 use chart_words::push_arrow;
 use lock_model::LockNo;
@@ -35,7 +36,7 @@ impl ArrowShapes {
 
 /// The arrows of a page, those whose lanes are there.
 pub fn arrows(alloc: Global, page: &Page<'_>) -> Result<ArrowShapes, AllocError>
-    requires { HasRoom page.now }
+    requires { IsLaidOut page.now }
     ensures { IfOk result (λ arrows. All (ArrowIsOn page.now (shapes_bytes arrows.lines.items)
         (shapes_bytes arrows.heads.items)) page.now.chart.now.arrows) }
 {
@@ -49,7 +50,7 @@ pub fn arrows(alloc: Global, page: &Page<'_>) -> Result<ArrowShapes, AllocError>
 }
 
 fn one_arrow(alloc: Global, page: &Page<'_>, arrow: Arrow) -> Result<ArrowShapes, AllocError>
-    requires { HasRoom page.now }
+    requires { IsLaidOut page.now }
     ensures { IfOk result (λ arrows. ArrowIsOn page.now (shapes_bytes arrows.lines.items)
         (shapes_bytes arrows.heads.items) arrow) }
 {
@@ -69,11 +70,12 @@ fn arrow_between(
     from: &LaneBand,
     to: &LaneBand,
 ) -> Result<ArrowShapes, AllocError>
-    requires room { HasRoom page.now }
+    requires out { IsLaidOut page.now }
     requires begins { slice_get page.now.lanes.items arrow.from.0 ≡ Some from.now }
     requires ends { slice_get page.now.lanes.items arrow.to.0 ≡ Some to.now }
-    ensures { IfOk result (λ arrows. ArrowStands page.now (shapes_bytes arrows.lines.items)
-        (shapes_bytes arrows.heads.items) arrow) }
+    ensures { IfOk result (λ arrows. ArrowIsDrawn page.now.plan.now page.now.chart.now
+        (scale_of page.now) (shapes_bytes arrows.lines.items) (shapes_bytes arrows.heads.items)
+        arrow) }
 {
     let goes_up = to.top.0 < from.top.0;
     let begin = begin_of(arrow, from, goes_up);
@@ -108,7 +110,7 @@ fn line_of(page: &Page<'_>, arrow: Arrow, begin: Px, tip: Px) -> Shape
         (turn_at (scale_of page.now) page.now.chart.now arrow.turn) begin.0 tip.0 }
 {
     let x = page.turn_at(arrow.turn);
-    Shape::Line(line_class(arrow.kind), (x, begin), (x, tip))
+    Shape(line_class(arrow.kind), Form::Line((x, begin), (x, tip)))
 }
 
 // A head without its words.
@@ -133,11 +135,11 @@ fn line_class(kind: ArrowKind) -> Class
     ensures { class_bytes result ≡ line_class kind }
 {
     match kind {
-        ArrowKind::Lends { before, prio } if before == prio => Class::of("pale"),
-        ArrowKind::Lends { .. } => Class::of("lends"),
-        ArrowKind::Wakes => Class::of("wakes"),
-        ArrowKind::BlockedOn | ArrowKind::Behind => Class::of("block"),
-        ArrowKind::Refused => Class::of("refused"),
+        ArrowKind::Lends { before, prio } if before == prio => Word("pale"),
+        ArrowKind::Lends { .. } => Word("lends"),
+        ArrowKind::Wakes => Word("wakes"),
+        ArrowKind::BlockedOn | ArrowKind::Behind => Word("block"),
+        ArrowKind::Refused => Word("refused"),
     }
 }
 
@@ -145,11 +147,11 @@ fn head_class(kind: ArrowKind) -> Class
     ensures { class_bytes result ≡ head_class kind }
 {
     match kind {
-        ArrowKind::Lends { before, prio } if before == prio => Class::of("palehead"),
-        ArrowKind::Lends { .. } => Class::of("lendhead"),
-        ArrowKind::Wakes => Class::of("wakehead"),
-        ArrowKind::BlockedOn | ArrowKind::Behind => Class::of("blockhead"),
-        ArrowKind::Refused => Class::of("refusedhead"),
+        ArrowKind::Lends { before, prio } if before == prio => Word("palehead"),
+        ArrowKind::Lends { .. } => Word("lendhead"),
+        ArrowKind::Wakes => Word("wakehead"),
+        ArrowKind::BlockedOn | ArrowKind::Behind => Word("blockhead"),
+        ArrowKind::Refused => Word("refusedhead"),
     }
 }
 
@@ -183,13 +185,16 @@ fn words_of(alloc: Global, page: &Page<'_>, arrow: Arrow, y: Px) -> Shapes {
     }
     let class = match arrow.kind {
         ArrowKind::Lends { before, prio } if before == prio => return Ok(shapes),
-        ArrowKind::Lends { .. } => Class::of("lend"),
-        ArrowKind::Wakes => Class::of("wake"),
+        ArrowKind::Lends { .. } => Word("lend"),
+        ArrowKind::Wakes => Word("wake"),
         ArrowKind::BlockedOn | ArrowKind::Behind | ArrowKind::Refused => return Ok(shapes),
     };
     let mut words = Vec::new(alloc);
     push_arrow(&mut words, arrow)?;
-    shapes.push(Shape::Words(class, (page.turn_at(arrow.turn).plus(5), y), words))?;
+    shapes.push(Shape(
+        class,
+        Form::Words((page.turn_at(arrow.turn).plus(5), y), words),
+    ))?;
     Ok(shapes)
 }
 
@@ -216,7 +221,7 @@ fn begin_of(arrow: Arrow, from: &LaneBand, goes_up: bool) -> Px
 // Where an arrow ends: a loan at the step of the priority, one that blocks or was refused at the bar
 // of the lock, and one that wakes, or that goes to a writer, at the wait.
 fn tip_of(page: &Page<'_>, arrow: Arrow, to: &LaneBand, goes_up: bool) -> Px
-    requires { Fits page.now to.now }
+    requires { Fits page.now.prios.items to.now }
     ensures { IsWithin to.now result.0 }
 {
     if let (ArrowKind::Lends { prio, .. }, Some(strip)) = (arrow.kind, to.strip) {

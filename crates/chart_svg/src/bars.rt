@@ -7,7 +7,8 @@ ghost use Rattle.chart_svg.specs.Shapes.{shape_bytes, shapes_bytes};
 use crate::packing::is_walk;
 use crate::page::{LaneBand, Page};
 use crate::pixels::{Px, width_of};
-use crate::shapes::{Area, Class, Shape, Shapes};
+use crate::shapes::Class::{OfLock, Word};
+use crate::shapes::{Area, Class, Form, Shape, Shapes};
 use chart_layout::{Bar, BarKind, Chart, End, Saying};
 use chart_words::{push_bar, queue_name};
 use lock_model::{Mode, QueueName, ThreadNo, push_number};
@@ -92,7 +93,7 @@ fn one_bar(alloc: Global, page: &Page<'_>, bar: Bar, top: Px) -> Shapes
 fn ground_of(alloc: Global, page: &Page<'_>, bar: Bar, top: Px) -> Shapes {
     let mut shapes = Vec::new(alloc);
     if !is_walk(bar.what) {
-        shapes.push(Shape::Rect(Class::of("paper"), area_of(page, bar, top), None))?;
+        shapes.push(Shape(Word("paper"), Form::Rect(area_of(page, bar, top), None)))?;
     }
     Ok(shapes)
 }
@@ -101,10 +102,9 @@ fn ground_of(alloc: Global, page: &Page<'_>, bar: Bar, top: Px) -> Shapes {
 fn shape_of(alloc: Global, page: &Page<'_>, bar: Bar, top: Px) -> Result<Shape, AllocError>
     ensures { IfOk result (λ shape. shape_bytes shape ≡ bar_bytes page.now top.0 bar) }
 {
-    Ok(Shape::Rect(
+    Ok(Shape(
         class_of(bar.what),
-        area_of(page, bar, top),
-        Some(said_of(alloc, page, bar)?),
+        Form::Rect(area_of(page, bar, top), Some(said_of(alloc, page, bar)?)),
     ))
 }
 
@@ -125,7 +125,7 @@ fn own_words(alloc: Global, page: &Page<'_>, bar: Bar, top: Px) -> Shapes {
     }
     if is_left(page, bar) {
         let at = (area.x.plus(area.width).plus(6), top.plus(13));
-        shapes.push(Shape::words(alloc, Class::of("never"), at, b"never woken")?)?;
+        shapes.push(Shape::words(alloc, Word("never"), at, b"never woken")?)?;
     }
     Ok(shapes)
 }
@@ -146,13 +146,7 @@ fn area_of(page: &Page<'_>, bar: Bar, top: Px) -> Area
 fn height_of(what: BarKind) -> u32
     ensures { result ≡ bar_height what }
 {
-    match what {
-        BarKind::Holds { .. }
-        | BarKind::Waits { .. }
-        | BarKind::TakenOff { .. }
-        | BarKind::Woken { .. } => 18,
-        BarKind::Walks => 3,
-    }
+    if is_walk(what) { 3 } else { 18 }
 }
 
 // What stands on a bar. One that waits behind a writer says so.
@@ -194,38 +188,38 @@ fn class_of(what: BarKind) -> Class
 {
     match what {
         BarKind::Holds { l, mode } => match mode {
-            Mode::Excl => Class::of_lock("holds", l),
-            Mode::Shared => Class::of_lock("reads", l),
+            Mode::Excl => OfLock("holds", l),
+            Mode::Shared => OfLock("reads", l),
         },
         BarKind::Waits { q } => match q {
-            QueueName::Lock(l) => Class::of_lock("waits", l),
-            QueueName::Chan(_) => Class::of("chan"),
+            QueueName::Lock(l) => OfLock("waits", l),
+            QueueName::Chan(_) => Word("chan"),
         },
         BarKind::TakenOff { q } => match q {
-            QueueName::Lock(l) => Class::of_lock("taken", l),
-            QueueName::Chan(_) => Class::of("taken"),
+            QueueName::Lock(l) => OfLock("taken", l),
+            QueueName::Chan(_) => Word("taken"),
         },
-        BarKind::Woken { .. } => Class::of("woken"),
-        BarKind::Walks => Class::of("walks"),
+        BarKind::Woken { .. } => Word("woken"),
+        BarKind::Walks => Word("walks"),
     }
 }
 
 fn words_class(what: BarKind) -> Class {
     match what {
         BarKind::Holds { l, mode } => match mode {
-            Mode::Excl => Class::of("on"),
-            Mode::Shared => Class::of_lock("of", l),
+            Mode::Excl => Word("on"),
+            Mode::Shared => OfLock("of", l),
         },
         BarKind::Waits { q } => match q {
-            QueueName::Lock(l) => Class::of_lock("halo of", l),
-            QueueName::Chan(_) => Class::of("onchan"),
+            QueueName::Lock(l) => OfLock("halo of", l),
+            QueueName::Chan(_) => Word("onchan"),
         },
         BarKind::TakenOff { q } => match q {
-            QueueName::Lock(l) => Class::of_lock("of", l),
-            QueueName::Chan(_) => Class::of("onchan"),
+            QueueName::Lock(l) => OfLock("of", l),
+            QueueName::Chan(_) => Word("onchan"),
         },
-        BarKind::Woken { .. } => Class::of("wok"),
-        BarKind::Walks => Class::of("walk"),
+        BarKind::Woken { .. } => Word("wok"),
+        BarKind::Walks => Word("walk"),
     }
 }
 
@@ -266,7 +260,7 @@ fn walk_words(alloc: Global, page: &Page<'_>, bar: Bar, top: Px) -> Shapes {
     };
     if area.width > 34 {
         let at = (area.x.plus(4), top.plus(12));
-        shapes.push(Shape::words(alloc, Class::of("walk"), at, words)?)?;
+        shapes.push(Shape::words(alloc, Word("walk"), at, words)?)?;
     }
     Ok(shapes)
 }

@@ -2,6 +2,7 @@
 use crate::lines::{Line, lines_at, widest, wrap};
 use crate::page::Page;
 use crate::pixels::{Px, count};
+use crate::shapes::Class::Word;
 use crate::shapes::{Class, Shape, Shapes};
 use chart_layout::End;
 use chart_words::{push_end, push_sentence};
@@ -51,11 +52,11 @@ fn said_of(alloc: Global, page: &Page<'_>) -> Result<Vec<Line>, AllocError> {
     for sentence in page.chart.sentences.as_slice() {
         let mut words = Vec::new(alloc);
         push_sentence(&mut words, page.plan, sentence)?;
-        said.append(&mut wrap(alloc, Class::of("said"), Some(sentence.turn), &words, MOST)?)?;
+        said.append(&mut wrap(alloc, Word("said"), Some(sentence.turn), &words, MOST)?)?;
     }
     let mut end = Vec::new(alloc);
     push_end(&mut end, page.plan, &page.chart.end)?;
-    said.append(&mut wrap(alloc, Class::of("end"), None, &end, MOST)?)?;
+    said.append(&mut wrap(alloc, Word("end"), None, &end, MOST)?)?;
     Ok(said)
 }
 
@@ -79,9 +80,9 @@ fn line_class(end: &End, line: &[u8]) -> Class {
         End::TooLong => line == b"toolong".as_slice(),
     };
     if stands_out {
-        Class::of("stop")
+        Word("stop")
     } else {
-        Class::of("mono")
+        Word("mono")
     }
 }
 
@@ -90,9 +91,9 @@ pub fn shapes_below(alloc: Global, below: &Below) -> Shapes {
     let (left, middle, top) = (Px(24), below.middle, below.top);
     let first = top.plus(20);
     let mut shapes = Vec::new(alloc);
-    shapes.push(Shape::words(alloc, Class::of("head"), (left, top), b"What happened")?)?;
+    shapes.push(Shape::words(alloc, Word("head"), (left, top), b"What happened")?)?;
     shapes.append(&mut lines_at(alloc, &below.said, Px(56), first, 18)?)?;
-    shapes.push(Shape::words(alloc, Class::of("head"), (middle, top), b"At the end")?)?;
+    shapes.push(Shape::words(alloc, Word("head"), (middle, top), b"At the end")?)?;
     shapes.append(&mut lines_at(alloc, &below.printed, middle, first, 16)?)?;
     Ok(shapes)
 }

@@ -2,20 +2,20 @@
 ghost use Rattle.std.specs.Prelude.{IfOk};
 ghost use Rattle.chart_escape.specs.Reader.{IsWellFormed};
 ghost use Rattle.chart_svg.specs.Drawn.{Draws};
-ghost use Rattle.chart_svg.specs.Lanes.{HasRoom};
+ghost use Rattle.chart_svg.specs.Lanes.{IsLaidOut};
 ghost use Rattle.chart_svg.specs.Pages.{LanesAreDrawn};
 ghost use Rattle.chart_svg.specs.Shapes.{shapes_bytes};
 
 use crate::arrows::arrows;
 use crate::bars::bars;
 use crate::below::{Below, shapes_below};
-use crate::frame::{close_picture, frame, paper, push_begin};
+use crate::frame::{frame, heading, paper};
 use crate::head::{TitleBlock, shapes_above};
 use crate::marks::{marks, reasons};
 use crate::page::Page;
-use crate::shapes::{Shape, Shapes, push_shapes};
+use crate::shapes::{Shapes, picture_of};
 use crate::strips::{strip_words, strips};
-use crate::style::push_style;
+use crate::style::style;
 use chart_layout::Chart;
 use lock_model::Plan;
 use std::alloc::{AllocError, Global};
@@ -42,26 +42,23 @@ pub fn svg(
     let width = page.right().plus(118).max(below.right).max(head.width());
     let size = (width.0, below.bottom.0);
     let mut shapes = Vec::new(alloc);
+    shapes.push(heading(alloc, &page, title, subtitle)?)?;
+    shapes.append(&mut style(alloc, plan)?)?;
     shapes.push(paper(size))?;
     shapes.append(&mut shapes_above(alloc, &page, &head, width.minus(24))?)?;
-    shapes.append(&mut frame(alloc, &page)?)?;
     shapes.append(&mut shapes_in_lanes(alloc, &page)?)?;
     shapes.append(&mut shapes_below(alloc, &below)?)?;
-    let mut out = Vec::new(alloc);
-    push_begin(&mut out, &page, size, title, subtitle)?;
-    push_style(alloc, &mut out, plan)?;
-    push_shapes(&mut out, &shapes)?;
-    close_picture(&mut out)?;
-    Ok(out)
+    picture_of(alloc, &page, size, &shapes)
 }
 
-// What stands in the lanes, the words in front.
+// What stands in the lanes and beside them, the words in front.
 fn shapes_in_lanes(alloc: Global, page: &Page<'_>) -> Shapes
-    requires { HasRoom page.now }
+    requires { IsLaidOut page.now }
     ensures { IfOk result (λ shapes. LanesAreDrawn page.now (shapes_bytes shapes.items)) }
 {
     let mut arrows = arrows(alloc, page)?;
-    let mut shapes = strips(alloc, page)?;
+    let mut shapes = frame(alloc, page)?;
+    shapes.append(&mut strips(alloc, page)?)?;
     shapes.append(&mut arrows.lines)?;
     shapes.append(&mut bars(alloc, page)?)?;
     shapes.append(&mut strip_words(alloc, page)?)?;

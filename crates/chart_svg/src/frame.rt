@@ -1,97 +1,32 @@
-//! What stands round the lanes: the begin of the file, the names of the threads and the numbers of the turns.
+//! What stands round the lanes: what is read aloud, the names of the threads and the numbers of the turns.
 ghost use Rattle.std.specs.Prelude.{◌≡◌, ◌+◌, ◌<◌, [], ◌∷◌, ◌++◌, codes, option_map, Some, All, IfOk, OnOk};
-ghost use Rattle.chart_escape.specs.Reader.{at, read, AddsElements, Between, InText, IsBetweenTags, IsWellFormed};
 ghost use Rattle.chart_svg.specs.Drawn.{line_bytes, pixels, prio_words};
 ghost use Rattle.chart_svg.specs.Pages.{shown_words, stop_at, FrameIsOn, PrioIsOn, StopsAt};
-ghost use Rattle.chart_svg.specs.Shapes.{picture, shape_bytes, shapes_bytes};
+ghost use Rattle.chart_svg.specs.Shapes.{shape_bytes, shapes_bytes};
 
 use crate::page::{LaneBand, Page};
 use crate::pixels::{Px, width_of};
-use crate::shapes::{Area, Class, Shape, Shapes};
-use chart_escape::{Piece, push_elements, push_pieces};
+use crate::shapes::Class::Word;
+use crate::shapes::{Area, Class, Form, Shape, Shapes};
 use chart_layout::PrioSpan;
 use chart_words::end_headline;
 use lock_model::{Prio, ThreadNo, push_number};
 use std::alloc::{AllocError, Global};
 
-/// Pushes the begin of the file: its size, and what is read aloud of it. Behind it the picture is open.
-pub fn push_begin(
-    out: &mut Vec<u8>,
+/// What is read aloud of the picture.
+pub fn heading(
+    alloc: Global,
     page: &Page<'_>,
-    size: (u32, u32),
     title: &str,
     subtitle: &str,
-) -> Result<(), AllocError>
-    requires { IsBetweenTags out.old.items }
-    ensures { OnOk result (read out.new.items
-        ≡ at (InText Between) (picture ∷ (read out.old.items).elements)) }
-{
-    open_picture(out, page, size)?;
-    push_heading(out, title, subtitle, end_headline(&page.chart.end))
-}
-
-// Opens the picture, of that size, which says where the columns and the lanes of a page are.
-fn open_picture(out: &mut Vec<u8>, page: &Page<'_>, size: (u32, u32)) -> Result<(), AllocError>
-    requires { IsBetweenTags out.old.items }
-    ensures { OnOk result (read out.new.items
-        ≡ at (InText Between) (picture ∷ (read out.old.items).elements)) }
-{
-    let (width, height) = (u64::from(size.0), u64::from(size.1));
-    push_pieces(
-        out,
-        &[
-            Piece::Own("<svg xmlns='http://www.w3.org/2000/svg' width='"),
-            Piece::Number(width),
-            Piece::Own("' height='"),
-            Piece::Number(height),
-            Piece::Own("' viewBox='0 0 "),
-            Piece::Number(width),
-            Piece::Own(" "),
-            Piece::Number(height),
-            Piece::Own("' data-left='"),
-            Piece::Number(u64::from(page.left.0)),
-            Piece::Own("' data-column='"),
-            Piece::Number(u64::from(page.column)),
-            Piece::Own("' data-top='"),
-            Piece::Number(u64::from(page.top.0)),
-            Piece::Own("' data-bottom='"),
-            Piece::Number(u64::from(page.bottom.0)),
-            Piece::Own("'>\n"),
-        ],
-    )
-}
-
-/// Closes the picture.
-pub fn close_picture(out: &mut Vec<u8>) -> Result<(), AllocError>
-    requires { read out.old.items ≡ at (InText Between) (picture ∷ []) }
-    ensures whole { OnOk result (IsWellFormed out.new.items) }
-    ensures pushed { OnOk result (out.new.items ≡ out.old.items ++ codes "</svg>\n") }
-{
-    push_pieces(out, &[Piece::Own("</svg>\n")])
-}
-
-// What is read aloud of the picture.
-fn push_heading<'a>(
-    out: &mut Vec<u8>,
-    title: &'a str,
-    subtitle: &'a str,
-    end: &'a str,
-) -> Result<(), AllocError>
-    requires { IsBetweenTags out.old.items }
-    ensures { OnOk result (AddsElements out.old.items out.new.items) }
-{
-    push_elements(
-        out,
-        &[
-            Piece::Own("<title>"),
-            Piece::Text(title.as_bytes()),
-            Piece::Own("</title>\n<desc>"),
-            Piece::Text(subtitle.as_bytes()),
-            Piece::Own(" The run ended so: "),
-            Piece::Text(end.as_bytes()),
-            Piece::Own("</desc>\n"),
-        ],
-    )
+) -> Result<Shape, AllocError> {
+    let mut words = Vec::from_slice(alloc, subtitle.as_bytes())?;
+    words.extend_from_slice(b" The run ended so: ")?;
+    words.extend_from_slice(end_headline(&page.chart.end).as_bytes())?;
+    Ok(Shape(
+        Class::None,
+        Form::Heading(Vec::from_slice(alloc, title.as_bytes())?, words),
+    ))
 }
 
 /// The paper, of that size.
@@ -102,7 +37,7 @@ pub fn paper(size: (u32, u32)) -> Shape {
         width: size.0,
         height: size.1,
     };
-    Shape::Rect(Class::of("paper"), all, None)
+    Shape(Word("paper"), Form::Rect(all, None))
 }
 
 /// The columns with the numbers of the turns, and the names of the lanes.
@@ -133,7 +68,7 @@ fn zebra(alloc: Global, page: &Page<'_>) -> Shapes {
                 width: page.column,
                 height: page.bottom.plus(2).from(page.top),
             };
-            shapes.push(Shape::Rect(Class::of("zebra"), area, None))?;
+            shapes.push(Shape(Word("zebra"), Form::Rect(area, None)))?;
         }
     }
     Ok(shapes)
@@ -143,13 +78,16 @@ fn zebra(alloc: Global, page: &Page<'_>) -> Shapes {
 fn turns(alloc: Global, page: &Page<'_>) -> Shapes {
     let (top, y) = (page.bottom, page.bottom.plus(15));
     let mut shapes = Vec::new(alloc);
-    shapes.push(Shape::Line(Class::of("axis"), (page.left, top), (page.right(), top)))?;
-    shapes.push(Shape::words(alloc, Class::of("gray"), (Px(24), y), b"turn")?)?;
+    shapes.push(Shape(
+        Word("axis"),
+        Form::Line((page.left, top), (page.right(), top)),
+    ))?;
+    shapes.push(Shape::words(alloc, Word("gray"), (Px(24), y), b"turn")?)?;
     let every = turns_apart(page);
     for turn in page.chart.first..page.chart.last {
         if turn % every == 0 {
             let at = (page.turn_at(turn), y);
-            shapes.push(Shape::number(alloc, Class::of("turn"), at, turn)?)?;
+            shapes.push(Shape::number(alloc, Word("turn"), at, turn)?)?;
         }
     }
     Ok(shapes)
@@ -175,12 +113,7 @@ fn lane_frame(alloc: Global, page: &Page<'_>, lane: &LaneBand) -> Shapes
 {
     let name = page.plan.thread_name(lane.thread);
     let mut shapes = Vec::new(alloc);
-    shapes.push(Shape::words(
-        alloc,
-        Class::of("name"),
-        (Px(24), lane.line().plus(4)),
-        name,
-    )?)?;
+    shapes.push(Shape::words(alloc, Word("name"), (Px(24), lane.line().plus(4)), name)?)?;
     shapes.append(&mut priority(alloc, lane)?)?;
     shapes.append(&mut own_line(alloc, page, lane)?)?;
     Ok(shapes)
@@ -196,7 +129,7 @@ fn own_line(alloc: Global, page: &Page<'_>, lane: &LaneBand) -> Shapes
         None => {
             let y = lane.line();
             let mut shapes = Vec::new(alloc);
-            shapes.push(Shape::Line(Class::of("line"), (page.left, y), (page.right(), y)))?;
+            shapes.push(Shape(Word("line"), Form::Line((page.left, y), (page.right(), y))))?;
             Ok(shapes)
         }
     }
@@ -208,8 +141,8 @@ fn ended_line(alloc: Global, page: &Page<'_>, lane: &LaneBand, x: Px) -> Shapes
 {
     let y = lane.line();
     let mut shapes = Vec::new(alloc);
-    shapes.push(Shape::Line(Class::of("line"), (page.left, y), (x, y)))?;
-    shapes.push(Shape::words(alloc, Class::of("gray"), (x.plus(5), y.plus(4)), b"done")?)?;
+    shapes.push(Shape(Word("line"), Form::Line((page.left, y), (x, y))))?;
+    shapes.push(Shape::words(alloc, Word("gray"), (x.plus(5), y.plus(4)), b"done")?)?;
     shapes.push(stroke(lane, x))?;
     Ok(shapes)
 }
@@ -218,10 +151,9 @@ fn stroke(lane: &LaneBand, x: Px) -> Shape
     ensures { shape_bytes result ≡ line_bytes (codes "stops") x.0
         (pixels (lane.now.begin.0 + 25)) (pixels (lane.now.begin.0 + 47)) }
 {
-    Shape::Line(
-        Class::of("stops"),
-        (x, lane.begin.plus(25)),
-        (x, lane.begin.plus(47)),
+    Shape(
+        Word("stops"),
+        Form::Line((x, lane.begin.plus(25)), (x, lane.begin.plus(47))),
     )
 }
 
@@ -230,7 +162,7 @@ fn hint(alloc: Global, page: &Page<'_>) -> Shapes {
     let mut shapes = Vec::new(alloc);
     if let Some(lane) = page.lanes.first() {
         let at = (Px(24), lane.line().plus(32));
-        shapes.push(Shape::words(alloc, Class::of("hint"), at, b"smaller goes first")?)?;
+        shapes.push(Shape::words(alloc, Word("hint"), at, b"smaller goes first")?)?;
     }
     Ok(shapes)
 }
@@ -257,7 +189,10 @@ fn priority(alloc: Global, lane: &LaneBand) -> Shapes
         return Ok(shapes);
     };
     let words = prio_words(alloc, shown_prio(lane.strip, *step), step.base)?;
-    shapes.push(Shape::Words(Class::of("gray"), (Px(24), lane.line().plus(20)), words))?;
+    shapes.push(Shape(
+        Word("gray"),
+        Form::Words((Px(24), lane.line().plus(20)), words),
+    ))?;
     Ok(shapes)
 }
 

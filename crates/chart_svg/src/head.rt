@@ -2,7 +2,8 @@
 use crate::lines::{Line, lines_at, widest, wrap};
 use crate::page::Page;
 use crate::pixels::{Px, count};
-use crate::shapes::{Class, Shape, Shapes};
+use crate::shapes::Class::Word;
+use crate::shapes::{Class, Form, Shape, Shapes};
 use chart_layout::End;
 use chart_words::end_headline;
 use lock_model::push_number;
@@ -20,8 +21,8 @@ pub struct TitleBlock {
 
 impl TitleBlock {
     pub fn make(alloc: Global, title: &str, subtitle: &str) -> Result<TitleBlock, AllocError> {
-        let titles = wrap(alloc, Class::of("title"), None, title.as_bytes(), 90)?;
-        let subtitles = wrap(alloc, Class::of("sub"), None, subtitle.as_bytes(), 150)?;
+        let titles = wrap(alloc, Word("title"), None, title.as_bytes(), 90)?;
+        let subtitles = wrap(alloc, Word("sub"), None, subtitle.as_bytes(), 150)?;
         let under = Px(32).plus_times(count(titles.len()), 24);
         let bottom = under.plus_times(count(subtitles.len()), 18).plus(4);
         Ok(TitleBlock {
@@ -48,16 +49,16 @@ pub fn shapes_above(alloc: Global, page: &Page<'_>, head: &TitleBlock, right: Px
     let class = end_class(&page.chart.end);
     shapes.push(Shape::words(alloc, class, (right, Px(34)), end)?)?;
     if let Some(words) = window_words(alloc, page)? {
-        shapes.push(Shape::Words(Class::of("right"), (right, head.under), words))?;
+        shapes.push(Shape(Word("right"), Form::Words((right, head.under), words)))?;
     }
     Ok(shapes)
 }
 
 fn end_class(end: &End) -> Class {
     match end {
-        End::Done => Class::of("good"),
-        End::Stuck { .. } | End::Reversed => Class::of("bad"),
-        End::TooLong => Class::of("fair"),
+        End::Done => Word("good"),
+        End::Stuck { .. } | End::Reversed => Word("bad"),
+        End::TooLong => Word("fair"),
     }
 }
 

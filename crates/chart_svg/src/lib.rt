@@ -3,7 +3,6 @@
 //! stand the sentences and the printed end. Each thing carries its word where it is, so there is no legend.
 //!
 //! - `pixels`: places on the page, and what text takes of it.
-//! - `grouping`: what is of threads, in a list for each thread.
 //! - `packing`: which bars of a lane stand below others, so that none overlap.
 //! - `page`: where all columns and lanes are.
 //! - `shapes`: the few shapes that a picture is a list of, and the elements as which they are written.
@@ -20,7 +19,6 @@ mod bars;
 mod below;
 mod drawing;
 mod frame;
-mod grouping;
 mod head;
 mod lines;
 mod marks;

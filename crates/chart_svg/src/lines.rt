@@ -1,5 +1,6 @@
 //! Text in lines, which are broken at blanks.
 use crate::pixels::{Px, width_of};
+use crate::shapes::Class::Word;
 use crate::shapes::{Class, Shape, Shapes};
 use std::alloc::{AllocError, Global};
 use std::mem;
@@ -85,7 +86,7 @@ pub fn lines_at(alloc: Global, lines: &[Line], x: Px, y: Px, pitch: u32) -> Shap
     let mut y = y;
     for line in lines {
         if let Some(number) = line.number {
-            shapes.push(Shape::number(alloc, Class::of("nr"), (x.minus(10), y), number)?)?;
+            shapes.push(Shape::number(alloc, Word("nr"), (x.minus(10), y), number)?)?;
         }
         shapes.push(Shape::words(alloc, line.class, (x, y), &line.words)?)?;
         y = y.plus(pitch);

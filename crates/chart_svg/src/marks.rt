@@ -1,14 +1,15 @@
 //! The marks of the turns, with their words where there is room for words.
 ghost use Rattle.std.specs.Prelude.{◌≡◌, ◌++◌, All, IfOk, OnOk};
 ghost use Rattle.chart_svg.specs.Drawn.{class_bytes, dot_class, mark_bytes, mark_title, note_of};
-ghost use Rattle.chart_svg.specs.Lanes.{HasRoom};
+ghost use Rattle.chart_svg.specs.Lanes.{IsLaidOut};
 ghost use Rattle.chart_svg.specs.Pages.{MarkIsOn};
 ghost use Rattle.chart_svg.specs.Shapes.{shape_bytes, shapes_bytes};
 
 use crate::lines::{Line, lines_at, wrap};
 use crate::page::Page;
 use crate::pixels::{Px, count, width_of};
-use crate::shapes::{Class, Figure, Shape, Shapes};
+use crate::shapes::Class::Word;
+use crate::shapes::{Class, Figure, Form, Shape, Shapes};
 use chart_layout::{MarkKind, TurnMark};
 use chart_words::{push_lost, push_mark, push_note, push_refusal};
 use lock_model::push_digits;
@@ -19,7 +20,7 @@ const LINE_HEIGHT: u32 = 12;
 
 /// All marks.
 pub fn marks(alloc: Global, page: &Page<'_>) -> Shapes
-    requires { HasRoom page.now }
+    requires { IsLaidOut page.now }
     ensures { IfOk result (λ shapes.
         All (MarkIsOn page.now (shapes_bytes shapes.items)) page.now.chart.now.marks) }
 {
@@ -31,7 +32,7 @@ pub fn marks(alloc: Global, page: &Page<'_>) -> Shapes
 }
 
 fn one_mark(alloc: Global, page: &Page<'_>, mark: TurnMark) -> Shapes
-    requires { HasRoom page.now }
+    requires { IsLaidOut page.now }
     ensures { IfOk result (λ shapes. MarkIsOn page.now (shapes_bytes shapes.items) mark) }
 {
     let Some(lane) = page.lane_of(mark.thread) else {
@@ -68,9 +69,9 @@ fn shape_of(
 {
     let said = said_of(alloc, page, mark)?;
     if mark.what.is_refusal() {
-        Shape::figure(alloc, Class::of("cross"), Figure::Cross, at, said)
+        Shape::figure(alloc, Word("cross"), Figure::Cross, at, said)
     } else {
-        Ok(Shape::Dot(dot_class(mark.what), at, said))
+        Ok(Shape(dot_class(mark.what), Form::Dot(at, said)))
     }
 }
 
@@ -89,16 +90,16 @@ fn dot_class(what: MarkKind) -> Class
     ensures { class_bytes result ≡ dot_class what }
 {
     match what {
-        MarkKind::Idle => Class::of("idle"),
-        MarkKind::Noted(_) | MarkKind::Did(_) => Class::of("dot"),
+        MarkKind::Idle => Word("idle"),
+        MarkKind::Noted(_) | MarkKind::Did(_) => Word("dot"),
     }
 }
 
 fn word_class(what: MarkKind) -> Class {
     if what.is_refusal() {
-        Class::of("no")
+        Word("no")
     } else {
-        Class::of("verb")
+        Word("verb")
     }
 }
 
@@ -131,14 +132,18 @@ fn push_own_note(out: &mut Vec<u8>, page: &Page<'_>, what: MarkKind) -> Result<(
 pub fn reasons(alloc: Global, page: &Page<'_>) -> Shapes {
     let mut shapes = Vec::new(alloc);
     for mark in &page.reasons {
-        if let Some(lane) = page.lane_of(mark.thread) {
-            let lines = reason_lines(alloc, page, *mark)?;
-            let first = lane.begin.minus(height_of(&lines)).plus(11);
-            let x = page.turn_at(mark.turn);
-            shapes.append(&mut lines_at(alloc, &lines, x, first, LINE_HEIGHT)?)?;
-        }
+        shapes.append(&mut one_reason(alloc, page, *mark)?)?;
     }
     Ok(shapes)
+}
+
+fn one_reason(alloc: Global, page: &Page<'_>, mark: TurnMark) -> Shapes {
+    let Some(lane) = page.lane_of(mark.thread) else {
+        return Ok(Vec::new(alloc));
+    };
+    let lines = reason_lines(alloc, page, mark)?;
+    let first = lane.begin.minus(height_of(&lines)).plus(11);
+    lines_at(alloc, &lines, page.turn_at(mark.turn), first, LINE_HEIGHT)
 }
 
 /// How high lines of reasons are.
@@ -164,5 +169,5 @@ pub fn reason_lines(
     }
     let room = page.column.saturating_mul(2).saturating_sub(12);
     let most = room.saturating_mul(10) / 58;
-    wrap(alloc, Class::of("no"), None, &words, most as usize)
+    wrap(alloc, Word("no"), None, &words, most as usize)
 }

@@ -2,8 +2,8 @@
 //! a level overlap: a bar comes on the first level that is free there, and one of a thread that was taken off its queue
 //! or woken on that of its wait.
 
-ghost use Rattle.std.specs.Prelude.{◌≡◌, ◌-◌, ◌≤◌, vec_len, All, IfOk, OnOk};
-ghost use Rattle.chart_layout.specs.declared.layout.Bar.{Bar};
+ghost use Rattle.std.specs.Prelude.{◌≡◌, ◌-◌, ◌≤◌, [], ◌∷◌, ◌++◌, vec_len, All, IfOk, OnOk};
+ghost use Rattle.chart_svg.specs.Drawn.{is_walk};
 ghost use Rattle.chart_svg.specs.Lanes.{IsLaid};
 
 use crate::pixels::count;
@@ -20,12 +20,13 @@ pub struct Packed {
 }
 
 impl Packed {
-    // One bar more. A thread waits on that level, and the level of its wait is returned.
+    // One bar more, on the level that is returned, which for a walk is that of the wait.
     fn lay(&mut self, waits_on: u32, bar: Bar) -> Result<u32, AllocError>
         requires { waits_on ≤ vec_len self.old.ends - 1 }
-        ensures keeps { OnOk result ((other : Bar) → IsLaid self.old other → IsLaid self.new other) }
-        ensures lays { OnOk result (IsLaid self.new bar) }
-        ensures waits { IfOk result (λ level. level ≤ vec_len self.new.ends - 1) }
+        ensures lays { IfOk result (λ level.
+            self.new.laid.items ≡ self.old.laid.items ++ (bar, level) ∷ []) }
+        ensures level { IfOk result (λ level. level ≤ vec_len self.new.ends - 1) }
+        ensures grows { OnOk result (vec_len self.old.ends ≤ vec_len self.new.ends) }
     {
         if is_walk(bar.what) {
             self.laid.push((bar, waits_on))?;
@@ -34,7 +35,7 @@ impl Packed {
         let level = self.level_of(waits_on, bar);
         self.reach(level, bar.last)?;
         self.laid.push((bar, level))?;
-        Ok(if is_wait(bar.what) { level } else { waits_on })
+        Ok(level)
     }
 
     // On which level a bar comes.
@@ -117,7 +118,9 @@ pub fn pack(alloc: Global, bars: &[Bar]) -> Result<Packed, AllocError>
     let mut waits_on = 0;
     for bar in &sorted {
         let level = packed.lay(waits_on, *bar)?;
-        waits_on = level;
+        if is_wait(bar.what) {
+            waits_on = level;
+        }
     }
     packed
         .laid
@@ -131,7 +134,9 @@ fn group_of(what: BarKind, level: u32) -> u32 {
 }
 
 /// Whether it is the walk of a wait.
-pub fn is_walk(what: BarKind) -> bool {
+pub fn is_walk(what: BarKind) -> bool
+    ensures { result ≡ is_walk what }
+{
     match what {
         BarKind::Walks => true,
         BarKind::Holds { .. }

@@ -2,13 +2,14 @@
 //! from the middle of one column to the middle of the next.
 ghost use Rattle.std.specs.Prelude.{◌≡◌, ◌↔◌, false, ℕ, ◌+◌, ◌-◌, ◌*◌, ◌≤◌, length, All, IfOk, OnOk, slice_get, MatchOption, None, Some};
 ghost use Rattle.chart_svg.specs.Drawn.{pixels, right_edge, row_begin, row_end, turn_at, SaysAs};
-ghost use Rattle.chart_svg.specs.Lanes.{bar_bottom, bar_place, bar_top, pitch_of, rank_in, scale_of, AreSame, Fits, HasLaneMore, HasLanes, HasPrios, HasRoom};
+ghost use Rattle.chart_svg.specs.Lanes.{bar_bottom, bar_place, bar_top, pitch_of, rank_in, scale_of, of_thread, AreSame, Fits, HasPrios, IsLaidOut, IsLane};
 
-use crate::grouping::by_thread;
 use crate::marks::{height_of, reason_lines};
-use crate::packing::{Packed, pack};
+use crate::packing::{Packed, is_walk, pack};
 use crate::pixels::{Px, count, width_of};
-use chart_layout::{Arrow, ArrowKind, Bar, BarKind, Chart, PrioSpan, Saying, Sentence, TurnMark};
+use chart_layout::{
+    Arrow, ArrowKind, Bar, BarKind, Chart, Lane, PrioSpan, Saying, Sentence, TurnMark,
+};
 use chart_words::{push_arrow, push_mark};
 use lock_model::{ClassNo, LockNo, Plan, Prio, ThreadNo};
 use std::alloc::{AllocError, Global};
@@ -91,12 +92,10 @@ impl LaneBand {
     pub fn bar_place(&self, what: BarKind, level: u32) -> Px
         ensures { result.0 ≡ bar_place self.now what level }
     {
-        match what {
-            BarKind::Holds { .. }
-            | BarKind::Waits { .. }
-            | BarKind::TakenOff { .. }
-            | BarKind::Woken { .. } => self.bar_top(level),
-            BarKind::Walks => self.bar_bottom(level).plus(2),
+        if is_walk(what) {
+            self.bar_bottom(level).plus(2)
+        } else {
+            self.bar_top(level)
         }
     }
 
@@ -106,7 +105,7 @@ impl LaneBand {
         requires begin_fits { self.old.begin.0 ≤ 4294967295 }
         ensures same { self.new
             ≡ record self.old { strip = self.new.strip; bottom = self.new.bottom } }
-        ensures fits { Fits page.now self.new }
+        ensures fits { Fits page.now.prios.items self.new }
         ensures flat { self.new.strip ≡ None ↔ AreSame self.new.steps.items }
     {
         let end = self.bars_end();
@@ -149,10 +148,8 @@ impl<'c> Page<'c> {
     ) -> Result<Page<'c>, AllocError>
         ensures plan { IfOk result (λ page. page.plan.now ≡ plan.now) }
         ensures chart { IfOk result (λ page. page.chart.now ≡ chart.now) }
-        ensures width { IfOk result (λ page. 9 ≤ page.column) }
-        ensures room { IfOk result HasRoom }
-        ensures lanes { IfOk result (λ page. HasLanes page chart.now) }
-        ensures prios { IfOk result (λ page. HasPrios page.prios.items chart.now.steps) }
+        ensures laid_out { IfOk result IsLaidOut }
+        ensures long { IfOk result (λ page. length page.lanes.items ≡ length chart.now.lanes) }
     {
         let columns = chart.last.saturating_sub(chart.first).max(1);
         let has_words = columns <= MOST_WORDS;
@@ -182,51 +179,44 @@ impl<'c> Page<'c> {
     fn put_lanes(&mut self, alloc: Global) -> Result<(), AllocError>
         requires none { length self.old.lanes.items ≡ 0 }
         requires fits { self.old.bottom.0 ≤ 4294967295 }
+        requires wide { 9 ≤ self.old.column }
+        requires prios { HasPrios self.old.prios.items self.old.chart.now.steps }
         ensures same { self.new
             ≡ record self.old { lanes = self.new.lanes; bottom = self.new.bottom } }
-        ensures room { OnOk result (HasRoom self.new) }
-        ensures lanes { OnOk result (HasLanes self.new self.old.chart.now) }
+        ensures laid_out { OnOk result (IsLaidOut self.new) }
+        ensures long { OnOk result
+            (length self.new.lanes.items ≡ length self.old.chart.now.lanes) }
     {
         let lanes = self.chart.lanes.as_slice();
-        let bars = by_thread(alloc, lanes.len(), self.chart.bars.as_slice())?;
-        let steps = by_thread(alloc, lanes.len(), self.chart.steps.as_slice())?;
-        for (t, lane) in lanes.iter().enumerate() {
-            self.put_lane(alloc, lane.thread, &bars[t], &steps[t])?;
+        for (t, own) in lanes.iter().enumerate() {
+            let lane = self.lane(alloc, t, own)?;
+            self.bottom = lane.bottom;
+            self.lanes.push(lane)?;
         }
         Ok(())
     }
 
-    // One lane more.
-    fn put_lane(
-        &mut self,
-        alloc: Global,
-        thread: ThreadNo,
-        bars: &[Bar],
-        steps: &[PrioSpan],
-    ) -> Result<(), AllocError>
-        requires { HasRoom self.old }
-        ensures same { self.new
-            ≡ record self.old { lanes = self.new.lanes; bottom = self.new.bottom } }
-        ensures room { OnOk result (HasRoom self.new) }
-        ensures more { OnOk result
-            (HasLaneMore self.old.lanes.items self.new.lanes.items thread bars.now steps.now) }
+    // The lane of a thread, below those so far.
+    fn lane(&self, alloc: Global, t: usize, own: &Lane) -> Result<LaneBand, AllocError>
+        requires fits { self.now.bottom.0 ≤ 4294967295 }
+        requires own { slice_get self.now.chart.now.lanes t ≡ Some own.now }
+        ensures top { IfOk result (λ lane. lane.top ≡ self.now.bottom) }
+        ensures lane { IfOk result (IsLane self.now t) }
     {
-        let begin = self.bottom.plus(self.reasons_height(alloc, thread)?);
-        let bars = pack(alloc, bars)?;
+        let begin = self.bottom.plus(self.reasons_height(alloc, own.thread)?);
+        let bars = pack(alloc, &bars_of(alloc, self.chart, t)?)?;
         let mut lane = LaneBand {
-            thread,
+            thread: own.thread,
             top: self.bottom,
             begin,
             bottom: begin,
             pitch: if bars.has_walks() { 33 } else { 22 },
             strip: None,
             bars,
-            steps: Vec::from_slice(alloc, steps)?,
+            steps: steps_of(alloc, self.chart, t)?,
         };
         lane.put_strip(self);
-        self.bottom = lane.bottom;
-        self.lanes.push(lane)?;
-        Ok(())
+        Ok(lane)
     }
 
     // How high the reasons of its refusals are.
@@ -351,6 +341,26 @@ impl<'c> Page<'c> {
     {
         self.prios.iter().filter(|other| other.0 < prio.0).count()
     }
+}
+
+// The bars and the steps of a thread.
+fn bars_of(alloc: Global, chart: &Chart, t: usize) -> Result<Vec<Bar>, AllocError>
+    ensures { IfOk result (λ own.
+        own.items ≡ of_thread (λ bar. bar.thread.0) t chart.now.bars) }
+{
+    let bars = chart.bars.as_slice().iter().copied();
+    bars.filter(|bar| usize::from(bar.thread.0) == t)
+        .collect(alloc)
+}
+
+fn steps_of(alloc: Global, chart: &Chart, t: usize) -> Result<Vec<PrioSpan>, AllocError>
+    ensures { IfOk result (λ own.
+        own.items ≡ of_thread (λ step. step.thread.0) t chart.now.steps) }
+{
+    let steps = chart.steps.as_slice().iter().copied();
+    steps
+        .filter(|step| usize::from(step.thread.0) == t)
+        .collect(alloc)
 }
 
 // Beside the longest name, and the number of a loan with which the window begins, which may be there

@@ -1,36 +1,38 @@
-//! The few shapes that a picture is made of: first values in a list, and then elements. Each element is written whole,
-//! so that behind it a reader is between tags again.
-ghost use Rattle.std.specs.Prelude.{◌≡◌, ◌++◌, ◌∷◌, codes, decimal, IfOk, OnOk};
-ghost use Rattle.chart_escape.specs.Markup.{escaped};
-ghost use Rattle.chart_escape.specs.Reader.{AddsElements, IsBetweenTags};
-ghost use Rattle.chart_svg.specs.Drawn.{class_bytes, dot_bytes, figure_bytes, outline, rect_bytes, words_bytes};
-ghost use Rattle.chart_svg.specs.Shapes.{curve_bytes, plain_rect_bytes, shape_bytes, shapes_bytes, stroke_bytes};
+//! The few shapes that a picture is a list of: first values, and then elements. One function writes them all, and alone
+//! promises that what it writes is whole.
+ghost use Rattle.std.specs.Prelude.{◌≡◌, [], ◌++◌, ◌∷◌, codes, decimal, IfOk, OnOk};
+ghost use Rattle.chart_escape.specs.Reader.{at, read, AddsElements, Between, InText, IsBetweenTags, IsWellFormed};
+ghost use Rattle.chart_svg.specs.Drawn.{class_bytes, figure_bytes, outline, words_bytes, Stands};
+ghost use Rattle.chart_svg.specs.declared.shapes.Form.TheVariants.{Rect};
+ghost use Rattle.chart_svg.specs.Shapes.{form_bytes, picture, shape_bytes, shapes_bytes};
 
+use crate::page::Page;
 use crate::pixels::Px;
-use chart_escape::{Piece, push_elements};
+use chart_escape::{Piece, push_elements, push_pieces};
 use lock_model::{LockNo, push_digits, push_number};
 use std::alloc::{AllocError, Global};
 
-/// A class of the style: a word, and for what has a lock's colour the lock's number behind it.
+/// A class of the style: a word, and for what has a lock's colour the lock's number behind it. What isn't drawn has
+/// none.
 #[derive(Clone, Copy, Debug)]
-pub struct Class {
-    pub word: &'static str,
-    pub lock: Option<u64>,
+pub enum Class {
+    None,
+    Word(&'static str),
+    OfLock(&'static str, LockNo),
 }
 
 impl Class {
-    pub fn of(word: &'static str) -> Class
-        ensures { class_bytes result ≡ escaped word.now }
+    fn text(self, alloc: Global) -> Result<Vec<u8>, AllocError>
+        ensures { IfOk result (λ text. text.items ≡ class_bytes self) }
     {
-        Class { word, lock: None }
-    }
-
-    pub fn of_lock(word: &'static str, l: LockNo) -> Class
-        ensures { class_bytes result ≡ escaped word.now ++ decimal l.0 }
-    {
-        Class {
-            word,
-            lock: Some(u64::from(l.0)),
+        match self {
+            Class::None => Ok(Vec::new(alloc)),
+            Class::Word(word) => Vec::from_slice(alloc, word.as_bytes()),
+            Class::OfLock(word, l) => {
+                let mut text = Vec::from_slice(alloc, word.as_bytes())?;
+                push_digits(&mut text, u64::from(l.0))?;
+                Ok(text)
+            }
         }
     }
 }
@@ -68,19 +70,29 @@ impl Figure {
     }
 }
 
-/// A thing of a picture.
+/// A thing of a picture, or what is said of all of it, with its class.
 #[derive(Drop)]
-pub enum Shape {
+pub struct Shape(pub Class, pub Form);
+
+/// What a shape is but for its class.
+#[derive(Drop)]
+pub enum Form {
     /// A rectangle with round corners, and what is said of it where it is pointed at, if anything is.
-    Rect(Class, Area, Option<Vec<u8>>),
+    Rect(Area, Option<Vec<u8>>),
     /// A dot at a point, and what is said of it.
-    Dot(Class, (Px, Px), Vec<u8>),
+    Dot((Px, Px), Vec<u8>),
     /// A line from one point to another.
-    Line(Class, (Px, Px), (Px, Px)),
+    Line((Px, Px), (Px, Px)),
     /// A path, as SVG writes one, and what is said of it.
-    Curve(Class, Vec<u8>, Vec<u8>),
+    Curve(Vec<u8>, Vec<u8>),
     /// Words, whose baseline begins, or else ends or has its middle there, as the class says.
-    Words(Class, (Px, Px), Vec<u8>),
+    Words((Px, Px), Vec<u8>),
+    /// What is read aloud of the picture: a title, and more.
+    Heading(Vec<u8>, Vec<u8>),
+    /// The rules of the style.
+    Style(Vec<u8>),
+    /// A hatching, by the name that the rules have for it.
+    Hatch(Vec<u8>),
 }
 
 /// Shapes, or want of memory.
@@ -97,7 +109,7 @@ impl Shape {
         ensures { IfOk result (λ shape. shape_bytes shape
             ≡ words_bytes (class_bytes class) at.0.0 at.1.0 words.now) }
     {
-        Ok(Shape::Words(class, at, Vec::from_slice(alloc, words)?))
+        Ok(Shape(class, Form::Words(at, Vec::from_slice(alloc, words)?)))
     }
 
     /// A number at a point.
@@ -109,7 +121,7 @@ impl Shape {
     ) -> Result<Shape, AllocError> {
         let mut words = Vec::new(alloc);
         push_digits(&mut words, u64::from(number))?;
-        Ok(Shape::Words(class, at, words))
+        Ok(Shape(class, Form::Words(at, words)))
     }
 
     /// A small figure at a point, and what is said of it.
@@ -125,7 +137,7 @@ impl Shape {
     {
         let mut path = begin_path(alloc, at.0, at.1)?;
         path.extend_from_slice(figure.outline())?;
-        Ok(Shape::Curve(class, path, said))
+        Ok(Shape(class, Form::Curve(path, said)))
     }
 }
 
@@ -139,188 +151,207 @@ pub fn begin_path(alloc: Global, x: Px, y: Px) -> Result<Vec<u8>, AllocError>
     Ok(path)
 }
 
-/// Writes shapes.
-pub fn push_shapes(out: &mut Vec<u8>, shapes: &[Shape]) -> Result<(), AllocError>
+/// The picture of shapes, of that size, which says where the columns and the lanes of a page are.
+pub fn picture_of(
+    alloc: Global,
+    page: &Page<'_>,
+    size: (u32, u32),
+    shapes: &[Shape],
+) -> Result<Vec<u8>, AllocError>
+    ensures whole { IfOk result (λ picture. IsWellFormed picture.items) }
+    ensures stands { IfOk result (λ picture. Stands picture.items (shapes_bytes shapes.now)) }
+{
+    let mut out = Vec::new(alloc);
+    open_picture(&mut out, page, size)?;
+    push_shapes(alloc, &mut out, shapes)?;
+    push_pieces(&mut out, &[Piece::Own("</svg>\n")])?;
+    Ok(out)
+}
+
+fn open_picture(out: &mut Vec<u8>, page: &Page<'_>, size: (u32, u32)) -> Result<(), AllocError>
+    requires { out.old.items ≡ [] }
+    ensures { OnOk result (read out.new.items ≡ at (InText Between) (picture ∷ [])) }
+{
+    let (width, height) = (u64::from(size.0), u64::from(size.1));
+    push_pieces(
+        out,
+        &[
+            Piece::Own("<svg xmlns='http://www.w3.org/2000/svg' width='"),
+            Piece::Number(width),
+            Piece::Own("' height='"),
+            Piece::Number(height),
+            Piece::Own("' viewBox='0 0 "),
+            Piece::Number(width),
+            Piece::Own(" "),
+            Piece::Number(height),
+            Piece::Own("' data-left='"),
+            Piece::Number(u64::from(page.left.0)),
+            Piece::Own("' data-column='"),
+            Piece::Number(u64::from(page.column)),
+            Piece::Own("' data-top='"),
+            Piece::Number(u64::from(page.top.0)),
+            Piece::Own("' data-bottom='"),
+            Piece::Number(u64::from(page.bottom.0)),
+            Piece::Own("'>\n"),
+        ],
+    )
+}
+
+// Each shape is written whole, so that behind it a reader is between tags again.
+fn push_shapes(alloc: Global, out: &mut Vec<u8>, shapes: &[Shape]) -> Result<(), AllocError>
     requires { IsBetweenTags out.old.items }
     ensures whole { OnOk result (AddsElements out.old.items out.new.items) }
     ensures pushed { OnOk result (out.new.items ≡ out.old.items ++ shapes_bytes shapes.now) }
 {
     for shape in shapes {
-        push_shape(out, shape)?;
+        push_form(out, &shape.0.text(alloc)?, &shape.1)?;
     }
     Ok(())
 }
 
-fn push_shape(out: &mut Vec<u8>, shape: &Shape) -> Result<(), AllocError>
+fn push_form<'a>(out: &mut Vec<u8>, class: &'a [u8], form: &'a Form) -> Result<(), AllocError>
     requires { IsBetweenTags out.old.items }
     ensures whole { OnOk result (AddsElements out.old.items out.new.items) }
-    ensures pushed { OnOk result (out.new.items ≡ out.old.items ++ shape_bytes shape.now) }
+    ensures pushed { OnOk result (out.new.items ≡ out.old.items ++ form_bytes class.now form.now) }
 {
-    match shape {
-        Shape::Rect(class, area, Some(said)) => push_rect_said(out, *class, *area, said),
-        Shape::Rect(class, area, None) => push_rect(out, *class, *area),
-        Shape::Dot(class, at, said) => push_dot(out, *class, *at, said),
-        Shape::Line(class, from, to) => push_line(out, *class, *from, *to),
-        Shape::Curve(class, path, said) => push_curve(out, *class, path, said),
-        Shape::Words(class, at, words) => push_words(out, *class, *at, words),
+    match form {
+        Form::Rect(area, said) => push_rect(out, class, *area, said),
+        Form::Dot(at, said) => push_elements(
+            out,
+            &[
+                Piece::Own("<circle class='"),
+                Piece::Text(class),
+                Piece::Own("' cx='"),
+                Piece::Number(at.0.0 as u64),
+                Piece::Own("' cy='"),
+                Piece::Number(at.1.0 as u64),
+                Piece::Own("' r='3'><title>"),
+                Piece::Text(said),
+                Piece::Own("</title></circle>\n"),
+            ],
+        ),
+        Form::Line(from, to) => push_elements(
+            out,
+            &[
+                Piece::Own("<line class='"),
+                Piece::Text(class),
+                Piece::Own("' x1='"),
+                Piece::Number(from.0.0 as u64),
+                Piece::Own("' y1='"),
+                Piece::Number(from.1.0 as u64),
+                Piece::Own("' x2='"),
+                Piece::Number(to.0.0 as u64),
+                Piece::Own("' y2='"),
+                Piece::Number(to.1.0 as u64),
+                Piece::Own("'></line>\n"),
+            ],
+        ),
+        Form::Curve(path, said) => push_elements(
+            out,
+            &[
+                Piece::Own("<path class='"),
+                Piece::Text(class),
+                Piece::Own("' d='"),
+                Piece::Text(path),
+                Piece::Own("'><title>"),
+                Piece::Text(said),
+                Piece::Own("</title></path>\n"),
+            ],
+        ),
+        Form::Words(at, words) => push_elements(
+            out,
+            &[
+                Piece::Own("<text class='"),
+                Piece::Text(class),
+                Piece::Own("' x='"),
+                Piece::Number(at.0.0 as u64),
+                Piece::Own("' y='"),
+                Piece::Number(at.1.0 as u64),
+                Piece::Own("'>"),
+                Piece::Text(words),
+                Piece::Own("</text>\n"),
+            ],
+        ),
+        Form::Heading(title, words) => push_elements(
+            out,
+            &[
+                Piece::Own("<title>"),
+                Piece::Text(title),
+                Piece::Own("</title>\n<desc>"),
+                Piece::Text(words),
+                Piece::Own("</desc>\n"),
+            ],
+        ),
+        Form::Style(rules) => push_elements(
+            out,
+            &[
+                Piece::Own("<style>\n"),
+                Piece::Text(rules),
+                Piece::Own("</style>\n"),
+            ],
+        ),
+        Form::Hatch(name) => push_elements(
+            out,
+            &[
+                Piece::Own("<pattern id='h"),
+                Piece::Text(name),
+                Piece::Own(
+                    "' width='7' height='7' patternTransform='rotate(45)' \
+                    patternUnits='userSpaceOnUse'>\
+                    <path class='paper' d='M0 0H7V7H0z'/><path class='hatch",
+                ),
+                Piece::Text(name),
+                Piece::Own("' d='M0 0V7'/></pattern>\n"),
+            ],
+        ),
     }
 }
 
-fn push_rect(out: &mut Vec<u8>, class: Class, area: Area) -> Result<(), AllocError>
-    requires { IsBetweenTags out.old.items }
-    ensures whole { OnOk result (AddsElements out.old.items out.new.items) }
-    ensures pushed { OnOk result (out.new.items
-        ≡ out.old.items ++ plain_rect_bytes (class_bytes class) area) }
-{
-    push_elements(
-        out,
-        &[
-            Piece::Own("<rect class='"),
-            Piece::Text(class.word.as_bytes()),
-            Piece::Optional(class.lock),
-            Piece::Own("' x='"),
-            Piece::Number(u64::from(area.x.0)),
-            Piece::Own("' y='"),
-            Piece::Number(u64::from(area.y.0)),
-            Piece::Own("' width='"),
-            Piece::Number(u64::from(area.width)),
-            Piece::Own("' height='"),
-            Piece::Number(u64::from(area.height)),
-            Piece::Own("' rx='3'></rect>\n"),
-        ],
-    )
-}
-
-fn push_rect_said(
+fn push_rect<'a>(
     out: &mut Vec<u8>,
-    class: Class,
+    class: &'a [u8],
     area: Area,
-    said: &[u8],
+    said: &'a Option<Vec<u8>>,
 ) -> Result<(), AllocError>
     requires { IsBetweenTags out.old.items }
     ensures whole { OnOk result (AddsElements out.old.items out.new.items) }
     ensures pushed { OnOk result (out.new.items
-        ≡ out.old.items ++ rect_bytes (class_bytes class) area said.now) }
+        ≡ out.old.items ++ form_bytes class.now (Rect area said.now)) }
 {
-    push_elements(
-        out,
-        &[
-            Piece::Own("<rect class='"),
-            Piece::Text(class.word.as_bytes()),
-            Piece::Optional(class.lock),
-            Piece::Own("' x='"),
-            Piece::Number(u64::from(area.x.0)),
-            Piece::Own("' y='"),
-            Piece::Number(u64::from(area.y.0)),
-            Piece::Own("' width='"),
-            Piece::Number(u64::from(area.width)),
-            Piece::Own("' height='"),
-            Piece::Number(u64::from(area.height)),
-            Piece::Own("' rx='3'><title>"),
-            Piece::Text(said),
-            Piece::Own("</title></rect>\n"),
-        ],
-    )
-}
-
-fn push_dot(out: &mut Vec<u8>, class: Class, at: (Px, Px), said: &[u8]) -> Result<(), AllocError>
-    requires { IsBetweenTags out.old.items }
-    ensures whole { OnOk result (AddsElements out.old.items out.new.items) }
-    ensures pushed { OnOk result (out.new.items
-        ≡ out.old.items ++ dot_bytes (class_bytes class) at.0.0 at.1.0 said.now) }
-{
-    push_elements(
-        out,
-        &[
-            Piece::Own("<circle class='"),
-            Piece::Text(class.word.as_bytes()),
-            Piece::Optional(class.lock),
-            Piece::Own("' cx='"),
-            Piece::Number(u64::from(at.0.0)),
-            Piece::Own("' cy='"),
-            Piece::Number(u64::from(at.1.0)),
-            Piece::Own("' r='3'><title>"),
-            Piece::Text(said),
-            Piece::Own("</title></circle>\n"),
-        ],
-    )
-}
-
-fn push_line(
-    out: &mut Vec<u8>,
-    class: Class,
-    from: (Px, Px),
-    to: (Px, Px),
-) -> Result<(), AllocError>
-    requires { IsBetweenTags out.old.items }
-    ensures whole { OnOk result (AddsElements out.old.items out.new.items) }
-    ensures pushed { OnOk result (out.new.items
-        ≡ out.old.items ++ stroke_bytes (class_bytes class) from.0.0 from.1.0 to.0.0 to.1.0) }
-{
-    push_elements(
-        out,
-        &[
-            Piece::Own("<line class='"),
-            Piece::Text(class.word.as_bytes()),
-            Piece::Optional(class.lock),
-            Piece::Own("' x1='"),
-            Piece::Number(u64::from(from.0.0)),
-            Piece::Own("' y1='"),
-            Piece::Number(u64::from(from.1.0)),
-            Piece::Own("' x2='"),
-            Piece::Number(u64::from(to.0.0)),
-            Piece::Own("' y2='"),
-            Piece::Number(u64::from(to.1.0)),
-            Piece::Own("'></line>\n"),
-        ],
-    )
-}
-
-fn push_curve<'a>(
-    out: &mut Vec<u8>,
-    class: Class,
-    path: &'a [u8],
-    said: &'a [u8],
-) -> Result<(), AllocError>
-    requires { IsBetweenTags out.old.items }
-    ensures whole { OnOk result (AddsElements out.old.items out.new.items) }
-    ensures pushed { OnOk result (out.new.items
-        ≡ out.old.items ++ curve_bytes (class_bytes class) path.now said.now) }
-{
-    push_elements(
-        out,
-        &[
-            Piece::Own("<path class='"),
-            Piece::Text(class.word.as_bytes()),
-            Piece::Optional(class.lock),
-            Piece::Own("' d='"),
-            Piece::Text(path),
-            Piece::Own("'><title>"),
-            Piece::Text(said),
-            Piece::Own("</title></path>\n"),
-        ],
-    )
-}
-
-fn push_words(out: &mut Vec<u8>, class: Class, at: (Px, Px), words: &[u8]) -> Result<(), AllocError>
-    requires { IsBetweenTags out.old.items }
-    ensures whole { OnOk result (AddsElements out.old.items out.new.items) }
-    ensures pushed { OnOk result (out.new.items
-        ≡ out.old.items ++ words_bytes (class_bytes class) at.0.0 at.1.0 words.now) }
-{
-    push_elements(
-        out,
-        &[
-            Piece::Own("<text class='"),
-            Piece::Text(class.word.as_bytes()),
-            Piece::Optional(class.lock),
-            Piece::Own("' x='"),
-            Piece::Number(u64::from(at.0.0)),
-            Piece::Own("' y='"),
-            Piece::Number(u64::from(at.1.0)),
-            Piece::Own("'>"),
-            Piece::Text(words),
-            Piece::Own("</text>\n"),
-        ],
-    )
+    match said {
+        None => push_elements(
+            out,
+            &[
+                Piece::Own("<rect class='"),
+                Piece::Text(class),
+                Piece::Own("' x='"),
+                Piece::Number(area.x.0 as u64),
+                Piece::Own("' y='"),
+                Piece::Number(area.y.0 as u64),
+                Piece::Own("' width='"),
+                Piece::Number(area.width as u64),
+                Piece::Own("' height='"),
+                Piece::Number(area.height as u64),
+                Piece::Own("' rx='3'></rect>\n"),
+            ],
+        ),
+        Some(said) => push_elements(
+            out,
+            &[
+                Piece::Own("<rect class='"),
+                Piece::Text(class),
+                Piece::Own("' x='"),
+                Piece::Number(area.x.0 as u64),
+                Piece::Own("' y='"),
+                Piece::Number(area.y.0 as u64),
+                Piece::Own("' width='"),
+                Piece::Number(area.width as u64),
+                Piece::Own("' height='"),
+                Piece::Number(area.height as u64),
+                Piece::Own("' rx='3'><title>"),
+                Piece::Text(said),
+                Piece::Own("</title></rect>\n"),
+            ],
+        ),
+    }
 }

@@ -8,7 +8,8 @@ ghost use Rattle.chart_svg.specs.Shapes.{shapes_bytes};
 use crate::frame::end_of;
 use crate::page::{LaneBand, Page, prios_of};
 use crate::pixels::{Px, width_of};
-use crate::shapes::{Area, Class, Shape, Shapes, begin_path};
+use crate::shapes::Class::Word;
+use crate::shapes::{Area, Form, Shape, Shapes, begin_path};
 use chart_layout::PrioSpan;
 use lock_model::{Prio, push_digits, push_number};
 use std::alloc::{AllocError, Global};
@@ -55,12 +56,7 @@ fn ticks_of(alloc: Global, page: &Page<'_>, strip: Px, prios: &[Prio]) -> Shapes
     for prio in prios {
         let y = page.prio_at(strip, *prio);
         if free <= y {
-            shapes.push(Shape::number(
-                alloc,
-                Class::of("tick"),
-                (x, y.plus(3)),
-                u32::from(prio.0),
-            )?)?;
+            shapes.push(Shape::number(alloc, Word("tick"), (x, y.plus(3)), u32::from(prio.0))?)?;
             free = y.plus(9);
         }
     }
@@ -88,8 +84,11 @@ fn one_loan(alloc: Global, page: &Page<'_>, strip: Px, step: PrioSpan) -> Shapes
     }
     let area = loan_area(page, strip, step);
     let (right, base) = (area.x.plus(area.width), area.y.plus(area.height));
-    shapes.push(Shape::Rect(Class::of("loan"), area, Some(loan_words(alloc, step)?)))?;
-    shapes.push(Shape::Line(Class::of("base"), (area.x, base), (right, base)))?;
+    shapes.push(Shape(
+        Word("loan"),
+        Form::Rect(area, Some(loan_words(alloc, step)?)),
+    ))?;
+    shapes.push(Shape(Word("base"), Form::Line((area.x, base), (right, base))))?;
     Ok(shapes)
 }
 
@@ -120,21 +119,22 @@ fn loan_words(alloc: Global, step: PrioSpan) -> Result<Vec<u8>, AllocError>
 pub fn strip_words(alloc: Global, page: &Page<'_>) -> Shapes {
     let mut shapes = Vec::new(alloc);
     for lane in &page.lanes {
-        if let Some(strip) = lane.strip {
-            shapes.append(&mut own_words(alloc, page, strip, &lane.steps)?)?;
-        }
+        shapes.append(&mut own_words(alloc, page, lane)?)?;
     }
     Ok(shapes)
 }
 
-fn own_words(alloc: Global, page: &Page<'_>, strip: Px, steps: &[PrioSpan]) -> Shapes {
+fn own_words(alloc: Global, page: &Page<'_>, lane: &LaneBand) -> Shapes {
     let mut shapes = Vec::new(alloc);
-    for step in steps {
+    let Some(strip) = lane.strip else {
+        return Ok(shapes);
+    };
+    for step in &lane.steps {
         let area = loan_area(page, strip, *step);
         let words = loan_words(alloc, *step)?;
         if area.height >= 12 && width_of(words.len(), 68) <= area.width {
             let middle = area.y.plus(area.height / 2).plus(4);
-            shapes.push(Shape::Words(Class::of("as"), (area.x.plus(6), middle), words))?;
+            shapes.push(Shape(Word("as"), Form::Words((area.x.plus(6), middle), words)))?;
         }
     }
     Ok(shapes)
@@ -154,7 +154,7 @@ fn run(alloc: Global, page: &Page<'_>, strip: Px, steps: &[PrioSpan]) -> Shapes 
     }
     let end = end_of(page, first.thread).unwrap_or(page.right());
     push_corner(&mut path, b"H", end)?;
-    shapes.push(Shape::Curve(Class::of("runs"), path, Vec::new(alloc)))?;
+    shapes.push(Shape(Word("runs"), Form::Curve(path, Vec::new(alloc))))?;
     Ok(shapes)
 }
 

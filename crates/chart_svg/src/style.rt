@@ -1,8 +1,5 @@
 //! Colours and fonts, for light and for dark. Each lock has one hue in all lanes; what waits is hatched in it.
-ghost use Rattle.std.specs.Prelude.{OnOk};
-ghost use Rattle.chart_escape.specs.Reader.{AddsElements, IsBetweenTags};
-
-use chart_escape::{Piece, push_elements, push_pieces};
+use crate::shapes::{Class, Form, Shape, Shapes};
 use lock_model::{Plan, push_digits};
 use std::alloc::{AllocError, Global};
 
@@ -81,14 +78,10 @@ const HUES: [(&str, &str); 10] = [
     ("#3c3c46", "#d4d4dc"),
 ];
 
-/// Pushes the style, and the hatchings.
-pub fn push_style(alloc: Global, out: &mut Vec<u8>, plan: &Plan) -> Result<(), AllocError>
-    requires { IsBetweenTags out.old.items }
-    ensures { OnOk result (AddsElements out.old.items out.new.items) }
-{
+/// The style, and the hatchings of those who wait for a lock, or who sleep on channels.
+pub fn style(alloc: Global, plan: &Plan) -> Shapes {
     let locks = plan.locks.as_slice().len();
-    let mut rules = Vec::new(alloc);
-    rules.extend_from_slice(LIGHT)?;
+    let mut rules = Vec::from_slice(alloc, LIGHT)?;
     for l in 0..locks {
         push_hue(&mut rules, l as u64, HUES[l % 10].0)?;
     }
@@ -97,14 +90,15 @@ pub fn push_style(alloc: Global, out: &mut Vec<u8>, plan: &Plan) -> Result<(), A
         push_hue(&mut rules, l as u64, HUES[l % 10].1)?;
     }
     rules.extend_from_slice(b"}\n")?;
-    push_rules(out, &rules)?;
-    push_hatch(out, b"q")?;
+    let mut shapes = Vec::new(alloc);
+    shapes.push(Shape(Class::None, Form::Style(rules)))?;
+    shapes.push(Shape(Class::None, Form::Hatch(Vec::from_slice(alloc, b"q")?)))?;
     for l in 0..locks {
         let mut number = Vec::new(alloc);
         push_digits(&mut number, l as u64)?;
-        push_hatch(out, &number)?;
+        shapes.push(Shape(Class::None, Form::Hatch(number)))?;
     }
-    Ok(())
+    Ok(shapes)
 }
 
 // A lock's colour: held, read, waited for, taken off its queue, the hatching, and the words of a wait.
@@ -134,38 +128,4 @@ fn push_hue(rules: &mut Vec<u8>, l: u64, hue: &'static str) -> Result<(), AllocE
     rules.extend_from_slice(b"{fill:url(#h")?;
     push_digits(rules, l)?;
     rules.extend_from_slice(b")}\n")
-}
-
-fn push_rules(out: &mut Vec<u8>, rules: &[u8]) -> Result<(), AllocError>
-    requires { IsBetweenTags out.old.items }
-    ensures { OnOk result (AddsElements out.old.items out.new.items) }
-{
-    push_elements(
-        out,
-        &[
-            Piece::Own("<style>\n"),
-            Piece::Text(rules),
-            Piece::Own("</style>\n"),
-        ],
-    )
-}
-
-// The hatching of those who wait for a lock, or who sleep on channels.
-fn push_hatch(out: &mut Vec<u8>, of: &[u8]) -> Result<(), AllocError>
-    requires { IsBetweenTags out.old.items }
-    ensures { OnOk result (AddsElements out.old.items out.new.items) }
-{
-    push_elements(
-        out,
-        &[
-            Piece::Own("<pattern id='h"),
-            Piece::Text(of),
-            Piece::Own(
-                "' width='7' height='7' patternTransform='rotate(45)' patternUnits='userSpaceOnUse'>\
-                <path class='paper' d='M0 0H7V7H0z'/><path class='hatch",
-            ),
-            Piece::Text(of),
-            Piece::Own("' d='M0 0V7'/></pattern>\n"),
-        ],
-    )
 }

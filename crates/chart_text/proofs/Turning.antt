@@ -1,6 +1,5 @@
 -- The lines of turns, one by one, and what is said of turns.
-use Rattle.std.proofs.Common.{ℕ, ◌+◌, ◌-◌, ◌<◌, ◌≡◌, ◌∙◌, ◌++◌, ap, sym, refl, append_assoc, List, ◌∷◌, length, drop, flat_map, get_or, arith, suc}
-use Rattle.std.specs.List.{range_with_len}
+use Rattle.std.proofs.Common.{ℕ, ◌+◌, ◌-◌, ◌<◌, ◌≡◌, ◌∙◌, ◌++◌, ap, sym, append_assoc, List, length, drop, flat_map, get_or, arith, suc}
 use Rattle.std.proofs.lemmas.List.{at_drop_more}
 use Rattle.lock_model.specs.declared.plan.Plan.{Plan}
 use Rattle.chart_layout.specs.declared.layout.Chart.{Chart}
@@ -35,16 +34,3 @@ pub adds_more : {T : Type 0} (f : T → List ℕ) (xs : List T) (i : ℕ) (x : T
     → new ≡ old ++ f x → old ++ flat_map f (drop i xs) ≡ begun → new ++ flat_map f (drop (i + 1) xs) ≡ begun
 adds_more f xs i x h is old new begun added so_far =
     adds_next f xs i x h old new begun (added ∙ ap (λ y. old ++ f y) is) so_far
-
--- more behind what is behind the old
-grows : (old x a more : List ℕ) → x ≡ old ++ a → x ++ more ≡ old ++ (a ++ more)
-grows old x a more is = ap (λ w. w ++ more) is ∙ append_assoc old a more
-
--- words, a name, words, a number and words, one behind the other
-pub joined : (old one two new words name others number last : List ℕ) → one ≡ old ++ words ++ name
-    → two ≡ one ++ others ++ number → new ≡ two ++ last
-    → new ≡ old ++ (words ++ name ++ others ++ number ++ last)
-joined old one two new words name others number last a b d =
-    d ∙ grows old two (words ++ name ++ others ++ number) last
-    (b ∙ grows old (one ++ others) (words ++ name ++ others) number
-    (grows old one (words ++ name) others (a ∙ append_assoc old words name)))

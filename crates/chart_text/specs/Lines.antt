@@ -1,6 +1,6 @@
 -- A chart as lines of text, one for each turn. Lines that begin with `#` are of no turn: the title, the heads of the
 -- columns, and how the run ended.
-use Rattle.std.specs.Prelude.{ℕ, ◌-◌, ◌==◌, nat_lt, ◌||◌, if◌then◌else◌, max, List, [], ◌∷◌, ◌++◌, length, map, flat_map, fold, nat_eq, replicate, slice_get, codes, decimal, Option, Some, None, option_map, unwrap_or}
+use Rattle.std.specs.Prelude.{ℕ, ◌-◌, ◌==◌, nat_lt, ◌||◌, if◌then◌else◌, max, List, [], ◌∷◌, ◌++◌, length, map, flat_map, fold, nat_eq, replicate, slice_get, codes, decimal, Option, Some, None}
 use Rattle.std.specs.List.{range_with_len}
 use Rattle.std.specs.Global.{Vec}
 use Rattle.std.specs.HashMap.{HashMap, get}
@@ -8,7 +8,6 @@ use Rattle.std.specs.declared.hash.BuildHasherDefault.{BuildHasherDefault}
 use Rattle.std.specs.declared.hash.FoldHasher.{FoldHasher}
 use Rattle.lock_model.specs.Text.{thread_name}
 use Rattle.lock_model.specs.declared.event.Entry.{Entry}
-use Rattle.lock_model.specs.declared.numbers.Prio.{Prio}
 use Rattle.lock_model.specs.declared.numbers.ThreadNo.{ThreadNo}
 use Rattle.lock_model.specs.declared.plan.Plan.{Plan}
 use Rattle.lock_model.specs.declared.plan.ThreadDecl.{ThreadDecl}
@@ -46,19 +45,7 @@ wider width thread = max width (length thread.name)
 abbrev pub name_width : List ThreadDecl → ℕ
 name_width threads = fold wider 6 threads
 
--- 2. What a turn did, and its entry
-
--- how many entries the history has in a row, behind so many turns
-abbrev pub entries_in : Rows → ℕ → ℕ
-entries_in rows n =
-    if n == 0 then 0
-    else unwrap_or (option_map (λ turn. turn.entries) (slice_get rows.turns (n - 1))) 0
-
--- the entry of the n-th turn, if it made one
-abbrev pub entry_of : Rows → ℕ → TurnRow → Option Entry
-entry_of rows n turn =
-    if nat_lt (entries_in rows n) turn.entries
-    then slice_get rows.outcome.history (entries_in rows n) else None
+-- 2. What a turn did
 
 -- the number of an entry, as it is printed before it, or a dash
 abbrev pub ticket_word : Option Entry → List ℕ
@@ -79,19 +66,14 @@ did_words plan (Did kind) (Some entry) =
 abbrev pub said_by : Plan → ℕ → Sentence → List ℕ
 said_by plan n s = if s.turn == n then 58 ∷ saying_words plan s.saying else []
 
--- of a loan that changed nothing: to whom; of another the sentence of its turn tells
-abbrev pub idle_words : Plan → Prio → ThreadNo → List ℕ
-idle_words plan prio to =
-    codes ": lends to " ++ thread_name plan to.0 ++ codes ", which runs as " ++ decimal prio.0
-    ++ codes " already"
-
-abbrev pub idle_loan : Plan → Prio → Prio → ThreadNo → List ℕ
-idle_loan plan before prio to = if before.0 == prio.0 then idle_words plan prio to else []
-
--- by an arrow: such a loan, and whom a turn woke; on whom a thread blocked, and what it was refused, the sentence of
--- its turn tells
+-- by an arrow: to whom was lent what changed nothing, and whom a turn woke; of other loans, of whom a thread blocked on,
+-- and of what it was refused, the sentence of its turn tells
 abbrev pub told_words : Plan → ArrowKind → ThreadNo → List ℕ
-told_words plan (Lends before prio) to = idle_loan plan before prio to
+told_words plan (Lends before prio) to =
+    if before.0 == prio.0
+    then codes ": lends to " ++ thread_name plan to.0 ++ codes ", which runs as " ++ decimal prio.0
+    ++ codes " already"
+    else []
 told_words plan Wakes to = codes ": wakes " ++ thread_name plan to.0
 told_words plan BlockedOn to = []
 told_words plan Behind to = []
@@ -119,26 +101,21 @@ said_of plan chart n =
 
 -- 4. Lines
 
--- the columns of a turn: its number, that of its entry, and its thread
-abbrev pub columns_of : Plan → ℕ → ℕ → ThreadNo → Option Entry → List ℕ
-columns_of plan width n who entry =
-    at_right 6 (decimal n) ++ 32 ∷ at_right 5 (ticket_word entry)
-    ++ 32 ∷ at_left width (thread_name plan who.0) ++ 32 ∷ []
+-- the columns of the n-th turn: its number, that of its entry, and its thread
+abbrev pub columns_of : Plan → ℕ → ℕ → TurnRow → List ℕ
+columns_of plan width n turn =
+    at_right 6 (decimal n) ++ 32 ∷ at_right 5 (ticket_word turn.entry)
+    ++ 32 ∷ at_left width (thread_name plan turn.who.0) ++ 32 ∷ []
 
--- its line: these, what it did, and what is said of it
-abbrev pub turn_line : Plan → ℕ → ℕ → TurnRow → Option Entry → List ℕ → List ℕ
-turn_line plan width n turn entry said =
-    columns_of plan width n turn.who entry ++ did_words plan turn.answer entry ++ said ++ 10 ∷ []
-
--- that of the n-th turn of a run, if it has one
-abbrev pub line_of : Plan → ℕ → Rows → ℕ → Option TurnRow → List ℕ → List ℕ
-line_of plan width rows n None said = []
-line_of plan width rows n (Some turn) said =
-    turn_line plan width n turn (entry_of rows n turn) said
+-- its line, if the run has that turn: these, what it did, and what is said of it
+abbrev pub line_of : Plan → ℕ → ℕ → Option TurnRow → List ℕ → List ℕ
+line_of plan width n None said = []
+line_of plan width n (Some turn) said =
+    columns_of plan width n turn ++ did_words plan turn.answer turn.entry ++ said ++ 10 ∷ []
 
 abbrev pub line_in : Plan → ℕ → Rows → Chart → ℕ → List ℕ
 line_in plan width rows chart n =
-    line_of plan width rows n (slice_get rows.turns n) (said_of plan chart n)
+    line_of plan width n (slice_get rows.turns n) (said_of plan chart n)
 
 -- those of so many turns from one on
 abbrev pub lines_from : Plan → ℕ → Rows → Chart → ℕ → ℕ → List ℕ
@@ -159,12 +136,9 @@ head_lines width title =
 abbrev pub end_line : Plan → End → List ℕ
 end_line plan end = codes "# " ++ end_words plan end ++ codes "\n"
 
--- the text under a title, with a column of names so wide: the turns between the rows of the chart's window
-abbrev pub text_in : Plan → ℕ → Rows → Chart → List ℕ → List ℕ
-text_in plan width rows chart title =
-    head_lines width title ++ lines_from plan width rows chart chart.first (chart.last - chart.first)
-    ++ end_line plan chart.end
-
--- the text of a chart and of its rows
+-- the text of a chart and of its rows under a title: the turns between the rows of its window
 abbrev pub text_bytes : Plan → Rows → Chart → List ℕ → List ℕ
-text_bytes plan rows chart title = text_in plan (name_width plan.threads) rows chart title
+text_bytes plan rows chart title =
+    head_lines (name_width plan.threads) title
+    ++ lines_from plan (name_width plan.threads) rows chart chart.first (chart.last - chart.first)
+    ++ end_line plan chart.end

@@ -1,10 +1,11 @@
 //! What a chart says of each turn, by the turn's number.
-ghost use Rattle.std.specs.Prelude.{◌≡◌, ◌==◌, ◌++◌, ℕ, [], decimal, if◌then◌else◌, flat_map, IfOk, OnOk};
-ghost use Rattle.chart_text.specs.Lines.{idle_loan, idle_words, said_by, said_of, told_by, told_words, words_at};
+ghost use Rattle.std.specs.Prelude.{◌≡◌, ◌==◌, ◌++◌, ℕ, [], if◌then◌else◌, codes, decimal, flat_map, IfOk, OnOk};
+ghost use Rattle.lock_model.specs.Text.{thread_name};
+ghost use Rattle.chart_text.specs.Lines.{said_by, said_of, told_by, told_words, words_at};
 
 use chart_layout::{Arrow, ArrowKind, Chart, Sentence};
-use chart_words::push_saying;
-use lock_model::{Plan, Prio, ThreadNo, push_digits};
+use chart_words::{push_named, push_prio, push_saying};
+use lock_model::{Plan, Prio, ThreadNo};
 use std::alloc::{AllocError, Global};
 use std::collections::HashMap;
 
@@ -96,26 +97,15 @@ fn push_told(
     ensures { OnOk result (out.new.items ≡ out.old.items ++ told_words plan.now kind to) }
 {
     match kind {
-        ArrowKind::Lends { before, prio } => push_idle_loan(out, plan, before, prio, to),
+        ArrowKind::Lends { before, prio } => {
+            if before.0 == prio.0 {
+                push_idle_words(out, plan, prio, to)
+            } else {
+                Ok(())
+            }
+        }
         ArrowKind::Wakes => push_named(out, b": wakes ", plan.thread_name(to)),
         ArrowKind::BlockedOn | ArrowKind::Behind | ArrowKind::Refused => Ok(()),
-    }
-}
-
-fn push_idle_loan(
-    out: &mut Vec<u8>,
-    plan: &Plan,
-    before: Prio,
-    prio: Prio,
-    to: ThreadNo,
-) -> Result<(), AllocError>
-    ensures { OnOk result (out.new.items
-        ≡ out.old.items ++ idle_loan plan.now before prio to) }
-{
-    if before.0 == prio.0 {
-        push_idle_words(out, plan, prio, to)
-    } else {
-        Ok(())
     }
 }
 
@@ -125,27 +115,13 @@ fn push_idle_words(
     prio: Prio,
     to: ThreadNo,
 ) -> Result<(), AllocError>
-    ensures { OnOk result (out.new.items ≡ out.old.items ++ idle_words plan.now prio to) }
+    ensures { OnOk result (out.new.items
+        ≡ out.old.items ++ codes ": lends to " ++ thread_name plan.now to.0
+        ++ codes ", which runs as " ++ decimal prio.0 ++ codes " already") }
 {
     push_named(out, b": lends to ", plan.thread_name(to))?;
     push_prio(out, b", which runs as ", prio)?;
     out.extend_from_slice(b" already")
-}
-
-// Words, and a priority.
-fn push_prio(out: &mut Vec<u8>, words: &[u8], prio: Prio) -> Result<(), AllocError>
-    ensures { OnOk result (out.new.items ≡ out.old.items ++ words.now ++ decimal prio.0) }
-{
-    out.extend_from_slice(words)?;
-    push_digits(out, u64::from(prio.0))
-}
-
-// Words, and a name.
-fn push_named(out: &mut Vec<u8>, words: &[u8], name: &[u8]) -> Result<(), AllocError>
-    ensures { OnOk result (out.new.items ≡ out.old.items ++ words.now ++ name.now) }
-{
-    out.extend_from_slice(words)?;
-    out.extend_from_slice(name)
 }
 
 // Puts words behind what is said of a turn.

@@ -4,7 +4,6 @@ use Rattle.std.specs.Option.{option_or}
 use Rattle.std.specs.Str.{is_utf8}
 use Rattle.lock_model.specs.Script.Lines.{lines_of}
 use Rattle.lock_model.specs.declared.plan.Plan.{Plan}
-use Rattle.chart_command.specs.Forms.{Wanted}
 
 abbrev pub Text : Type 0
 Text = List ℕ
@@ -52,19 +51,14 @@ comment_title bytes =
     option_and_then (λ c. text_of (up_to_stop c)) (slice_get (head_comments bytes) 0)
 
 -- where nobody gave a title
-abbrev pub threads_word : ℕ → Text
-threads_word n = if n == 1 then codes " thread" else codes " threads"
-
 abbrev pub plain_title : Plan → Text
 plain_title plan =
-    codes "A run of " ++ (decimal (length plan.threads) ++ threads_word (length plan.threads))
+    codes "A run of " ++ (decimal (length plan.threads)
+    ++ (if length plan.threads == 1 then codes " thread" else codes " threads"))
 
 -- the title that was asked for, or else that of the script's first comment, or else the plain one
 abbrev pub title_by : Option Text → Text → Text → Text
 title_by asked bytes plain = unwrap_or (option_or asked (comment_title bytes)) plain
-
-abbrev pub title_of : Wanted → Text → Plan → Text
-title_of wanted bytes plan = title_by wanted.title bytes (plain_title plan)
 
 -- the line below it is the second comment
 abbrev pub subtitle_of : Text → Text

@@ -3,15 +3,15 @@ use Rattle.std.specs.Prelude.{◌≡◌, ℕ, ◌-◌, Bool, false, nat_lt, List
 use Rattle.chart_command.specs.Forms.{Wanted}
 use Rattle.chart_command.specs.declared.args.Form.{Form}
 use Rattle.chart_command.specs.declared.args.Form.TheVariants as written
-use Rattle.chart_escape.specs.JsonReader.{IsJson}
 use Rattle.chart_escape.specs.Reader.{IsWellFormed}
+use Rattle.chart_escape.specs.Values.{IsJson}
 use Rattle.chart_html.specs.Data.{data_bytes}
 use Rattle.chart_html.specs.Page.{IsPage}
 use Rattle.chart_layout.specs.declared.layout.Chart.{Chart}
 use Rattle.chart_svg.specs.Drawn.{Draws}
 use Rattle.chart_text.specs.Lines.{text_bytes}
 use Rattle.chart_trace.specs.Events.{trace_bytes}
-use Rattle.chart_top.specs.Heading.{Text, subtitle_of, title_of}
+use Rattle.chart_top.specs.Heading.{Text, plain_title, subtitle_of, title_by}
 use Rattle.lock_model.specs.Script.{IsAccepted}
 use Rattle.lock_model.specs.declared.plan.Plan.{Plan}
 use Rattle.run_chart.specs.Charts.{IsChartOf}
@@ -22,20 +22,19 @@ use Rattle.run_tracks.specs.declared.rows.Rows.{Rows}
 abbrev pub Rendering : Type 1
 Rendering = Form → Plan → Rows → Chart → Text → Text → Text → Type 0
 
--- What is known of a text under a title, by its form: a picture is well-formed markup in which each bar of the chart
--- stands; a page is whole round one, and has the data of just these rows and this chart; a trace is JSON, and just that
--- of the chart; a text has just the lines of these rows and this chart; and the data that a page has may stand alone.
-abbrev pub IsInForm : Form → Plan → Rows → Chart → Text → Text → Type 0
-IsInForm written.Svg plan rows chart title text = IsWellFormed text × Draws plan chart text
-IsInForm written.Html plan rows chart title text = IsPage plan rows chart title text
-IsInForm written.Trace plan rows chart title text =
+-- What is known of a text under a title and the line below it, by its form: a picture is well-formed markup in which
+-- each bar of the chart stands; a page is whole round one, and has the data of just these rows and this chart; a trace
+-- is JSON, and just that of the chart; a text has just the lines of these rows and this chart; and the data that a page
+-- has may stand alone.
+abbrev pub in_forms : Form → Plan → Rows → Chart → Text → Text → Text → Type 0
+in_forms written.Svg plan rows chart title below text =
+    IsWellFormed text × Draws plan chart text
+in_forms written.Html plan rows chart title below text = IsPage plan rows chart title text
+in_forms written.Trace plan rows chart title below text =
     IsJson text × (text ≡ trace_bytes plan chart title)
-IsInForm written.Text plan rows chart title text = text ≡ text_bytes plan rows chart title
-IsInForm written.Json plan rows chart title text =
+in_forms written.Text plan rows chart title below text = text ≡ text_bytes plan rows chart title
+in_forms written.Json plan rows chart title below text =
     IsJson text × (text ≡ data_bytes plan rows chart)
-
-abbrev pub in_forms : Rendering
-in_forms form plan rows chart title subtitle text = IsInForm form plan rows chart title text
 
 -- The text is what the renderer makes of a chart of the plan's scheduled run, with so many chains and at most so many
 -- turns. The chart shows the rows that are wanted; one behind the end of the run counts as that end.
@@ -47,8 +46,8 @@ pub record IsPictureOfPlan (renders : Rendering) (wanted : Wanted) (bytes : Text
   pub shows : IsChartOf plan chart
   pub first : chart.first ≡ min wanted.from (length rows.turns)
   pub last : chart.last ≡ min wanted.to (length rows.turns)
-  pub rendered : renders wanted.form plan rows chart (title_of wanted bytes plan)
-      (subtitle_of bytes) text
+  pub rendered : renders wanted.form plan rows chart
+      (title_by wanted.title bytes (plain_title plan)) (subtitle_of bytes) text
 
 -- the bytes are a script, and the text a picture of its plan
 pub record IsPicture (renders : Rendering) (wanted : Wanted) (bytes : Text) (text : Text) : Type 0

@@ -53,10 +53,14 @@ fn comments(bytes: &[u8]) -> (Option<&str>, Option<&str>)
 fn up_to_stop(text: &[u8]) -> &[u8]
     ensures { result.now ≡ up_to_stop text.now }
 {
-    for n in 0..text.len() {
-        if is_at_stop(text[n], &text[n + 1..]) {
+    let mut n = 0;
+    let mut rest = text;
+    while let Some((byte, behind)) = rest.split_first() {
+        if is_at_stop(*byte, behind) {
             return &text[..n];
         }
+        n += 1;
+        rest = behind;
     }
     text
 }

@@ -2,25 +2,20 @@
 //! a status out. A program, or a face for other languages, picks up its words and its streams and calls this.
 //!
 //! From the outside in:
-//! - `top`: the calls, with everything that is promised of them.
-//! - `drawn`: how a call ends.
+//! - `top`: the calls, with everything that is promised of them, and how they end.
 //! - `drawing`: the picture of a plan.
 //! - `heading`: what stands above a picture.
-//! - `renderer`: what writes a chart down, and `forms`: the forms in which it is written.
+//! - `renderer`: what writes a chart down, and the forms in which it is written.
 #![tactic(auto)]
 
 mod drawing;
-mod drawn;
-mod forms;
 mod heading;
 mod renderer;
 mod top;
 
-pub use crate::drawn::Drawn;
-pub use crate::forms::Forms;
 pub use crate::heading::Heading;
-pub use crate::renderer::Renderer;
-pub use crate::top::{lockchart, lockchart_by};
+pub use crate::renderer::{Forms, Renderer};
+pub use crate::top::{Drawn, lockchart, lockchart_by};
 use complaints::Program;
 pub use complaints::Status;
 

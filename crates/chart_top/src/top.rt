@@ -8,7 +8,7 @@
 //! - `long`: where a picture was written that is long, and so told to be.
 //! - `fault`: at which status the bytes are no script, and what is told of them.
 //! - `complete`: where nothing fails, there is a picture or a fault, save for want of memory.
-ghost use Rattle.std.specs.Prelude.{◌≡◌, ◌≢◌, ◌≤◌, map, false, IfSome, Some};
+ghost use Rattle.std.specs.Prelude.{◌≡◌, ◌≢◌, ◌≤◌, map, false, IfSome, Some, []};
 ghost use Rattle.std.specs.String.{string_bytes};
 ghost use Rattle.chart_command.specs.Forms.{AsksPicture, Wanted, asking_of};
 ghost use Rattle.chart_command.specs.Args.{HasRanges, wanted};
@@ -19,15 +19,51 @@ ghost use Rattle.top_ends.specs.Calls.{ReadsBytes, TellsFaults, TellsScriptFault
 ghost use Rattle.top_ends.specs.Statuses.{writes_made};
 
 use crate::drawing::draw;
-use crate::drawn::Drawn;
-use crate::forms::Forms;
-use crate::renderer::Renderer;
+use crate::renderer::{Forms, Renderer};
 use chart_command::{Asked, LockchartArgs, WordsError, read_words};
 use complaints::Status;
 use lock_io::{Sink, Source};
 use script_read::{ReadError, read_script};
 use std::alloc::Global;
 use top_ends::{Ended, read_bytes, write_text};
+
+/// How a call ended.
+#[derive(Drop, Debug)]
+pub struct Drawn {
+    pub status: Status,
+    /// At `BadScript` the line that tells of the script's first fault, as `lockrun` prints it; else nothing.
+    pub fault: Vec<u8>,
+    /// Whether one picture was written of so many turns that a part of them or another form serves better.
+    pub is_long: bool,
+}
+
+impl Drawn {
+    // The end of a call, behind which the picture may be long that was written.
+    pub(crate) fn of(ended: Ended, is_long: bool) -> Drawn
+        ensures status { result.status ≡ ended.status }
+        ensures fault { result.fault.items ≡ ended.fault.items }
+        ensures done { ended.status ≡ Status.Done → result.is_long ≡ is_long }
+        ensures short { ended.status ≢ Status.Done → result.is_long ≡ false }
+    {
+        let is_done = ended.status == Status::Done;
+        Drawn {
+            status: ended.status,
+            fault: ended.fault,
+            is_long: is_done && is_long,
+        }
+    }
+
+    // The same, where the source was a script or wasn't read.
+    pub(crate) fn with(alloc: Global, status: Status, is_long: bool) -> Drawn
+        requires { status ≢ Status.BadScript }
+        ensures status { result.status ≡ status }
+        ensures fault { result.fault.items ≡ [] }
+        ensures done { status ≡ Status.Done → result.is_long ≡ is_long }
+        ensures short { status ≢ Status.Done → result.is_long ≡ false }
+    {
+        Drawn::of(Ended::with(alloc, status), is_long)
+    }
+}
 
 /// What the program does: `lockchart_by` with the forms of a chart.
 pub fn lockchart<S: Source, K: Sink>(
@@ -86,10 +122,11 @@ pub fn lockchart_by<R: Renderer, S: Source, K: Sink>(
     match read_words(alloc, words) {
         Ok(Asked::Picture(said)) => show(renderer, alloc, &said, source, sink),
         Ok(Asked::Help(text)) => {
-            Drawn::short(Ended::with(alloc, write_text(sink, Status::Done, text.as_bytes())))
+            let status = write_text(sink, Status::Done, text.as_bytes());
+            Drawn::of(Ended::with(alloc, status), false)
         }
-        Err(WordsError::Usage) => Drawn::short(Ended::with(alloc, Status::Usage)),
-        Err(WordsError::Memory) => Drawn::short(Ended::with(alloc, Status::NoMemory)),
+        Err(WordsError::Usage) => Drawn::of(Ended::with(alloc, Status::Usage), false),
+        Err(WordsError::Memory) => Drawn::of(Ended::with(alloc, Status::NoMemory), false),
     }
 }
 
@@ -122,18 +159,18 @@ fn show<R: Renderer, S: Source, K: Sink>(
 {
     let bytes = match read_bytes(alloc, source) {
         Ok(bytes) => bytes,
-        Err(status) => return Drawn::short(Ended::with(alloc, status)),
+        Err(status) => return Drawn::of(Ended::with(alloc, status), false),
     };
     let plan = match read_script(alloc, &bytes) {
         Ok(plan) => plan,
-        Err(ReadError::Script(fault)) => return Drawn::short(Ended::by(alloc, fault)),
-        Err(ReadError::Memory(_)) => return Drawn::short(Ended::with(alloc, Status::NoMemory)),
+        Err(ReadError::Script(fault)) => return Drawn::of(Ended::by(alloc, fault), false),
+        Err(ReadError::Memory(_)) => return Drawn::of(Ended::with(alloc, Status::NoMemory), false),
     };
     match draw(renderer, alloc, said, &bytes, &plan) {
         Ok(drawing) => {
             let status = write_text(sink, Status::Done, &drawing.text);
-            Drawn::of(alloc, status, drawing.is_long)
+            Drawn::with(alloc, status, drawing.is_long)
         }
-        Err(_) => Drawn::short(Ended::with(alloc, Status::NoMemory)),
+        Err(_) => Drawn::of(Ended::with(alloc, Status::NoMemory), false),
     }
 }

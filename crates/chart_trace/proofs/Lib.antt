@@ -1,2 +1,1 @@
-mod Loans
-mod Rows
+mod Traces

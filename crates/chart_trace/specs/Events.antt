@@ -1,12 +1,13 @@
 -- What a trace tells: its events, which of them a chart has, and how each is written, in the format that Chrome's
 -- tracing and Perfetto read. A thread of the plan is a process there, and a turn lasts a millisecond.
-use Rattle.std.specs.Prelude.{ℕ, ◌+◌, ◌-◌, ◌*◌, ◌==◌, Bool, true, not, ◌&&◌, if◌then◌else◌, List, [], ◌∷◌, ◌++◌, map, flat_map, codes, decimal, Option, Some, None, option_map}
+use Rattle.std.specs.Prelude.{ℕ, ◌+◌, ◌-◌, ◌*◌, ◌==◌, Bool, true, not, ◌&&◌, if◌then◌else◌, List, [], ◌∷◌, ◌++◌, fold, flat_map, codes, Option, Some, None, option_map}
 use Rattle.std.specs.Option.{option_or}
 use Rattle.lock_model.specs.Text.{thread_name, lock_name}
 use Rattle.lock_model.specs.declared.numbers.LockNo.{LockNo}
 use Rattle.lock_model.specs.declared.numbers.ThreadNo.{ThreadNo}
 use Rattle.lock_model.specs.declared.plan.Plan.{Plan}
 use Rattle.chart_escape.specs.Json.{json_string}
+use Rattle.chart_escape.specs.Values.{Value, Number, String, list, object, text_bytes, value_bytes}
 use Rattle.chart_layout.specs.declared.layout.Arrow.{Arrow}
 use Rattle.chart_layout.specs.declared.layout.ArrowKind.{ArrowKind}
 use Rattle.chart_layout.specs.declared.layout.ArrowKind.TheVariants as arrow
@@ -22,75 +23,72 @@ use Rattle.chart_layout.specs.declared.layout.TurnMark.{TurnMark}
 use Rattle.chart_layout.specs.declared.sentence.Saying.{Saying}
 use Rattle.chart_layout.specs.declared.sentence.Saying.TheVariants as saying
 use Rattle.chart_layout.specs.declared.sentence.Sentence.{Sentence}
+use Rattle.chart_trace.specs.declared.tracks.Place.{Place}
 use Rattle.chart_words.specs.Sentences.{headline, sentence_words}
 use Rattle.chart_words.specs.Words.{arrow_words, bar_words, lost_words, mark_words, note_words}
 
--- 1. Events, and how each is written
+-- 1. Events
 
 -- an event; times are microseconds
 pub data Event : Type 0 where
-  -- the name of a process, which stands among the others by its number
+  -- the name of a process
   Process : (pid : ℕ) (name : List ℕ) → Event
+  -- it stands among the others by its number
+  Order : (pid : ℕ) → Event
   -- the name of a track of a process
   Track : (pid tid : ℕ) (name : List ℕ) → Event
-  -- something on a track that begins and lasts
-  Slice : (pid tid : ℕ) (name : List ℕ) (begin lasts : ℕ) → Event
+  -- something that begins and lasts
+  Slice : (at : Place) (name : List ℕ) (lasts : ℕ) → Event
   -- how important a process is from a time on
   Counter : (pid time height : ℕ) → Event
-  -- an arrow from the turns of one process to a track of another
-  Flow : (id : ℕ) (name : List ℕ) (from to tid time : ℕ) → Event
-  -- something that is said of a turn of a process
-  Said : (pid : ℕ) (name : List ℕ) (time : ℕ) → Event
+  -- the two ends of an arrow
+  From : (id : ℕ) (name : List ℕ) (at : Place) → Event
+  To : (id : ℕ) (name : List ℕ) (at : Place) → Event
+  -- something that is said of a turn
+  Said : (name : List ℕ) (at : Place) → Event
   -- something that is said of the whole run
-  Instant : (name : List ℕ) (time : ℕ) → Event
+  Ended : (name : List ℕ) (time : ℕ) → Event
 
--- the track of a thread's turns
-abbrev pub turns_track : ℕ
-turns_track = 1
+-- an event of that phase and name
+abbrev pub named : List ℕ → List ℕ → List (List ℕ × Value) → Value
+named phase name rest =
+    object ((codes "ph", String phase) ∷ (codes "name", String name) ∷ rest)
 
--- parts one behind the other
-abbrev pub in_a_row : List (List ℕ) → List ℕ
-in_a_row parts = flat_map (λ part. part) parts
+abbrev pub at_place : Place → List (List ℕ × Value)
+at_place at =
+    (codes "pid", Number at.pid) ∷ (codes "tid", Number at.tid) ∷ (codes "ts", Number at.time) ∷ []
 
--- how an event is written
-unfoldable pub event_bytes : Event → List ℕ
-event_bytes (Process pid name) = in_a_row (
-    codes "{\"ph\":\"M\",\"name\":\"process_name\",\"pid\":" ∷ decimal pid
-    ∷ codes ",\"args\":{\"name\":" ∷ json_string name
-    ∷ codes "}},\n{\"ph\":\"M\",\"name\":\"process_sort_index\",\"pid\":" ∷ decimal pid
-    ∷ codes ",\"args\":{\"sort_index\":" ∷ decimal pid ∷ codes "}}" ∷ [])
-event_bytes (Track pid tid name) = in_a_row (
-    codes "{\"ph\":\"M\",\"name\":\"thread_name\",\"pid\":" ∷ decimal pid
-    ∷ codes ",\"tid\":" ∷ decimal tid
-    ∷ codes ",\"args\":{\"name\":" ∷ json_string name ∷ codes "}}" ∷ [])
-event_bytes (Slice pid tid name begin lasts) = in_a_row (
-    codes "{\"ph\":\"X\",\"name\":" ∷ json_string name
-    ∷ codes ",\"pid\":" ∷ decimal pid ∷ codes ",\"tid\":" ∷ decimal tid
-    ∷ codes ",\"ts\":" ∷ decimal begin ∷ codes ",\"dur\":" ∷ decimal lasts ∷ codes "}" ∷ [])
-event_bytes (Counter pid time height) = in_a_row (
-    codes "{\"ph\":\"C\",\"name\":\"priority\",\"pid\":" ∷ decimal pid
-    ∷ codes ",\"ts\":" ∷ decimal time
-    ∷ codes ",\"args\":{\"255 - runs as\":" ∷ decimal height ∷ codes "}}" ∷ [])
-event_bytes (Flow id name from to tid time) = in_a_row (
-    codes "{\"ph\":\"s\",\"name\":" ∷ json_string name
-    ∷ codes ",\"cat\":\"lock\",\"id\":" ∷ decimal id
-    ∷ codes ",\"pid\":" ∷ decimal from ∷ codes ",\"tid\":" ∷ decimal turns_track
-    ∷ codes ",\"ts\":" ∷ decimal time
-    ∷ codes "},\n{\"ph\":\"f\",\"bp\":\"e\",\"name\":" ∷ json_string name
-    ∷ codes ",\"cat\":\"lock\",\"id\":" ∷ decimal id
-    ∷ codes ",\"pid\":" ∷ decimal to ∷ codes ",\"tid\":" ∷ decimal tid
-    ∷ codes ",\"ts\":" ∷ decimal time ∷ codes "}" ∷ [])
-event_bytes (Said pid name time) = in_a_row (
-    codes "{\"ph\":\"i\",\"s\":\"t\",\"name\":" ∷ json_string name
-    ∷ codes ",\"pid\":" ∷ decimal pid ∷ codes ",\"tid\":" ∷ decimal turns_track
-    ∷ codes ",\"ts\":" ∷ decimal time ∷ codes "}" ∷ [])
-event_bytes (Instant name time) = in_a_row (
-    codes "{\"ph\":\"i\",\"s\":\"g\",\"name\":" ∷ json_string name
-    ∷ codes ",\"pid\":1,\"tid\":1,\"ts\":" ∷ decimal time ∷ codes "}" ∷ [])
+abbrev pub linked : ℕ → Place → List (List ℕ × Value)
+linked id at = (codes "cat", String (codes "lock")) ∷ (codes "id", Number id) ∷ at_place at
+
+abbrev pub args : List ℕ → Value → List (List ℕ × Value)
+args name v = (codes "args", object ((name, v) ∷ [])) ∷ []
+
+-- as a value of JSON
+unfoldable pub event_value : Event → Value
+event_value (Process pid name) = named (codes "M") (codes "process_name")
+    ((codes "pid", Number pid) ∷ args (codes "name") (String name))
+event_value (Order pid) = named (codes "M") (codes "process_sort_index")
+    ((codes "pid", Number pid) ∷ args (codes "sort_index") (Number pid))
+event_value (Track pid tid name) = named (codes "M") (codes "thread_name")
+    ((codes "pid", Number pid) ∷ (codes "tid", Number tid) ∷ args (codes "name") (String name))
+event_value (Slice at name lasts) =
+    named (codes "X") name (at_place at ++ (codes "dur", Number lasts) ∷ [])
+event_value (Counter pid time height) = named (codes "C") (codes "priority")
+    ((codes "pid", Number pid) ∷ (codes "ts", Number time)
+    ∷ args (codes "255 - runs as") (Number height))
+event_value (From id name at) = named (codes "s") name (linked id at)
+event_value (To id name at) = object ((codes "ph", String (codes "f"))
+    ∷ (codes "bp", String (codes "e")) ∷ (codes "name", String name) ∷ linked id at)
+event_value (Said name at) = object ((codes "ph", String (codes "i"))
+    ∷ (codes "s", String (codes "t")) ∷ (codes "name", String name) ∷ at_place at)
+event_value (Ended name time) = object ((codes "ph", String (codes "i"))
+    ∷ (codes "s", String (codes "g")) ∷ (codes "name", String name)
+    ∷ at_place (record { pid = 1; tid = 1; time = time }))
 
 -- an event behind others: a comma, and a line of its own
 abbrev pub next_line : Event → List ℕ
-next_line event = codes ",\n" ++ event_bytes event
+next_line event = codes ",\n" ++ value_bytes (event_value event)
 
 -- events behind others
 abbrev pub next_lines : List Event → List ℕ
@@ -102,7 +100,10 @@ next_lines events = flat_map next_line events
 abbrev pub process_of : ThreadNo → ℕ
 process_of t = t.0 + 1
 
--- the tracks of a thread's waits and of its walks, and that of its holds of a lock
+-- the tracks of a thread's turns, of its waits and of its walks, and that of its holds of a lock
+abbrev pub turns_track : ℕ
+turns_track = 1
+
 abbrev pub waits_track : ℕ
 waits_track = 2
 
@@ -128,12 +129,17 @@ time_of turn = turn * 1000
 abbrev pub begin_of : ℕ → ℕ
 begin_of row = time_of (row - 1)
 
+-- a track of a thread's process, and a time
+abbrev pub place : ThreadNo → ℕ → ℕ → Place
+place t tid time = record { pid = process_of t; tid = tid; time = time }
+
 -- 3. The events of a chart
 
 -- a thread is a process with a track for its turns, one for its waits and one for its walks
 abbrev pub lane_events : Plan → Lane → List Event
 lane_events plan lane =
     Process (process_of lane.thread) (thread_name plan lane.thread.0)
+    ∷ Order (process_of lane.thread)
     ∷ Track (process_of lane.thread) turns_track (codes "turns")
     ∷ Track (process_of lane.thread) waits_track (codes "waits")
     ∷ Track (process_of lane.thread) walks_track (codes "walks") ∷ []
@@ -149,18 +155,18 @@ is_first_there None bar = true
 is_first_there (Some before) bar = is_other before bar
 
 -- the track of a lock that a thread holds
-abbrev pub hold_tracks : Plan → ThreadNo → BarKind → List Event
-hold_tracks plan t (bar.Holds l mode) =
+abbrev pub hold_track : Plan → ThreadNo → BarKind → List Event
+hold_track plan t (bar.Holds l mode) =
     Track (process_of t) (holds_track l) (lock_name plan l.0) ∷ []
-hold_tracks plan t (bar.Waits q) = []
-hold_tracks plan t (bar.TakenOff q) = []
-hold_tracks plan t (bar.Woken q) = []
-hold_tracks plan t bar.Walks = []
+hold_track plan t (bar.Waits q) = []
+hold_track plan t (bar.TakenOff q) = []
+hold_track plan t (bar.Woken q) = []
+hold_track plan t bar.Walks = []
 
 -- that of a bar, unless the bar before it lies there too
 abbrev pub lock_track : Plan → Option Bar → Bar → List Event
 lock_track plan before bar =
-    if is_first_there before bar then hold_tracks plan bar.thread bar.what else []
+    if is_first_there before bar then hold_track plan bar.thread bar.what else []
 
 -- a track for each lock that a thread holds, whose bars follow upon each other
 abbrev pub lock_tracks : Plan → Option Bar → List Bar → List Event
@@ -170,13 +176,17 @@ lock_tracks plan before (bar ∷ bars) =
 
 -- a bar is a slice on its thread's process and its kind's track, from the turn that began it to
 -- the turn that ended it
-abbrev pub bar_event : Plan → Bar → Event
-bar_event plan bar = Slice (process_of bar.thread) (track_of bar.what) (bar_words plan bar.what)
-    (begin_of bar.first) (time_of bar.last - begin_of bar.first)
+abbrev pub bar_events : Plan → Bar → List Event
+bar_events plan bar = Slice (place bar.thread (track_of bar.what) (begin_of bar.first))
+    (bar_words plan bar.what) (time_of bar.last - begin_of bar.first) ∷ []
+
+-- where a turn's slice lies, and what is said of the turn
+abbrev pub at_turn : ThreadNo → ℕ → Place
+at_turn t turn = place t turns_track (time_of turn)
 
 -- a turn is a slice of a millisecond
 abbrev pub turn_slice : TurnMark → List ℕ → Event
-turn_slice m name = Slice (process_of m.thread) turns_track name (time_of m.turn) 1000
+turn_slice m name = Slice (at_turn m.thread m.turn) name 1000
 
 -- its name is its word and what its event tells, with a lost wake; an idle turn has no slice
 abbrev pub turn_events : Plan → TurnMark → MarkKind → List Event
@@ -190,14 +200,14 @@ abbrev pub mark_events : Plan → TurnMark → List Event
 mark_events plan m = turn_events plan m m.what
 
 -- a sentence is said at its turn, of the thread whose turn it was
-abbrev pub sentence_event : Plan → Sentence → Event
-sentence_event plan s = Said (process_of s.thread) (sentence_words plan s) (time_of s.turn)
+abbrev pub sentence_events : Plan → Sentence → List Event
+sentence_events plan s = Said (sentence_words plan s) (at_turn s.thread s.turn) ∷ []
 
 -- A step of priorities is how important its thread is from then on: the smaller the priority by which it runs, the
 -- higher.
-abbrev pub step_event : PrioSpan → Event
-step_event step =
-    Counter (process_of step.thread) (begin_of step.first) (255 - step.effective.0)
+abbrev pub step_events : Plan → PrioSpan → List Event
+step_events plan step =
+    Counter (process_of step.thread) (begin_of step.first) (255 - step.effective.0) ∷ []
 
 -- the lock for which a sentence says that its thread lent
 abbrev pub lock_lent : Saying → Option LockNo
@@ -216,8 +226,7 @@ lent_in s turn = if s.turn == turn then lock_lent s.saying else None
 
 -- the lock for which a turn's thread lent, as the turn's sentence says, or the last of them
 abbrev pub loan_lock : List Sentence → ℕ → Option LockNo
-loan_lock [] turn = None
-loan_lock (s ∷ sentences) turn = option_or (loan_lock sentences turn) (lent_in s turn)
+loan_lock sentences turn = fold (λ found s. option_or (lent_in s turn) found) None sentences
 
 -- where an arrow ends: a wake on the track of waits, and a loan on that of the lock that it is for
 abbrev pub end_of : Option LockNo → ArrowKind → Option ℕ
@@ -227,11 +236,12 @@ end_of l arrow.BlockedOn = None
 end_of l arrow.Behind = None
 end_of l arrow.Refused = None
 
--- an arrow that ends on a track is a flow
+-- an arrow that ends on a track begins on that of turns
 abbrev pub flow_to : ℕ → Arrow → Option ℕ → List Event
 flow_to id arrow None = []
-flow_to id arrow (Some track) = Flow id (arrow_words arrow)
-    (process_of arrow.from) (process_of arrow.to) track (time_of arrow.turn) ∷ []
+flow_to id arrow (Some track) =
+    From id (arrow_words arrow) (at_turn arrow.from arrow.turn)
+    ∷ To id (arrow_words arrow) (place arrow.to track (time_of arrow.turn)) ∷ []
 
 -- wakes and loans are flows, by the numbers of their arrows
 abbrev pub arrow_events : List Sentence → ℕ → List Arrow → List Event
@@ -242,26 +252,30 @@ arrow_events sentences id (arrow ∷ arrows) =
 
 -- how the run ended is said at the time of the last row
 abbrev pub end_event : Chart → Event
-end_event chart = Instant (headline chart.end) (time_of chart.last)
+end_event chart = Ended (headline chart.end) (time_of chart.last)
 
 -- the others: names of processes and tracks, and then bars, turns, sentences, priorities and arrows
 unfoldable pub other_events : Plan → Chart → List Event
 other_events plan chart =
     flat_map (lane_events plan) chart.lanes ++ lock_tracks plan None chart.bars
-    ++ map (bar_event plan) chart.bars ++ flat_map (mark_events plan) chart.marks
-    ++ map (sentence_event plan) chart.sentences ++ map step_event chart.steps
+    ++ flat_map (bar_events plan) chart.bars ++ flat_map (mark_events plan) chart.marks
+    ++ flat_map (sentence_events plan) chart.sentences ++ flat_map (step_events plan) chart.steps
     ++ arrow_events chart.sentences 0 chart.arrows
 
--- 4. The whole trace: a title and the events
+-- 4. The whole trace
 
--- what stands before the events: the unit of times, and the title
-unfoldable pub beginning : List ℕ → List ℕ
-beginning title = in_a_row (
-    codes "{\"displayTimeUnit\":\"ms\",\"otherData\":{\"title\":" ∷ json_string title
-    ∷ codes "},\"traceEvents\":" ∷ [])
+-- the unit of times, the title, and the events, each on a line of its own
+abbrev pub trace_value : Plan → Chart → List ℕ → Value
+trace_value plan chart title = object (
+    (codes "displayTimeUnit", String (codes "ms"))
+    ∷ (codes "otherData", object ((codes "title", String title) ∷ []))
+    ∷ (codes "traceEvents", list event_value (end_event chart ∷ other_events plan chart)) ∷ [])
 
--- the title, and the events in an array, each on a line of its own
 abbrev pub trace_bytes : Plan → Chart → List ℕ → List ℕ
-trace_bytes plan chart title =
-    beginning title ++ codes "[" ++ codes "\n" ++ event_bytes (end_event chart)
-    ++ next_lines (other_events plan chart) ++ codes "]" ++ codes "}\n"
+trace_bytes plan chart title = text_bytes (trace_value plan chart title)
+
+-- what stands in it before the events behind the first
+abbrev pub beginning : Chart → List ℕ → List ℕ
+beginning chart title =
+    codes "{\"displayTimeUnit\":\"ms\",\"otherData\":{\"title\":" ++ (json_string title
+    ++ (codes "},\"traceEvents\":[\n" ++ value_bytes (event_value (end_event chart))))

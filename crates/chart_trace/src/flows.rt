@@ -1,15 +1,17 @@
 //! Wakes and loans as arrows from slice to slice: from the turn to the waiter's slice, or to the slice of the lock that
 //! the owner holds.
 
-ghost use Rattle.std.specs.Prelude.{◌≡◌, ◌++◌, ℕ, nat_eq, IfOk, OnOk};
+ghost use Rattle.std.specs.Prelude.{◌≡◌, ◌++◌, codes, ℕ, nat_eq, IfOk, OnOk};
 ghost use Rattle.std.specs.Option.{option_or};
 ghost use Rattle.std.specs.HashMap as table;
-ghost use Rattle.chart_escape.specs.JsonReader.{AddsItems, IsBehindItem};
-ghost use Rattle.chart_trace.specs.Events.{Flow, arrow_events, end_of, flow_to, lent_in, loan_lock, lock_lent, next_line, next_lines, process_of, time_of};
-ghost use Rattle.chart_words.specs.Words.{arrow_words};
+ghost use Rattle.chart_escape.specs.Json.{json_string};
+ghost use Rattle.chart_escape.specs.Values.{number_bytes};
+ghost use Rattle.chart_trace.specs.Events.{From, To, arrow_events, end_of, flow_to, lent_in, loan_lock, lock_lent, next_line, next_lines};
 
-use crate::tracks::{TURNS, holds_of, process_of, time_of, waits};
-use chart_escape::{Piece, push_items};
+use crate::told::Pushed;
+use crate::tracks::{Place, TURNS, WAITS, holds_of, place_of, time_of};
+use chart_escape::Piece::{Json, Number, Own};
+use chart_escape::push_tokens;
 use chart_layout::{Arrow, ArrowKind, Saying, Sentence};
 use chart_words::push_arrow;
 use lock_model::LockNo;
@@ -22,17 +24,14 @@ pub fn push_flows(
     out: &mut Vec<u8>,
     arrows: &[Arrow],
     sentences: &[Sentence],
-) -> Result<(), AllocError>
-    requires { IsBehindItem out.old.items }
-    ensures pushed { OnOk result (out.new.items
+) -> Pushed
+    ensures { OnOk result (out.new.items
         ≡ out.old.items ++ next_lines (arrow_events sentences.now 0 arrows.now)) }
-    ensures reads { OnOk result (AddsItems out.old.items out.new.items) }
 {
     let locks = loan_locks(alloc, sentences)?;
     for (id, arrow) in arrows.iter().enumerate() {
         let lock = locks.get(&arrow.turn).copied();
-        let track = end_of(lock, arrow.kind);
-        push_flow_to(alloc, out, id as u64, *arrow, track)?;
+        push_flow_to(alloc, out, id as u64, *arrow, end_of(lock, arrow.kind))?;
     }
     Ok(())
 }
@@ -49,7 +48,7 @@ fn loan_locks(alloc: Global, sentences: &[Sentence]) -> Result<HashMap<u32, Lock
     Ok(locks)
 }
 
-fn add_loan(locks: &mut HashMap<u32, LockNo>, sentence: &Sentence) -> Result<(), AllocError>
+fn add_loan(locks: &mut HashMap<u32, LockNo>, sentence: &Sentence) -> Pushed
     ensures { OnOk result ((turn : ℕ) → table.get nat_eq locks.new turn
         ≡ option_or (lent_in sentence.now turn) (table.get nat_eq locks.old turn)) }
 {
@@ -79,7 +78,7 @@ fn end_of(lock: Option<LockNo>, kind: ArrowKind) -> Option<u64>
     ensures { result ≡ end_of lock kind }
 {
     match kind {
-        ArrowKind::Wakes => Some(waits()),
+        ArrowKind::Wakes => Some(WAITS),
         ArrowKind::Lends { .. } => match lock {
             Some(l) => Some(holds_of(l)),
             None => None,
@@ -94,78 +93,54 @@ fn push_flow_to(
     id: u64,
     arrow: Arrow,
     track: Option<u64>,
-) -> Result<(), AllocError>
-    requires { IsBehindItem out.old.items }
-    ensures pushed { OnOk result (out.new.items
+) -> Pushed
+    ensures { OnOk result (out.new.items
         ≡ out.old.items ++ next_lines (flow_to id arrow track)) }
-    ensures reads { OnOk result (AddsItems out.old.items out.new.items) }
 {
     match track {
-        Some(track) => push_flow(alloc, out, id, arrow, track),
+        Some(track) => {
+            let mut name = Vec::new(alloc);
+            push_arrow(&mut name, arrow)?;
+            let time = time_of(arrow.turn);
+            let from = place_of(arrow.from, TURNS, time);
+            push_flow(out, id, &name, from, place_of(arrow.to, track, time))
+        }
         None => Ok(()),
     }
 }
 
 // Both ends of an arrow.
-fn push_flow(
-    alloc: Global,
-    out: &mut Vec<u8>,
-    id: u64,
-    arrow: Arrow,
-    track: u64,
-) -> Result<(), AllocError>
-    requires { IsBehindItem out.old.items }
-    ensures pushed { OnOk result (out.new.items
-        ≡ out.old.items ++ next_line (Flow id (arrow_words arrow) (process_of arrow.from)
-        (process_of arrow.to) track (time_of arrow.turn))) }
-    ensures reads { OnOk result (AddsItems out.old.items out.new.items) }
+#[tactic(auto, unfolding(crate::specs::Events::event_value))]
+fn push_flow(out: &mut Vec<u8>, id: u64, name: &[u8], from: Place, to: Place) -> Pushed
+    ensures { OnOk result (out.new.items ≡ out.old.items ++ next_line (From id name.now from)
+        ++ next_line (To id name.now to)) }
 {
-    let mut name = Vec::new(alloc);
-    push_arrow(&mut name, arrow)?;
-    let from = process_of(arrow.from);
-    let to = process_of(arrow.to);
-    push_ends(out, id, &name, from, to, track, time_of(arrow.turn))
+    push_end(out, ",\n{\"ph\":\"s\",\"name\":", id, name, from)?;
+    push_end(out, ",\n{\"ph\":\"f\",\"bp\":\"e\",\"name\":", id, name, to)
 }
 
-#[tactic(auto, unfolding(crate::specs::Events::event_bytes))]
-fn push_ends(
-    out: &mut Vec<u8>,
-    id: u64,
-    name: &[u8],
-    from: u64,
-    to: u64,
-    track: u64,
-    time: u64,
-) -> Result<(), AllocError>
-    requires { IsBehindItem out.old.items }
-    ensures pushed { OnOk result (out.new.items
-        ≡ out.old.items ++ next_line (Flow id name.now from to track time)) }
-    ensures reads { OnOk result (AddsItems out.old.items out.new.items) }
+fn push_end(out: &mut Vec<u8>, begin: &'static str, id: u64, name: &[u8], at: Place) -> Pushed
+    ensures { OnOk result (out.new.items
+        ≡ out.old.items ++ (begin.now ++ (json_string name.now
+        ++ (codes ",\"cat\":\"lock\",\"id\":" ++ (number_bytes id
+        ++ (codes ",\"pid\":" ++ (number_bytes at.pid ++ (codes ",\"tid\":" ++ (number_bytes at.tid
+        ++ (codes ",\"ts\":" ++ (number_bytes at.time ++ codes "}"))))))))))) }
 {
-    push_items(
+    let Place { pid, tid, time } = at;
+    push_tokens(
         out,
         &[
-            Piece::Own(",\n{\"ph\":\"s\",\"name\":"),
-            Piece::Json(name),
-            Piece::Own(",\"cat\":\"lock\",\"id\":"),
-            Piece::Number(id),
-            Piece::Own(",\"pid\":"),
-            Piece::Number(from),
-            Piece::Own(",\"tid\":"),
-            Piece::Number(TURNS),
-            Piece::Own(",\"ts\":"),
-            Piece::Number(time),
-            Piece::Own("},\n{\"ph\":\"f\",\"bp\":\"e\",\"name\":"),
-            Piece::Json(name),
-            Piece::Own(",\"cat\":\"lock\",\"id\":"),
-            Piece::Number(id),
-            Piece::Own(",\"pid\":"),
-            Piece::Number(to),
-            Piece::Own(",\"tid\":"),
-            Piece::Number(track),
-            Piece::Own(",\"ts\":"),
-            Piece::Number(time),
-            Piece::Own("}"),
+            Own(begin),
+            Json(name),
+            Own(",\"cat\":\"lock\",\"id\":"),
+            Number(id),
+            Own(",\"pid\":"),
+            Number(pid),
+            Own(",\"tid\":"),
+            Number(tid),
+            Own(",\"ts\":"),
+            Number(time),
+            Own("}"),
         ],
     )
 }

@@ -3,6 +3,7 @@
 //! and one for each lock that it held; a counter is its priority, and arrows go from slice to slice.
 //!
 //! - `tracing`: the whole trace.
+//! - `told`: what events tell, one thing after the other.
 //! - `tracks`: where slices lie, and what the tracks are called.
 //! - `slices`: bars and turns as slices, what is said of turns as instants, and priorities as counters.
 //! - `flows`: wakes and loans as arrows.
@@ -10,6 +11,7 @@
 
 mod flows;
 mod slices;
+mod told;
 mod tracing;
 mod tracks;
 

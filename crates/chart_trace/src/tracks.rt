@@ -1,20 +1,40 @@
 //! Where slices lie. A process is a thread of the plan, and no two slices of a track of its overlap: a thread stands on
 //! one queue at most, it holds a lock in one mode at most, and it makes one turn at a time.
 
-ghost use Rattle.std.specs.Prelude.{◌≡◌, ◌++◌, [], None, flat_map, OnOk};
-ghost use Rattle.lock_model.specs.Text.{lock_name};
-ghost use Rattle.chart_escape.specs.JsonReader.{AddsItems, IsBehindItem};
-ghost use Rattle.chart_trace.specs.Events.{Process, Track, hold_tracks, holds_track, is_first_there, is_other, lane_events, lock_track, lock_tracks, next_line, next_lines, process_of, time_of, track_of, waits_track};
+ghost use Rattle.std.specs.Prelude.{◌≡◌, ◌++◌, None, OnOk};
+ghost use Rattle.chart_trace.specs.Events.{Order, Process, Track, holds_track, is_first_there, is_other, lane_events, lock_track, lock_tracks, next_line, next_lines, place, process_of, time_of, track_of};
 
-use chart_escape::{Piece, push_items};
+use crate::told::{Pushed, Told};
+use chart_escape::Piece::{Json, Number, Own};
+use chart_escape::push_tokens;
 use chart_layout::{Bar, BarKind, Lane};
 use lock_model::{LockNo, Plan, ThreadNo};
-use std::alloc::AllocError;
+use std::alloc::Global;
+
+/// A track of a process, and a time in microseconds.
+#[derive(Clone, Copy)]
+pub struct Place {
+    pub pid: u64,
+    pub tid: u64,
+    pub time: u64,
+}
+
+/// The place on a thread's track of that number.
+pub fn place_of(t: ThreadNo, tid: u64, time: u64) -> Place
+    ensures { result ≡ place t tid time }
+{
+    Place {
+        pid: process_of(t),
+        tid,
+        time,
+    }
+}
 
 /// The track of a thread's turns.
 pub const TURNS: u64 = 1;
 
-const WAITS: u64 = 2;
+/// That of its waits.
+pub const WAITS: u64 = 2;
 
 const WALKS: u64 = 3;
 
@@ -35,13 +55,6 @@ pub fn holds_of(l: LockNo) -> u64
     HOLDS + u64::from(l.0)
 }
 
-/// The track of the waits on a queue.
-pub fn waits() -> u64
-    ensures { result ≡ waits_track }
-{
-    WAITS
-}
-
 /// The track of a bar.
 pub fn track_of(what: BarKind) -> u64
     ensures { result ≡ track_of what }
@@ -60,38 +73,24 @@ pub fn time_of(turn: u32) -> u64
     u64::from(turn) * 1000
 }
 
-/// Pushes what processes and their first tracks are called.
-pub fn push_names(out: &mut Vec<u8>, plan: &Plan, lanes: &[Lane]) -> Result<(), AllocError>
-    requires { IsBehindItem out.old.items }
-    ensures pushed { OnOk result (out.new.items
-        ≡ out.old.items ++ next_lines (flat_map (lane_events plan.now) lanes.now)) }
-    ensures reads { OnOk result (AddsItems out.old.items out.new.items) }
-{
-    for lane in lanes {
-        push_lane(out, plan, *lane)?;
-    }
-    Ok(())
-}
+/// What its process and its first tracks are called.
+impl Told for Lane {
+    ghost events = { lane_events };
 
-fn push_lane(out: &mut Vec<u8>, plan: &Plan, lane: Lane) -> Result<(), AllocError>
-    requires { IsBehindItem out.old.items }
-    ensures pushed { OnOk result (out.new.items
-        ≡ out.old.items ++ next_lines (lane_events plan.now lane)) }
-    ensures reads { OnOk result (AddsItems out.old.items out.new.items) }
-{
-    let pid = process_of(lane.thread);
-    push_process(out, pid, plan.thread_name(lane.thread))?;
-    push_track(out, pid, TURNS, b"turns")?;
-    push_track(out, pid, WAITS, b"waits")?;
-    push_track(out, pid, WALKS, b"walks")
+    fn push(&self, _alloc: Global, out: &mut Vec<u8>, plan: &Plan) -> Pushed {
+        let pid = process_of(self.thread);
+        push_process(out, pid, plan.thread_name(self.thread))?;
+        push_order(out, pid)?;
+        push_track(out, pid, TURNS, b"turns")?;
+        push_track(out, pid, WAITS, b"waits")?;
+        push_track(out, pid, WALKS, b"walks")
+    }
 }
 
 /// Pushes a track for each lock that a thread holds. Its bars follow upon each other.
-pub fn push_locks(out: &mut Vec<u8>, plan: &Plan, bars: &[Bar]) -> Result<(), AllocError>
-    requires { IsBehindItem out.old.items }
-    ensures pushed { OnOk result (out.new.items
+pub fn push_locks(out: &mut Vec<u8>, plan: &Plan, bars: &[Bar]) -> Pushed
+    ensures { OnOk result (out.new.items
         ≡ out.old.items ++ next_lines (lock_tracks plan.now None bars.now)) }
-    ensures reads { OnOk result (AddsItems out.old.items out.new.items) }
 {
     let mut before = None;
     for bar in bars {
@@ -102,33 +101,16 @@ pub fn push_locks(out: &mut Vec<u8>, plan: &Plan, bars: &[Bar]) -> Result<(), Al
 }
 
 // The track of a bar, unless the bar before it lies there too.
-fn push_lock(
-    out: &mut Vec<u8>,
-    plan: &Plan,
-    before: Option<Bar>,
-    bar: Bar,
-) -> Result<(), AllocError>
-    requires { IsBehindItem out.old.items }
-    ensures pushed { OnOk result (out.new.items
+fn push_lock(out: &mut Vec<u8>, plan: &Plan, before: Option<Bar>, bar: Bar) -> Pushed
+    ensures { OnOk result (out.new.items
         ≡ out.old.items ++ next_lines (lock_track plan.now before bar)) }
-    ensures reads { OnOk result (AddsItems out.old.items out.new.items) }
 {
-    if is_first_there(before, bar) {
-        push_hold(out, plan, bar.thread, bar.what)
-    } else {
-        Ok(())
+    if !is_first_there(before, bar) {
+        return Ok(());
     }
-}
-
-fn push_hold(out: &mut Vec<u8>, plan: &Plan, t: ThreadNo, what: BarKind) -> Result<(), AllocError>
-    requires { IsBehindItem out.old.items }
-    ensures pushed { OnOk result (out.new.items
-        ≡ out.old.items ++ next_lines (hold_tracks plan.now t what)) }
-    ensures reads { OnOk result (AddsItems out.old.items out.new.items) }
-{
-    match what {
+    match bar.what {
         BarKind::Holds { l, .. } => {
-            push_track(out, process_of(t), holds_of(l), plan.lock_name(l))
+            push_track(out, process_of(bar.thread), holds_of(l), plan.lock_name(l))
         }
         BarKind::Waits { .. } | BarKind::TakenOff { .. } | BarKind::Woken { .. } | BarKind::Walks =>
             Ok(()),
@@ -151,46 +133,53 @@ fn is_other(before: Bar, bar: Bar) -> bool
     before.thread != bar.thread || track_of(before.what) != track_of(bar.what)
 }
 
-#[tactic(auto, unfolding(crate::specs::Events::event_bytes))]
-fn push_process(out: &mut Vec<u8>, pid: u64, name: &[u8]) -> Result<(), AllocError>
-    requires { IsBehindItem out.old.items }
-    ensures pushed { OnOk result (out.new.items
-        ≡ out.old.items ++ next_line (Process pid name.now)) }
-    ensures reads { OnOk result (AddsItems out.old.items out.new.items) }
+#[tactic(auto, unfolding(crate::specs::Events::event_value))]
+fn push_process(out: &mut Vec<u8>, pid: u64, name: &[u8]) -> Pushed
+    ensures { OnOk result (out.new.items ≡ out.old.items ++ next_line (Process pid name.now)) }
 {
-    push_items(
+    push_tokens(
         out,
         &[
-            Piece::Own(",\n{\"ph\":\"M\",\"name\":\"process_name\",\"pid\":"),
-            Piece::Number(pid),
-            Piece::Own(",\"args\":{\"name\":"),
-            Piece::Json(name),
-            Piece::Own("}},\n{\"ph\":\"M\",\"name\":\"process_sort_index\",\"pid\":"),
-            Piece::Number(pid),
-            Piece::Own(",\"args\":{\"sort_index\":"),
-            Piece::Number(pid),
-            Piece::Own("}}"),
+            Own(",\n{\"ph\":\"M\",\"name\":\"process_name\",\"pid\":"),
+            Number(pid),
+            Own(",\"args\":{\"name\":"),
+            Json(name),
+            Own("}}"),
         ],
     )
 }
 
-#[tactic(auto, unfolding(crate::specs::Events::event_bytes))]
-fn push_track(out: &mut Vec<u8>, pid: u64, tid: u64, name: &[u8]) -> Result<(), AllocError>
-    requires { IsBehindItem out.old.items }
-    ensures pushed { OnOk result (out.new.items
-        ≡ out.old.items ++ next_line (Track pid tid name.now)) }
-    ensures reads { OnOk result (AddsItems out.old.items out.new.items) }
+#[tactic(auto, unfolding(crate::specs::Events::event_value))]
+fn push_order(out: &mut Vec<u8>, pid: u64) -> Pushed
+    ensures { OnOk result (out.new.items ≡ out.old.items ++ next_line (Order pid)) }
 {
-    push_items(
+    push_tokens(
         out,
         &[
-            Piece::Own(",\n{\"ph\":\"M\",\"name\":\"thread_name\",\"pid\":"),
-            Piece::Number(pid),
-            Piece::Own(",\"tid\":"),
-            Piece::Number(tid),
-            Piece::Own(",\"args\":{\"name\":"),
-            Piece::Json(name),
-            Piece::Own("}}"),
+            Own(",\n{\"ph\":\"M\",\"name\":\"process_sort_index\",\"pid\":"),
+            Number(pid),
+            Own(",\"args\":{\"sort_index\":"),
+            Number(pid),
+            Own("}}"),
+        ],
+    )
+}
+
+#[tactic(auto, unfolding(crate::specs::Events::event_value))]
+fn push_track(out: &mut Vec<u8>, pid: u64, tid: u64, name: &[u8]) -> Pushed
+    ensures { OnOk result (out.new.items
+        ≡ out.old.items ++ next_line (Track pid tid name.now)) }
+{
+    push_tokens(
+        out,
+        &[
+            Own(",\n{\"ph\":\"M\",\"name\":\"thread_name\",\"pid\":"),
+            Number(pid),
+            Own(",\"tid\":"),
+            Number(tid),
+            Own(",\"args\":{\"name\":"),
+            Json(name),
+            Own("}}"),
         ],
     )
 }

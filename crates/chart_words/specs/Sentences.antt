@@ -32,12 +32,6 @@ waiting_words plan l holders (Some writer) =
     codes " waits for " ++ lock_name plan l.0 ++ codes ": " ++ thread_names plan holders
     ++ reading_words (length holders) ++ thread_name plan writer.0 ++ codes " came first"
 
--- to whom it lends, for which lock, and what that changes of the owner's priority
-unfoldable pub loan_words : Plan → ThreadNo → LockNo → Prio → Prio → List ℕ
-loan_words plan to l before prio =
-    codes " lends " ++ decimal prio.0 ++ codes " to " ++ thread_name plan to.0
-    ++ codes ", the owner of " ++ lock_name plan l.0 ++ change_words before prio
-
 -- whether the walk goes on behind a loan
 unfoldable pub walk_words : Bool → List ℕ
 walk_words goes_on = if goes_on then codes ", and the walk goes on" else []
@@ -67,7 +61,9 @@ heard_words plan (t ∷ ts) = to_wake_words plan (t ∷ ts)
 unfoldable pub saying_words : Plan → Saying → List ℕ
 saying_words plan (Waits l holders behind) = waiting_words plan l holders behind
 saying_words plan (Lends to l before prio goes_on) =
-    loan_words plan to l before prio ++ walk_words goes_on
+    codes " lends " ++ decimal prio.0 ++ codes " to " ++ thread_name plan to.0
+    ++ codes ", the owner of " ++ lock_name plan l.0 ++ change_words before prio
+    ++ walk_words goes_on
 saying_words plan (Sorts other l) =
     codes " sorts " ++ thread_name plan other.0 ++ codes " anew among the waiters of "
     ++ lock_name plan l.0

@@ -1,6 +1,5 @@
 -- What a chart says of its bars, arrows and marks, and of the queues and threads that it names.
-use Rattle.std.specs.Prelude.{ℕ, Bool, ◌==◌, if◌then◌else◌, List, [], ◌∷◌, ◌++◌, map, codes, decimal, Option, Some, None}
-use Rattle.lock_model.specs.Counts.{is_empty}
+use Rattle.std.specs.Prelude.{ℕ, Bool, ◌==◌, if◌then◌else◌, List, [], ◌∷◌, ◌++◌, codes, decimal, Option, Some, None}
 use Rattle.lock_model.specs.Text.{spaced, mode_letter, found_word, queue_word, thread_name, lock_name, lock_kind, chan_name, class_name}
 use Rattle.lock_model.specs.Events.{wakes_nobody}
 use Rattle.lock_model.specs.Plans.{lock_class}
@@ -38,19 +37,18 @@ queue_words plan (queue.Lock l) = codes "waits for " ++ lock_name plan l.0
 queue_words plan (queue.Chan c) = codes "sleeps on " ++ chan_name plan c.0
 
 -- names that follow another: each behind a comma, but the last behind `and`
-abbrev pub other_names : List (List ℕ) → List ℕ
-other_names [] = []
-other_names (name ∷ names) =
-    (if is_empty names then codes " and " else codes ", ") ++ name ++ other_names names
+abbrev pub between : List ThreadNo → List ℕ
+between [] = codes " and "
+between (t ∷ ts) = codes ", "
 
--- names in a row: `a`, `a and b`, `a, b and c`
-abbrev pub names_in_a_row : List (List ℕ) → List ℕ
-names_in_a_row [] = []
-names_in_a_row (name ∷ names) = name ++ other_names names
+abbrev pub other_names : Plan → List ThreadNo → List ℕ
+other_names plan [] = []
+other_names plan (t ∷ ts) = between ts ++ thread_name plan t.0 ++ other_names plan ts
 
--- the names of threads
+-- the names of threads: `a`, `a and b`, `a, b and c`
 unfoldable pub thread_names : Plan → List ThreadNo → List ℕ
-thread_names plan threads = names_in_a_row (map (λ t. thread_name plan t.0) threads)
+thread_names plan [] = []
+thread_names plan (t ∷ ts) = thread_name plan t.0 ++ other_names plan ts
 
 -- 2. Bars
 

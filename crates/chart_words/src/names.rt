@@ -1,10 +1,10 @@
-//! The names of what stands in a plan, and lists of them.
+//! The names of what stands in a plan, and lists of them; and words with a name or a priority behind them.
 
-ghost use Rattle.std.specs.Prelude.{◌≡◌, ◌++◌, codes, OnOk};
+ghost use Rattle.std.specs.Prelude.{◌≡◌, ◌++◌, codes, decimal, OnOk};
 ghost use Rattle.lock_model.specs.Text.{class_name};
-ghost use Rattle.chart_words.specs.Words.{queue_name, queue_words, thread_names};
+ghost use Rattle.chart_words.specs.Words.{between, other_names, queue_name, queue_words, thread_names};
 
-use lock_model::{ClassNo, Plan, QueueName, ThreadNo};
+use lock_model::{ClassNo, Plan, Prio, QueueName, ThreadNo, push_digits};
 use std::alloc::AllocError;
 
 /// The name of what a queue belongs to.
@@ -30,22 +30,38 @@ pub fn push_queue(out: &mut Vec<u8>, plan: &Plan, q: QueueName) -> Result<(), Al
 }
 
 /// Pushes the names of threads: `a`, `a and b`, `a, b and c`.
+#[tactic(auto, unfolding(crate::specs::Words::thread_names))]
 pub fn push_threads(out: &mut Vec<u8>, plan: &Plan, threads: &[ThreadNo]) -> Result<(), AllocError>
     ensures { OnOk result (out.new.items
         ≡ out.old.items ++ thread_names plan.now threads.now) }
 {
-    for (i, t) in threads.iter().enumerate() {
-        if i > 0 {
-            let between: &[u8] = if i + 1 == threads.len() {
-                b" and "
-            } else {
-                b", "
-            };
-            out.extend_from_slice(between)?;
-        }
-        out.extend_from_slice(plan.thread_name(*t))?;
+    let Some((first, others)) = threads.split_first() else {
+        return Ok(());
+    };
+    out.extend_from_slice(plan.thread_name(*first))?;
+    push_others(out, plan, others)
+}
+
+// Names that follow another.
+fn push_others(out: &mut Vec<u8>, plan: &Plan, threads: &[ThreadNo]) -> Result<(), AllocError>
+    ensures { OnOk result (out.new.items ≡ out.old.items ++ other_names plan.now threads.now) }
+{
+    let mut left = threads;
+    while let Some((t, behind)) = left.split_first() {
+        push_named(out, between(behind), plan.thread_name(*t))?;
+        left = behind;
     }
     Ok(())
+}
+
+// What stands before a name that others are behind, or none.
+fn between(behind: &[ThreadNo]) -> &'static [u8]
+    ensures { result.now ≡ between behind.now }
+{
+    match behind {
+        [] => b" and ",
+        [_, ..] => b", ",
+    }
 }
 
 /// Pushes words, and a name.
@@ -54,6 +70,14 @@ pub fn push_named(out: &mut Vec<u8>, words: &[u8], name: &[u8]) -> Result<(), Al
 {
     out.extend_from_slice(words)?;
     out.extend_from_slice(name)
+}
+
+/// Pushes words, and a priority.
+pub fn push_prio(out: &mut Vec<u8>, words: &[u8], prio: Prio) -> Result<(), AllocError>
+    ensures { OnOk result (out.new.items ≡ out.old.items ++ words.now ++ decimal prio.0) }
+{
+    out.extend_from_slice(words)?;
+    push_digits(out, u64::from(prio.0))
 }
 
 /// Pushes under which class a lock was refused.

@@ -1,14 +1,14 @@
 //! What is said of turns, and of the end.
 
 ghost use Rattle.std.specs.Prelude.{◌≡◌, ◌++◌, codes, decimal, length, OnOk};
-ghost use Rattle.lock_model.specs.Text.{chan_name, lock_name, thread_name};
+ghost use Rattle.lock_model.specs.Text.{lock_name, thread_name};
 ghost use Rattle.chart_words.specs.Sentences.{change_words, claim_words, end_words, given_back_words, headline, heard_words, reading_words, saying_words, sentence_words, to_wake_words, waiting_words, walk_words};
-ghost use Rattle.chart_words.specs.Words.{refusal_words, thread_names};
+ghost use Rattle.chart_words.specs.Words.{thread_names};
 
-use crate::names::{push_named, push_queue, push_threads};
+use crate::names::{push_named, push_prio, push_queue, push_threads};
 use crate::things::push_refusal;
 use chart_layout::{End, Saying, Sentence};
-use lock_model::{ChanNo, ClassNo, LockNo, Plan, Prio, ThreadNo, push_digits};
+use lock_model::{LockNo, Plan, Prio, ThreadNo, push_digits};
 use std::alloc::AllocError;
 
 /// Pushes what is said of a turn: `high waits for bus, held by low`.
@@ -22,7 +22,7 @@ pub fn push_sentence(out: &mut Vec<u8>, plan: &Plan, sentence: &Sentence) -> Res
 }
 
 /// The same without the name of the thread: ` waits for bus, held by low`.
-#[tactic(auto, unfolding(crate::specs::Sentences::saying_words, crate::specs::Sentences::loan_words))]
+#[tactic(auto, unfolding(crate::specs::Sentences::saying_words))]
 pub fn push_saying(out: &mut Vec<u8>, plan: &Plan, saying: &Saying) -> Result<(), AllocError>
     ensures { OnOk result (out.new.items ≡ out.old.items ++ saying_words plan.now saying.now) }
 {
@@ -57,12 +57,19 @@ pub fn push_saying(out: &mut Vec<u8>, plan: &Plan, saying: &Saying) -> Result<()
             push_given_back(out, *before, *prio)?;
             push_to_wake(out, plan, takes_off.as_slice())
         }
-        Saying::Sleeps { chan, lock } => push_sleeps(out, plan, *chan, *lock),
+        Saying::Sleeps { chan, lock } => {
+            push_named(out, b" sleeps on ", plan.chan_name(*chan))?;
+            push_named(out, b" and gives ", plan.lock_name(*lock))?;
+            out.extend_from_slice(b" up")
+        }
         Saying::Wakes { chan, takes_off } => {
             push_named(out, b" signals ", plan.chan_name(*chan))?;
             push_heard(out, plan, takes_off.as_slice())
         }
-        Saying::Refused { lock, held, holds } => push_refused(out, plan, *lock, *held, *holds),
+        Saying::Refused { lock, held, holds } => {
+            push_named(out, b" may not take ", plan.lock_name(*lock))?;
+            push_refusal(out, plan, *lock, *held, *holds)
+        }
     }
 }
 
@@ -147,14 +154,6 @@ fn push_lends(
     push_change(out, before, prio)
 }
 
-// Words, and a priority.
-fn push_prio(out: &mut Vec<u8>, words: &[u8], prio: Prio) -> Result<(), AllocError>
-    ensures { OnOk result (out.new.items ≡ out.old.items ++ words.now ++ decimal prio.0) }
-{
-    out.extend_from_slice(words)?;
-    push_digits(out, u64::from(prio.0))
-}
-
 // Of those whose turnstile the new owner has.
 #[tactic(auto, unfolding(crate::specs::Sentences::claim_words, crate::specs::Sentences::change_words))]
 fn push_claim(out: &mut Vec<u8>, before: Prio, prio: Prio) -> Result<(), AllocError>
@@ -192,31 +191,6 @@ fn push_sorts(
 {
     push_named(out, b" sorts ", plan.thread_name(other))?;
     push_named(out, b" anew among the waiters of ", plan.lock_name(lock))
-}
-
-fn push_sleeps(out: &mut Vec<u8>, plan: &Plan, chan: ChanNo, lock: LockNo) -> Result<(), AllocError>
-    ensures { OnOk result (out.new.items
-        ≡ out.old.items ++ codes " sleeps on " ++ chan_name plan.now chan.0
-        ++ codes " and gives " ++ lock_name plan.now lock.0 ++ codes " up") }
-{
-    push_named(out, b" sleeps on ", plan.chan_name(chan))?;
-    push_named(out, b" and gives ", plan.lock_name(lock))?;
-    out.extend_from_slice(b" up")
-}
-
-fn push_refused(
-    out: &mut Vec<u8>,
-    plan: &Plan,
-    lock: LockNo,
-    class: ClassNo,
-    held: Option<LockNo>,
-) -> Result<(), AllocError>
-    ensures { OnOk result (out.new.items
-        ≡ out.old.items ++ codes " may not take " ++ lock_name plan.now lock.0
-        ++ refusal_words plan.now lock class held) }
-{
-    push_named(out, b" may not take ", plan.lock_name(lock))?;
-    push_refusal(out, plan, lock, class, held)
 }
 
 #[tactic(auto, unfolding(crate::specs::Sentences::given_back_words, crate::specs::Sentences::change_words))]

@@ -1,7 +1,7 @@
 //! What is said of bars, arrows and marks.
 
-ghost use Rattle.std.specs.Prelude.{◌≡◌, ◌++◌, ◌∷◌, [], decimal, OnOk};
-ghost use Rattle.lock_model.specs.Text.{spaced, mode_letter, lock_kind, lock_name};
+ghost use Rattle.std.specs.Prelude.{◌≡◌, ◌++◌, OnOk};
+ghost use Rattle.lock_model.specs.Text.{mode_letter, lock_kind, lock_name};
 ghost use Rattle.chart_words.specs.Words.{arrow_words, bar_words, event_word, hold_word, lost_words, mark_words, note_words, order_words, refusal_words, verb};
 
 use crate::names::{push_class, push_named, push_queue};
@@ -98,10 +98,10 @@ fn push_event(out: &mut Vec<u8>, plan: &Plan, event: Event) -> Result<(), AllocE
     ensures { OnOk result (out.new.items ≡ out.old.items ++ event_word plan.now event) }
 {
     match event {
-        Event::Locked { l, mode } => push_mode(out, plan, b"", l, mode, b"lock"),
-        Event::Tried { l, mode } => push_mode(out, plan, b"try", l, mode, b"lock"),
-        Event::Unlocked { l, mode } => push_mode(out, plan, b"", l, mode, b"unlock"),
-        Event::Busy { l, .. } => push_call(out, b"busy", plan.lock_name(l)),
+        Event::Locked { l, mode } => push_mode(out, plan, b"", l, mode, b"lock "),
+        Event::Tried { l, mode } => push_mode(out, plan, b"try", l, mode, b"lock "),
+        Event::Unlocked { l, mode } => push_mode(out, plan, b"", l, mode, b"unlock "),
+        Event::Busy { l, .. } => push_named(out, b"busy ", plan.lock_name(l)),
         Event::Set { .. } => out.extend_from_slice(b"set"),
         Event::Added { .. } => out.extend_from_slice(b"add"),
         Event::Got { .. } => out.extend_from_slice(b"get"),
@@ -112,15 +112,8 @@ fn push_event(out: &mut Vec<u8>, plan: &Plan, event: Event) -> Result<(), AllocE
         Event::HaltedChan { .. } | Event::HaltedLock { .. } => out.extend_from_slice(b"halted"),
         Event::WokeOne { .. } => out.extend_from_slice(b"signal"),
         Event::WokeAll { .. } => out.extend_from_slice(b"wake all"),
-        Event::Reversed { l, .. } => push_call(out, b"refused", plan.lock_name(l)),
+        Event::Reversed { l, .. } => push_named(out, b"refused ", plan.lock_name(l)),
     }
-}
-
-fn push_call(out: &mut Vec<u8>, word: &[u8], name: &[u8]) -> Result<(), AllocError>
-    ensures { OnOk result (out.new.items ≡ out.old.items ++ word.now ++ 32 ∷ name.now) }
-{
-    out.extend_from_slice(word)?;
-    push_word(out, name)
 }
 
 fn push_mode(
@@ -133,12 +126,11 @@ fn push_mode(
 ) -> Result<(), AllocError>
     ensures { OnOk result (out.new.items
         ≡ out.old.items ++ before.now ++ mode_letter (lock_kind plan.now l.0) mode ++ behind.now
-        ++ 32 ∷ lock_name plan.now l.0) }
+        ++ lock_name plan.now l.0) }
 {
     out.extend_from_slice(before)?;
     out.extend_from_slice(mode.letter(plan.lock_kind(l)))?;
-    out.extend_from_slice(behind)?;
-    push_word(out, plan.lock_name(l))
+    push_named(out, behind, plan.lock_name(l))
 }
 
 /// Pushes what an event tells beside its word: keys, values, priorities, and under which class a take was
@@ -148,8 +140,16 @@ pub fn push_note(out: &mut Vec<u8>, plan: &Plan, event: Event) -> Result<(), All
     ensures { OnOk result (out.new.items ≡ out.old.items ++ note_words plan.now event) }
 {
     match event {
-        Event::Set { l, key, value } => push_edit(out, plan.lock_name(l), key, value),
-        Event::Added { l, key, amount } => push_edit(out, plan.lock_name(l), key, amount),
+        Event::Set {
+            l,
+            key,
+            value: amount,
+        }
+        | Event::Added { l, key, amount } => {
+            push_word(out, plan.lock_name(l))?;
+            push_number(out, key)?;
+            push_number(out, amount)
+        }
         Event::Got { l, key, found } => {
             push_word(out, plan.lock_name(l))?;
             push_number(out, key)?;
@@ -173,15 +173,6 @@ pub fn push_note(out: &mut Vec<u8>, plan: &Plan, event: Event) -> Result<(), All
         Event::Reversed { held, .. } => push_class(out, plan, held),
         Event::Locked { .. } | Event::Tried { .. } | Event::Unlocked { .. } => Ok(()),
     }
-}
-
-fn push_edit(out: &mut Vec<u8>, lock: &[u8], key: u64, amount: u64) -> Result<(), AllocError>
-    ensures { OnOk result (out.new.items
-        ≡ out.old.items ++ spaced (lock.now ∷ decimal key ∷ decimal amount ∷ [])) }
-{
-    push_word(out, lock)?;
-    push_number(out, key)?;
-    push_number(out, amount)
 }
 
 /// Pushes why a take was refused, by the class of a lock that the thread holds: `: its class must come before that of

@@ -1,10 +1,13 @@
 -- Nothing stands against a call exactly where it may be made.
-use Rattle.std.proofs.Common.{◌≡◌, ◌≢◌, ℕ, Bool, true, false, List, [], ◌∷◌, Option, Some, None, refl, sym, subst, ◌∙◌, arith}
+use Rattle.std.proofs.Common.{◌≡◌, ◌≢◌, ℕ, ◌≤◌, Bool, true, false, List, [], ◌∷◌, ◌++◌, length, Option, Some, None, refl, sym, subst, ◌∙◌, arith}
 use Rattle.cond_vars.specs.Waits.{lock_of}
 use Rattle.floor_table.specs.Descriptions.{config_in}
 use Rattle.lock_model.specs.Holds.{Hold, NotHeld, Holds}
+use Rattle.lock_model.specs.Limits.{most_held}
+use Rattle.lock_model.specs.Operations.{hold_in}
 use Rattle.lock_model.specs.Words.{is_turnstile}
 use Rattle.lock_model.specs.declared.event.Held.{Held as HeldLock}
+use Rattle.lock_model.specs.declared.numbers.LockNo.{LockNo}
 use Rattle.lock_model.specs.declared.plan.Kind.{Kind}
 use Rattle.lock_model.specs.declared.plan.Kind.TheVariants.{Mtx}
 use Rattle.lock_model.specs.declared.plan.Mode.{Mode}
@@ -15,6 +18,7 @@ use Rattle.floor_calls.specs.Causes.{Says, causes, held_by, MayCall}
 use Rattle.floor_calls.specs.First.{IsFirst, none, here, later}
 use Rattle.floor_calls.specs.Stages.{IsInCall}
 use Rattle.floor_calls.specs.Threads.{Thread}
+use Rattle.floor_calls.specs.declared.requests.Cause.TheVariants.{Ended, InCall, Held, HoldsUnsleepable, HoldsMost}
 use Rattle.floor_calls.specs.declared.requests.Request.{Request}
 use Rattle.floor_calls.specs.declared.requests.Request.TheVariants.{Take, Try, Release, Edit, Read, SetBase, Show, WakeUp, Wait, End, GoOn}
 use Rattle.floor_calls.specs.declared.stages.Stage.{Stage}
@@ -204,6 +208,11 @@ may_none (Wait d) x m =
 may_none End x m = later (unended x m.0) (later (idle x m.0) (later (λ h. h m.1) none))
 may_none GoOn x m = later (λ e. subst IsInCall e m) (later (λ r. subst IsInCall r m) none)
 
+-- what wasn't found isn't so
+
+pub unsaid : {So : Type 0} {b : Bool} → (b ≡ true → So) × (So → b ≡ true) → b ≡ false → So → ⊥
+unsaid tested untrue so = let z : true ≡ false = sym (tested.1 so) ∙ untrue in cc
+
 -- a cause that was tested: where it is so it is the first of all, and else what is found behind it is
 
 pub at_first : {A : Type 0} {So : A → Type 0} {x : A} {xs : List A} {b : Bool} → (b ≡ true → So x) × (So x → b ≡ true)
@@ -212,4 +221,35 @@ at_first tested said = here (tested.0 said)
 
 pub behind : {A : Type 0} {So : A → Type 0} {x : A} {xs : List A} {found : Option A} {b : Bool}
     → (b ≡ true → So x) × (So x → b ≡ true) → b ≡ false → IsFirst So xs found → IsFirst So (x ∷ xs) found
-behind tested unsaid rest = later (λ so. let z : true ≡ false = sym (tested.1 so) ∙ unsaid in cc) rest
+behind tested untrue rest = later (unsaid tested untrue) rest
+
+-- causes that were tested together: where one of them is so the first of these is the first of all, and else what is
+-- found behind them is
+
+pub within : {A : Type 0} {So : A → Type 0} {xs : List A} {x : A} (ys : List A) → IsFirst So xs (Some x)
+    → IsFirst So (xs ++ ys) (Some x)
+within ys (here so) = here so
+within ys (later not_so rest) = later not_so (within ys rest)
+
+pub past : {A : Type 0} {So : A → Type 0} {xs ys : List A} {found : Option A} → IsFirst So xs None → IsFirst So ys found
+    → IsFirst So (xs ++ ys) found
+past none rest = rest
+past (later not_so more) rest = later not_so (past more rest)
+
+-- what a thread that is at rest, or that holds nothing, needn't be tested for
+
+pub at_ease : (x : Thread) → x.stage ≡ stages.AtRest → IsFirst (λ c. Says c x) (Ended ∷ InCall ∷ []) None
+at_ease x rest = later (unended x rest) (later (idle x rest) none)
+
+pub busy : (x : Thread) → (x.stage ≡ stages.AtRest → ⊥) → (x.stage ≡ stages.Ended → ⊥)
+    → IsFirst (λ c. Says c x) (Ended ∷ InCall ∷ []) (Some InCall)
+busy x rest e = later e (here (in_call x.stage e rest))
+
+pub empty_handed : (x : Thread) (l : LockNo) → (held_by x ≢ [] → ⊥)
+    → IsFirst (λ c. Says c x) (Held l ∷ HoldsUnsleepable l ∷ HoldsMost ∷ []) None
+empty_handed x l n =
+    let bare = is_bare (held_by x) n in
+    later (λ h. let e : NotHeld ≡ Holds h.0 = subst (λ hs. hold_in hs l.0 ≡ Holds h.0) bare h.1 in cc)
+    (later (λ u. none_by_lock (is_mutex_or_rw x) (held_by x)
+    (λ k is. subst (λ hs. hold_in hs k ≡ NotHeld) (sym bare) refl) u.1)
+    (later (λ f. let e : most_held ≤ 0 = subst (λ hs. most_held ≤ length hs) bare f in omega (arith, e)) none))

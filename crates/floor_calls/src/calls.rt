@@ -12,15 +12,17 @@ use lock_model::{ChanNo, LockNo, Mode, Prio};
 impl Thread {
     /// Makes the call that is asked for: `Ok` comes exactly where nothing stands against it, and says what its caller
     /// is to do next. Each of the calls below is this one, of one request.
+    // It is inlined, with what stands against a call and the first part of it: so a request that is known where it is
+    // asked, as those below are, costs no choice among all of them.
+    #[inline(always)]
     pub fn ask(&mut self, request: Request) -> Result<Next, Cause>
         ensures { Answers request result self.old self.new }
     {
         match self.against(request) {
             Some(cause) => Err(cause),
             None => {
-                let made = make(&self.shared.floor, &mut self.pass, self.stage, request);
-                self.stage = made.1;
-                Ok(made.0)
+                let next = make(&self.shared.floor, &mut self.pass, &mut self.stage, request);
+                Ok(next)
             }
         }
     }

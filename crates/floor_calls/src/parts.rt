@@ -5,7 +5,7 @@ ghost use Rattle.floor_calls.specs.Calls.{Does, GoesOn, MakesEndPart, MakesPart,
 ghost use Rattle.floor_calls.specs.Causes.{MayCall};
 ghost use Rattle.floor_calls.specs.Stages.{IsInCall, stage_behind};
 ghost use Rattle.floor_calls.specs.Threads.{IsAt, IsEndingAt, thread_at};
-ghost use Rattle.floor_calls.specs.declared.stages.Stage.TheVariants.{Takes, Tries, Releases, Wakes};
+ghost use Rattle.floor_calls.specs.declared.stages.Stage.TheVariants.{AtRest, Takes, Tries, Releases, Wakes};
 ghost use Rattle.lock_calls.specs.Releases.{HasBegunRelease};
 ghost use Rattle.lock_calls.specs.Steps.{MayRelease, MayTake};
 ghost use Rattle.lock_calls.specs.Takes.{HasBegunTake};
@@ -24,64 +24,109 @@ use lock_calls::{
 use lock_floor::{Floor, Pass};
 use lock_model::{ChanNo, LockNo, Mode};
 
-// Makes the call that is asked for, which may be made: begins it, or goes on with it.
-pub(crate) fn make(floor: &Floor, pass: &mut Pass, stage: Stage, request: Request) -> (Next, Stage)
+// Makes the call that is asked for, which may be made: begins it, or goes on with it. The stage is written only where
+// the thread may come to another one: a take or a release that is done at once leaves it at rest.
+#[inline(always)]
+pub(crate) fn make(floor: &Floor, pass: &mut Pass, stage: &mut Stage, request: Request) -> Next
     requires one_chain { floor.now.description.chains ≡ 1 }
-    requires there { IsAt floor.now stage pass.old }
-    requires may { MayCall request (thread_at floor.now stage pass.old) }
-    ensures at { IsAt floor.now result.1 pass.new }
-    ensures does { Does request result.0 (thread_at floor.now stage pass.old)
-        (thread_at floor.now result.1 pass.new) }
+    requires there { IsAt floor.now stage.old pass.old }
+    requires may { MayCall request (thread_at floor.now stage.old pass.old) }
+    ensures at { IsAt floor.now stage.new pass.new }
+    ensures does { Does request result (thread_at floor.now stage.old pass.old)
+        (thread_at floor.now stage.new pass.new) }
 {
     match request {
-        Request::Take { l, mode } => take(floor, pass, l, mode),
-        Request::Try { l, mode } => attempt(floor, pass, l, mode),
-        Request::Release { l, mode } => release(floor, pass, l, mode),
+        Request::Take { l, mode } => take(floor, pass, stage, l, mode),
+        Request::Try { l, mode } => attempt(floor, pass, stage, l, mode),
+        Request::Release { l, mode } => release(floor, pass, stage, l, mode),
         Request::Edit { cell, change } => edit(floor, pass, cell, change),
         Request::Read { cell } => read(floor, pass, cell),
         Request::SetBase { prio } => set_base(floor, pass, prio),
         Request::Show => show(floor, pass),
-        Request::WakeUp { c, all } => wake_up(floor, pass, c, all),
-        Request::Wait { c } => wait(floor, pass, c),
-        Request::End => end(floor, pass, EndAt::Takes),
-        Request::GoOn => go_on(floor, pass, stage),
+        Request::WakeUp { c, all } => come_to(stage, wake_up(floor, pass, c, all)),
+        Request::Wait { c } => come_to(stage, wait(floor, pass, c)),
+        Request::End => come_to(stage, end(floor, pass, EndAt::Takes)),
+        Request::GoOn => {
+            let made = go_on(floor, pass, *stage);
+            come_to(stage, made)
+        }
     }
 }
 
+// Comes to the stage behind a part, and hands on what that answered. It is kept apart from where a lock is free: there
+// nothing of it is read or written.
+#[cold]
+#[inline(never)]
+fn come_to(stage: &mut Stage, made: (Next, Stage)) -> Next
+    ensures next { result ≡ made.0 }
+    ensures stands { stage.new ≡ made.1 }
+{
+    *stage = made.1;
+    made.0
+}
+
 // Begins a take.
-fn take(floor: &Floor, pass: &mut Pass, l: LockNo, mode: Mode) -> (Next, Stage)
+#[inline(always)]
+fn take(floor: &Floor, pass: &mut Pass, stage: &mut Stage, l: LockNo, mode: Mode) -> Next
     requires ready { IsReady floor.now pass.old }
+    requires rest { stage.old ≡ AtRest }
     requires may { MayTake floor.now.description l.0 mode pass.old.view }
-    ensures at { IsAt floor.now result.1 pass.new }
+    ensures at { IsAt floor.now stage.new pass.new }
     ensures did { MakesPart Takes (HasBegunTake floor.now.description l mode)
-        result.0 result.1 pass.old pass.new }
+        result stage.new pass.old pass.new }
 {
     let part = begin_take(floor, pass, l, mode);
-    behind(Stage::Takes, told(part))
+    begun(stage, Stage::Takes, told(part))
 }
 
 // Begins a try.
-fn attempt(floor: &Floor, pass: &mut Pass, l: LockNo, mode: Mode) -> (Next, Stage)
+#[inline(always)]
+fn attempt(floor: &Floor, pass: &mut Pass, stage: &mut Stage, l: LockNo, mode: Mode) -> Next
     requires ready { IsReady floor.now pass.old }
+    requires rest { stage.old ≡ AtRest }
     requires may { MayTake floor.now.description l.0 mode pass.old.view }
-    ensures at { IsAt floor.now result.1 pass.new }
+    ensures at { IsAt floor.now stage.new pass.new }
     ensures did { MakesTryPart (HasBegunTry floor.now.description l mode)
-        result.0 result.1 pass.old pass.new }
+        result stage.new pass.old pass.new }
 {
     let part = begin_try(floor, pass, l, mode);
-    behind(Stage::Tries, told_of_try(part))
+    begun(stage, Stage::Tries, told_of_try(part))
 }
 
 // Begins a release.
-fn release(floor: &Floor, pass: &mut Pass, l: LockNo, mode: Mode) -> (Next, Stage)
+#[inline(always)]
+fn release(floor: &Floor, pass: &mut Pass, stage: &mut Stage, l: LockNo, mode: Mode) -> Next
     requires ready { IsReady floor.now pass.old }
+    requires rest { stage.old ≡ AtRest }
     requires may { MayRelease floor.now.description l.0 mode pass.old.view }
-    ensures at { IsAt floor.now result.1 pass.new }
+    ensures at { IsAt floor.now stage.new pass.new }
     ensures did { MakesPart Releases (HasBegunRelease floor.now.description l mode)
-        result.0 result.1 pass.old pass.new }
+        result stage.new pass.old pass.new }
 {
     let part = begin_release(floor, pass, l, mode);
-    behind(Stage::Releases, told(part))
+    begun(stage, Stage::Releases, told(part))
+}
+
+// Comes to stand in a call of a lock that was begun, unless that is done: then the thread stays at rest. Hands on what
+// the begin answered.
+#[inline(always)]
+fn begun(stage: &mut Stage, on: Stage, next: Next) -> Next
+    requires rest { stage.old ≡ AtRest }
+    ensures next { result ≡ next }
+    ensures stands { stage.new ≡ stage_behind on next }
+{
+    match next {
+        Next::Done => Next::Done,
+        Next::Found(_)
+        | Next::Shown { .. }
+        | Next::Again
+        | Next::Out
+        | Next::Sleep
+        | Next::Wake(_)
+        | Next::Busy(_)
+        | Next::Reversed(_)
+        | Next::Halted => come_to(stage, behind(on, next)),
+    }
 }
 
 // Begins a wake, or begins it again where another thread had the channel's chain.
@@ -137,6 +182,7 @@ fn go_on(floor: &Floor, pass: &mut Pass, stage: Stage) -> (Next, Stage)
 }
 
 // Goes on with a take.
+#[inline(always)]
 fn go_on_in_take(floor: &Floor, pass: &mut Pass) -> (Next, Stage)
     requires one_chain { floor.now.description.chains ≡ 1 }
     requires there { IsAt floor.now Takes pass.old }
@@ -148,6 +194,7 @@ fn go_on_in_take(floor: &Floor, pass: &mut Pass) -> (Next, Stage)
 }
 
 // Goes on with a try.
+#[inline(always)]
 fn go_on_in_try(floor: &Floor, pass: &mut Pass) -> (Next, Stage)
     requires there { IsAt floor.now Tries pass.old }
     ensures at { IsAt floor.now result.1 pass.new }
@@ -158,6 +205,7 @@ fn go_on_in_try(floor: &Floor, pass: &mut Pass) -> (Next, Stage)
 }
 
 // Goes on with a release.
+#[inline(always)]
 fn go_on_in_release(floor: &Floor, pass: &mut Pass) -> (Next, Stage)
     requires there { IsAt floor.now Releases pass.old }
     ensures at { IsAt floor.now result.1 pass.new }
@@ -181,6 +229,7 @@ fn go_on_in_wake(floor: &Floor, pass: &mut Pass) -> (Next, Stage)
 }
 
 // What a part of a lock's call answered, and the stage behind it.
+#[inline(always)]
 fn behind(on: Stage, next: Next) -> (Next, Stage)
     ensures { result ≡ (next, stage_behind on next) }
 {

@@ -77,6 +77,7 @@ pub enum Next {
 }
 
 // Whether a thread at that stage is in the middle of a call.
+#[inline(always)]
 pub(crate) fn is_in_call(stage: Stage) -> bool
     ensures { IsTrue result ↔ IsInCall stage }
 {
@@ -96,6 +97,7 @@ pub(crate) fn is_in_call(stage: Stage) -> bool
 }
 
 // The stage behind a part of a call of a lock, which was gone on with at that stage.
+#[inline(always)]
 pub(crate) fn stage_behind(on: Stage, next: Next) -> Stage
     ensures { result ≡ stage_behind on next }
 {
@@ -112,6 +114,7 @@ pub(crate) fn stage_behind(on: Stage, next: Next) -> Stage
 }
 
 // What a part of a take or of a release answered.
+#[inline(always)]
 pub(crate) fn told(part: lock_calls::Next) -> Next
     ensures { result ≡ told part }
 {
@@ -126,6 +129,7 @@ pub(crate) fn told(part: lock_calls::Next) -> Next
 }
 
 // What a part of a try answered.
+#[inline(always)]
 pub(crate) fn told_of_try(part: TryNext) -> Next
     ensures { result ≡ told_of_try part }
 {

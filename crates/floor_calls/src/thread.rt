@@ -11,7 +11,7 @@ ghost use Rattle.cond_vars.specs.Waits.{lock_of};
 ghost use Rattle.floor_table.specs.Descriptions.{config_in};
 ghost use Rattle.lock_model.specs.declared.plan.Kind.TheVariants.{Mtx, Sx};
 ghost use Rattle.lock_model.specs.declared.plan.Mode.TheVariants.{Excl};
-ghost use Rattle.floor_calls.specs.declared.requests.Cause.TheVariants.{Ended, InCall, NoCell, NoChan, NoMode, NotHeld, Spent};
+ghost use Rattle.floor_calls.specs.declared.requests.Cause.TheVariants.{Ended, Held as HeldAlready, HoldsMost, HoldsUnsleepable, InCall, NoCell, NoChan, NoMode, NotHeld, Spent};
 ghost use Rattle.floor_calls.specs.declared.requests.Request.TheVariants.{End, GoOn, Read, Release, Show, Take, Wait};
 ghost use Rattle.floor_calls.specs.declared.stages.Stage.TheVariants as stages;
 ghost use Rattle.floor_calls.specs.Causes.{HoldsMutexOrRw, HoldsOtherThan, Says, causes};
@@ -157,11 +157,8 @@ impl Thread {
         ensures { IsFirst (λ cause. Says cause self.now)
             (causes (Take l mode)) result }
     {
-        if self.is_so(Cause::Ended) {
-            return Some(Cause::Ended);
-        }
-        if self.is_so(Cause::InCall) {
-            return Some(Cause::InCall);
+        if let Some(cause) = self.against_new() {
+            return Some(cause);
         }
         if self.is_so(Cause::NoLock(l)) {
             return Some(Cause::NoLock(l));
@@ -169,14 +166,8 @@ impl Thread {
         if self.is_so(Cause::NoMode(l, mode)) {
             return Some(Cause::NoMode(l, mode));
         }
-        if self.is_so(Cause::Held(l)) {
-            return Some(Cause::Held(l));
-        }
-        if self.is_so(Cause::HoldsUnsleepable(l)) {
-            return Some(Cause::HoldsUnsleepable(l));
-        }
-        if self.is_so(Cause::HoldsMost) {
-            return Some(Cause::HoldsMost);
+        if let Some(cause) = self.against_another(l) {
+            return Some(cause);
         }
         if self.is_so(Cause::Spent) {
             return Some(Cause::Spent);
@@ -190,11 +181,8 @@ impl Thread {
         ensures { IsFirst (λ cause. Says cause self.now)
             (causes (Release l mode)) result }
     {
-        if self.is_so(Cause::Ended) {
-            return Some(Cause::Ended);
-        }
-        if self.is_so(Cause::InCall) {
-            return Some(Cause::InCall);
+        if let Some(cause) = self.against_new() {
+            return Some(cause);
         }
         if self.is_so(Cause::NoLock(l)) {
             return Some(Cause::NoLock(l));
@@ -211,17 +199,59 @@ impl Thread {
         None
     }
 
+    // What stands against any call but going on with one.
+    #[inline(always)]
+    fn against_new(&self) -> Option<Cause>
+        ensures { IsFirst (λ cause. Says cause self.now) (Ended ∷ InCall ∷ []) result }
+    {
+        if self.is_at_rest() {
+            None
+        } else if self.is_so(Cause::Ended) {
+            Some(Cause::Ended)
+        } else {
+            Some(Cause::InCall)
+        }
+    }
+
+    // What stands against a gain by what the thread holds: nothing where it holds nothing.
+    #[inline(always)]
+    fn against_another(&self, l: LockNo) -> Option<Cause>
+        ensures { IsFirst (λ cause. Says cause self.now)
+            (HeldAlready l ∷ HoldsUnsleepable l ∷ HoldsMost ∷ []) result }
+    {
+        if self.is_so(Cause::HoldsSome) {
+            self.against_more(l)
+        } else {
+            None
+        }
+    }
+
+    // The same where it holds something.
+    #[inline(always)]
+    fn against_more(&self, l: LockNo) -> Option<Cause>
+        ensures { IsFirst (λ cause. Says cause self.now)
+            (HeldAlready l ∷ HoldsUnsleepable l ∷ HoldsMost ∷ []) result }
+    {
+        if self.is_so(Cause::Held(l)) {
+            return Some(Cause::Held(l));
+        }
+        if self.is_so(Cause::HoldsUnsleepable(l)) {
+            return Some(Cause::HoldsUnsleepable(l));
+        }
+        if self.is_so(Cause::HoldsMost) {
+            return Some(Cause::HoldsMost);
+        }
+        None
+    }
+
     // What stands against an edit of a cell.
     #[inline(always)]
     fn against_edit(&self, cell: TableCell) -> Option<Cause>
         ensures { IsFirst (λ cause. Says cause self.now)
             (Ended ∷ InCall ∷ NoCell cell ∷ NotHeld cell.l Excl ∷ Spent ∷ []) result }
     {
-        if self.is_so(Cause::Ended) {
-            return Some(Cause::Ended);
-        }
-        if self.is_so(Cause::InCall) {
-            return Some(Cause::InCall);
+        if let Some(cause) = self.against_new() {
+            return Some(cause);
         }
         if self.is_so(Cause::NoCell(cell)) {
             return Some(Cause::NoCell(cell));
@@ -241,11 +271,8 @@ impl Thread {
         ensures { IsFirst (λ cause. Says cause self.now)
             (causes (Read cell)) result }
     {
-        if self.is_so(Cause::Ended) {
-            return Some(Cause::Ended);
-        }
-        if self.is_so(Cause::InCall) {
-            return Some(Cause::InCall);
+        if let Some(cause) = self.against_new() {
+            return Some(cause);
         }
         if self.is_so(Cause::NoCell(cell)) {
             return Some(Cause::NoCell(cell));
@@ -265,11 +292,8 @@ impl Thread {
         ensures { IsFirst (λ cause. Says cause self.now)
             (causes Show) result }
     {
-        if self.is_so(Cause::Ended) {
-            return Some(Cause::Ended);
-        }
-        if self.is_so(Cause::InCall) {
-            return Some(Cause::InCall);
+        if let Some(cause) = self.against_new() {
+            return Some(cause);
         }
         if self.is_so(Cause::Spent) {
             return Some(Cause::Spent);
@@ -283,11 +307,8 @@ impl Thread {
         ensures { IsFirst (λ cause. Says cause self.now)
             (Ended ∷ InCall ∷ NoChan c ∷ Spent ∷ []) result }
     {
-        if self.is_so(Cause::Ended) {
-            return Some(Cause::Ended);
-        }
-        if self.is_so(Cause::InCall) {
-            return Some(Cause::InCall);
+        if let Some(cause) = self.against_new() {
+            return Some(cause);
         }
         if self.is_so(Cause::NoChan(c)) {
             return Some(Cause::NoChan(c));
@@ -304,11 +325,8 @@ impl Thread {
         ensures { IsFirst (λ cause. Says cause self.now)
             (causes (Wait c)) result }
     {
-        if self.is_so(Cause::Ended) {
-            return Some(Cause::Ended);
-        }
-        if self.is_so(Cause::InCall) {
-            return Some(Cause::InCall);
+        if let Some(cause) = self.against_new() {
+            return Some(cause);
         }
         if self.is_so(Cause::NoChan(c)) {
             return Some(Cause::NoChan(c));
@@ -334,11 +352,8 @@ impl Thread {
         ensures { IsFirst (λ cause. Says cause self.now)
             (causes End) result }
     {
-        if self.is_so(Cause::Ended) {
-            return Some(Cause::Ended);
-        }
-        if self.is_so(Cause::InCall) {
-            return Some(Cause::InCall);
+        if let Some(cause) = self.against_new() {
+            return Some(cause);
         }
         if self.is_so(Cause::HoldsSome) {
             return Some(Cause::HoldsSome);
@@ -389,6 +404,7 @@ impl Thread {
     }
 
     // Whether it is in the middle of no call, and hasn't ended.
+    #[inline(always)]
     fn is_at_rest(&self) -> bool
         ensures { IsTrue result ↔ (self.now.stage ≡ stages.AtRest) }
     {
@@ -443,7 +459,8 @@ impl Thread {
         }
     }
 
-    // Whether the thread holds a mutex or a reader-writer lock.
+    // Whether the thread holds a mutex or a reader-writer lock. It is kept apart: so a gain saves nothing for its loop.
+    #[inline(never)]
     fn holds_mutex_or_rw(&self) -> bool
         ensures { IsTrue result ↔ HoldsMutexOrRw self.now }
     {

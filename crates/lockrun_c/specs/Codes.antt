@@ -11,7 +11,6 @@ use Rattle.floor_calls.specs.declared.requests.Request.{Request}
 use Rattle.floor_calls.specs.declared.requests.Request.TheVariants.{Take, Try, Release, Edit, Read, SetBase, Show, WakeUp, Wait, End, GoOn}
 use Rattle.floor_calls.specs.declared.stages.Next.{Next}
 use Rattle.floor_calls.specs.declared.stages.Next.TheVariants.{Done, Found, Shown, Again, Out, Sleep, Wake, Busy, Reversed, Halted}
-use Rattle.lockrun_c.specs.declared.codes.Asked.{Asked}
 use Rattle.lockrun_c.specs.declared.codes.Cell.{Cell}
 use Rattle.lockrun_c.specs.declared.codes.Told.{Told}
 
@@ -21,11 +20,11 @@ use Rattle.lockrun_c.specs.declared.codes.Told.{Told}
 abbrev pub byte_of : ℕ → ℕ
 byte_of which = if nat_lt which 255 then which else 255
 
-abbrev pub lock_of : Asked → LockNo
-lock_of asked = record { 0 = byte_of asked.which }
+abbrev pub lock_of : ℕ → LockNo
+lock_of which = record { 0 = byte_of which }
 
-abbrev pub chan_of : Asked → ChanNo
-chan_of asked = record { 0 = byte_of asked.which }
+abbrev pub chan_of : ℕ → ChanNo
+chan_of which = record { 0 = byte_of which }
 
 abbrev pub cell_of : Cell → TableCell
 cell_of cell = record { l = record { 0 = byte_of cell.lock }; key = cell.key; slot = cell.slot }
@@ -34,25 +33,26 @@ cell_of cell = record { l = record { 0 = byte_of cell.lock }; key = cell.key; sl
 abbrev pub base_of : ℕ → Option Request
 base_of n = if nat_lt n 256 then Some (SetBase (record { 0 = n })) else None
 
--- the request that is asked for, if its number is one
-unfoldable pub request_of : Asked → Option Request
-request_of asked =
-    if asked.what == 0 then Some GoOn
-    else (if asked.what == 1 then Some End
-    else (if asked.what == 2 then Some (Take (lock_of asked) Excl)
-    else (if asked.what == 3 then Some (Take (lock_of asked) Shared)
-    else (if asked.what == 4 then Some (Try (lock_of asked) Excl)
-    else (if asked.what == 5 then Some (Try (lock_of asked) Shared)
-    else (if asked.what == 6 then Some (Release (lock_of asked) Excl)
-    else (if asked.what == 7 then Some (Release (lock_of asked) Shared)
-    else (if asked.what == 8 then Some (WakeUp (chan_of asked) false)
-    else (if asked.what == 9 then Some (WakeUp (chan_of asked) true)
-    else (if asked.what == 10 then Some (Wait (chan_of asked))
-    else (if asked.what == 11 then Some (Edit (cell_of asked.cell) (Set asked.number))
-    else (if asked.what == 12 then Some (Edit (cell_of asked.cell) (Add asked.number))
-    else (if asked.what == 13 then Some (Read (cell_of asked.cell))
-    else (if asked.what == 14 then base_of asked.number
-    else (if asked.what == 15 then Some Show
+-- the request of that number, if it is a request's: of the lock or channel with the number
+-- `which`, or of a cell, and with a number
+unfoldable pub request_of : (what which number : ℕ) → Cell → Option Request
+request_of what which number cell =
+    if what == 0 then Some GoOn
+    else (if what == 1 then Some End
+    else (if what == 2 then Some (Take (lock_of which) Excl)
+    else (if what == 3 then Some (Take (lock_of which) Shared)
+    else (if what == 4 then Some (Try (lock_of which) Excl)
+    else (if what == 5 then Some (Try (lock_of which) Shared)
+    else (if what == 6 then Some (Release (lock_of which) Excl)
+    else (if what == 7 then Some (Release (lock_of which) Shared)
+    else (if what == 8 then Some (WakeUp (chan_of which) false)
+    else (if what == 9 then Some (WakeUp (chan_of which) true)
+    else (if what == 10 then Some (Wait (chan_of which))
+    else (if what == 11 then Some (Edit (cell_of cell) (Set number))
+    else (if what == 12 then Some (Edit (cell_of cell) (Add number))
+    else (if what == 13 then Some (Read (cell_of cell))
+    else (if what == 14 then base_of number
+    else (if what == 15 then Some Show
     else None)))))))))))))))
 
 -- 2. Answers
@@ -114,21 +114,22 @@ nothing_told = record {
   effective = 0;
 }
 
-abbrev pub told_of_next : Next → Told
-told_of_next Done = nothing_told
-told_of_next (Found (Some value)) = record nothing_told { value = value }
-told_of_next (Found None) = nothing_told
-told_of_next (Shown base effective) =
+-- what C has been told behind that: what it tells, or what C was told before, if it tells nothing
+abbrev pub told_behind_next : Next → Told → Told
+told_behind_next Done before = before
+told_behind_next (Found (Some value)) before = record nothing_told { value = value }
+told_behind_next (Found None) before = before
+told_behind_next (Shown base effective) before =
     record nothing_told { base = base.0; effective = effective.0 }
-told_of_next Again = nothing_told
-told_of_next Out = nothing_told
-told_of_next Sleep = nothing_told
-told_of_next (Wake t) = record nothing_told { thread = t.0 }
-told_of_next (Busy seen) = record nothing_told { word = seen }
-told_of_next (Reversed r) =
+told_behind_next Again before = before
+told_behind_next Out before = before
+told_behind_next Sleep before = before
+told_behind_next (Wake t) before = record nothing_told { thread = t.0 }
+told_behind_next (Busy seen) before = record nothing_told { word = seen }
+told_behind_next (Reversed r) before =
     record nothing_told { held_class = r.held.0; wanted_class = r.wanted.0 }
-told_of_next Halted = nothing_told
+told_behind_next Halted before = before
 
-abbrev pub told_of : Result Next Cause → Told
-told_of (Ok next) = told_of_next next
-told_of (Err cause) = nothing_told
+abbrev pub told_behind : Result Next Cause → Told → Told
+told_behind (Ok next) before = told_behind_next next before
+told_behind (Err cause) before = before

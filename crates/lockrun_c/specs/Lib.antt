@@ -1,4 +1,5 @@
 pub mod Held
+pub mod Lends
 pub mod Handles
 pub mod Codes
 pub mod Asks

@@ -1,59 +1,107 @@
 //! What is asked of a thread.
-ghost use Rattle.std.specs.Prelude.{◌≡◌};
-ghost use Rattle.lockrun_c.specs.Asks.{IsAsked, IsAskedOf, IsAskedOfThread};
-ghost use Rattle.lockrun_c.specs.Codes.{code_of, told_of};
+ghost use Rattle.lockrun_c.specs.Asks.{IsAsked, IsAskedOf, IsMade, IsMadeOrNone};
+ghost use Rattle.lockrun_c.specs.Codes.{request_of};
 
-use crate::codes::{Asked, NO_REQUEST, NOT_OPEN, Told, code_of, request_of, told_of};
+use crate::codes::{Cell, NO_REQUEST, NOT_OPEN, Told, base_of, byte_of, cell_of, tell};
 use crate::content::Content;
-use crate::handles::{Handle, take, there};
-use floor_calls::{Cause, Next, Thread};
-use std::alloc::Global;
+use crate::handles::Handle;
+use floor_calls::{Change, Request, Thread};
+use lock_model::{ChanNo, LockNo, Mode};
 
-/// Makes the call of a thread that is asked for, or answers what stands against it, and then nothing is changed.
+/// Makes the call of a thread that is asked for, or answers what stands against it, and then nothing is changed. Asked
+/// is the request of that number: of the lock or channel `which`, or of a cell, and with a number.
 #[unsafe(no_mangle)]
 pub extern "C" fn lockrun_ask(
-    alloc: Global,
     thread: &mut Handle,
-    asked: &Asked,
+    what: u32,
+    which: u32,
+    number: u64,
+    cell: &Cell,
     told: &mut Told,
 ) -> u32
-    ensures { IsAsked asked.now thread.old.held.home thread.new.held.home told.old told.new result }
+    ensures { IsAsked (request_of what which number cell.now)
+        thread.old.held.home thread.new.held.home told.old told.new result }
 {
     if thread.is_there == 0 {
         return NOT_OPEN;
     }
-    let how = thread.how;
-    let mut content = take(thread, alloc);
-    let code = ask(&mut content, asked, told);
-    *thread = there(content, how);
-    code
+    ask(thread.held.as_mut(), what, which, number, cell, told)
 }
 
 // Asks what a box holds.
-fn ask(content: &mut Content, asked: &Asked, told: &mut Told) -> u32
-    ensures { IsAskedOf asked.now content.old content.new told.old told.new result }
+fn ask(
+    content: &mut Content,
+    what: u32,
+    which: u32,
+    number: u64,
+    cell: &Cell,
+    told: &mut Told,
+) -> u32
+    ensures { IsAskedOf (request_of what which number cell.now)
+        content.old content.new told.old told.new result }
 {
     match content {
-        Content::Thread(thread) => ask_thread(thread, asked, told),
+        Content::Thread(thread) => ask_thread(thread, what, which, number, cell, told),
         Content::Empty | Content::Open(_) | Content::Closed(_) | Content::World(_) => NOT_OPEN,
     }
 }
 
-// Asks a thread.
-fn ask_thread(thread: &mut Thread, asked: &Asked, told: &mut Told) -> u32
-    ensures { IsAskedOfThread asked.now thread.old thread.new told.old told.new result }
+// Asks a thread, if the number is a request's. Each call is made in a place of its own, where it is inlined.
+#[tactic(auto, unfolding(crate::specs::Codes::request_of))]
+fn ask_thread(
+    thread: &mut Thread,
+    what: u32,
+    which: u32,
+    number: u64,
+    cell: &Cell,
+    told: &mut Told,
+) -> u32
+    ensures { IsMadeOrNone (request_of what which number cell.now)
+        thread.old thread.new told.old told.new result }
 {
-    match request_of(asked) {
-        None => NO_REQUEST,
-        Some(request) => tell(thread.ask(request), told),
+    let l = LockNo(byte_of(which));
+    let c = ChanNo(byte_of(which));
+    let excl = Mode::Excl;
+    let shared = Mode::Shared;
+    match what {
+        0 => make(thread, Request::GoOn, told),
+        1 => make(thread, Request::End, told),
+        2 => make(thread, Request::Take { l, mode: excl }, told),
+        3 => make(thread, Request::Take { l, mode: shared }, told),
+        4 => make(thread, Request::Try { l, mode: excl }, told),
+        5 => make(thread, Request::Try { l, mode: shared }, told),
+        6 => make(thread, Request::Release { l, mode: excl }, told),
+        7 => make(thread, Request::Release { l, mode: shared }, told),
+        8 => make(thread, Request::WakeUp { c, all: false }, told),
+        9 => make(thread, Request::WakeUp { c, all: true }, told),
+        10 => make(thread, Request::Wait { c }, told),
+        11 => {
+            let cell = cell_of(*cell);
+            let change = Change::Set(number);
+            make(thread, Request::Edit { cell, change }, told)
+        },
+        12 => {
+            let cell = cell_of(*cell);
+            let change = Change::Add(number);
+            make(thread, Request::Edit { cell, change }, told)
+        },
+        13 => {
+            let cell = cell_of(*cell);
+            make(thread, Request::Read { cell }, told)
+        },
+        14 => match base_of(number) {
+            None => NO_REQUEST,
+            Some(request) => make(thread, request, told),
+        },
+        15 => make(thread, Request::Show, told),
+        16.. => NO_REQUEST,
     }
 }
 
-// Tells an answer.
-fn tell(answer: Result<Next, Cause>, told: &mut Told) -> u32
-    ensures code { result ≡ code_of answer }
-    ensures told { told.new ≡ told_of answer }
+// Makes the call of a thread that is asked for, and tells its answer.
+#[inline(always)]
+fn make(thread: &mut Thread, request: Request, told: &mut Told) -> u32
+    ensures { IsMade request thread.old thread.new told.old told.new result }
 {
-    *told = told_of(answer);
-    code_of(answer)
+    tell(thread.ask(request), told)
 }

@@ -76,3 +76,18 @@ impl Held {
         }
     }
 }
+
+impl Held {
+    ghost use Rattle.std.specs.Borrow.{sem};
+    ghost use Rattle.std.specs.Prelude.{◌≡◌, ◌≢◌, None, Some};
+    ghost use Rattle.lockrun_c.specs.Lends.{held_follows};
+
+    // What the box holds, lent where it lies.
+    pub(crate) fn as_mut(&mut self) -> &mut Content
+        requires { self.old.home ≢ None }
+        ensures* writes_back { sem 𝓛 (held_follows self.entry result) }
+        ensures value { self.old.home ≡ Some result.now }
+    {
+        unsafe { &mut *(self.ptr as *mut Content) }
+    }
+}

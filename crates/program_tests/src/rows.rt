@@ -21,8 +21,12 @@ fn pathfinder(rt: HostRuntime) -> Result<(), Fail> {
     assert_eq!(rt; turns.len(), 16);
     let turn = turns[4];
     assert_eq!(rt;
-        (turn.who, turn.answer, turn.entries),
-        (ThreadNo(2), Turn::Did(StepKind::Enter), 4)
+        (turn.who, turn.answer),
+        (ThreadNo(2), Turn::Did(StepKind::Enter))
+    );
+    assert_eq!(rt;
+        (turns[3].entry.is_some(), turn.entry.is_some()),
+        (true, false)
     );
     let threads = rows.threads.as_slice();
     assert_eq!(rt; threads.len(), 3);

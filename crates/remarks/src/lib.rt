@@ -1,6 +1,7 @@
 //! What a program says on standard error below its one sentence (`complaints`), so that a user need not look it up: the
 //! lines that `remark_lines` finds by reading the source again, few, short and in plain ASCII. Neither a status nor a
-//! text depends on them. How much it may be is promised (`shape`); what it says is shown by examples, one of each cause.
+//! text depends on them. How much it may be is promised (`shape`); what it says is shown by examples, one of each
+//! cause.
 //!
 //! - `saying`: saying all of it on a stream.
 //! - `by_status`: what is said, by the status.

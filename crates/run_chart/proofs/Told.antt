@@ -18,7 +18,7 @@ use Rattle.lock_state.specs.Facts.{OnlyLocksAreHeld, OnlyThreadsHold, OnlyThread
 use Rattle.lock_state.specs.Facts.Words.{owns}
 use Rattle.run_chart.specs.Runs.{IsRunOf, IsTurnOf}
 use Rattle.run_chart.specs.Turns.{holds, owner_in}
-use Rattle.run_tracks.specs.Rows.{IsThread, TellsThread, run_in}
+use Rattle.run_tracks.specs.Rows.{IsThread, TellsRun, TellsThread, run_in}
 use Rattle.run_tracks.specs.Tracks.{value_in, Tells}
 use Rattle.run_tracks.specs.declared.threads.ThreadRow.{ThreadRow}
 use Rattle.run_tracks.specs.declared.threads.ThreadRows.{ThreadRows}
@@ -88,17 +88,22 @@ module _ (plan : Plan) (proper : IsProper plan) (n : ℕ) where
 
 -- 3. Threads and turns
 
+pub run_of : (plan : Plan) (rows : Rows) → IsProper plan → (chains : ℕ) × (turns : ℕ) × TellsRun plan chains turns rows
+    → length rows.turns ≤ 1000000 → IsRunOf plan rows
+run_of plan rows proper run few = record { proper = proper; chains = run.0; most = run.1; told = run.2; few = few }
+
 module _ (plan : Plan) (rows : Rows) (h : IsRunOf plan rows) where
   pub turn_of : (n : ℕ) (row : TurnRow) → slice_get rows.turns n ≡ Some row → IsTurnOf plan rows n row.who.0
-  turn_of n row at = record { run = h; turn = slice_get_within rows.turns n row at; thread = (h.told.each n row at).thread }
+  turn_of n row at = record {
+    run = h;
+    turn = slice_get_within rows.turns n row at;
+    thread = omega (arith, (h.told.each n row at).thread, h.told.columns.thread_each);
+  }
 
   pub thread_at : (t : ℕ) (thread : ThreadRows) → slice_get rows.threads t ≡ Some thread → TellsThread plan (run_in plan) (length rows.turns + 1) t thread
   thread_at t thread e = h.told.columns.of_threads t thread e
 
   -- what a thread was in a row
-  pub row_at : (t : ℕ) (thread : ThreadRows) → slice_get rows.threads t ≡ Some thread → (n : ℕ) → n < length rows.turns + 1 → Known (value_in n thread.row) (IsThread plan (run_in plan n) t)
-  row_at t thread e n l = value_at thread.row (length rows.turns + 1) (λ m row. IsThread plan (run_in plan m) t row) (thread_at t thread e).row n l
-
   pub row_told : (t : ℕ) (thread : ThreadRows) → slice_get rows.threads t ≡ Some thread → (n : ℕ) → n < length rows.turns + 1 → (row : ThreadRow) → value_in n thread.row ≡ Some row → IsThread plan (run_in plan n) t row
   row_told t thread e n l row is = so_at thread.row (length rows.turns + 1) (λ m row. IsThread plan (run_in plan m) t row) (thread_at t thread e).row n l row is
 
@@ -141,6 +146,7 @@ module _ (plan : Plan) (rows : Rows) (h : IsRunOf plan rows) where
           absurd (no_element rows.words k (let lock = owned_is_lock plan h.proper n k u e in omega (arith, lock, h.told.columns.word_each)) at)
 
   -- an owner is a thread
-  pub owner_named : (n k : ℕ) (o : Option ThreadNo) → option_map (λ t. t.0) o ≡ owner_in plan n k → IfSome o (λ t. t.0 < length plan.threads)
+  pub owner_named : (n k : ℕ) (o : Option ThreadNo) → option_map (λ t. t.0) o ≡ owner_in plan n k → IfSome o (λ t. t.0 < length rows.threads)
   owner_named n k None e = tt
-  owner_named n k (Some t) e = owner_is_thread plan h.proper n k t.0 (sym e)
+  owner_named n k (Some t) e =
+      let thread = owner_is_thread plan h.proper n k t.0 (sym e) in omega (arith, thread, h.told.columns.thread_each)

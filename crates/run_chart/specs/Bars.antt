@@ -1,20 +1,18 @@
--- What the bars of a chart say: of which threads, in which rows, and by which tracks of the run.
-use Rattle.std.specs.Prelude.{ℕ, List, ◌++◌, Option, Some, None}
-use Rattle.std.specs.List.{enumerate_from, flat_map}
+-- What the bars of a chart say: of which threads, in which rows, and by which of the run's states.
+use Rattle.std.specs.Prelude.{ℕ, List, ◌++◌, nat_lt, if◌then◌else◌, length, option_map, option_to_list, Option, Some, None}
+use Rattle.std.specs.List.{flat_map, range_with_len}
 use Rattle.chart_layout.specs.declared.layout.Bar.{Bar}
 use Rattle.chart_layout.specs.declared.layout.BarKind.{BarKind}
 use Rattle.chart_layout.specs.declared.layout.BarKind.TheVariants as kinds
-use Rattle.lock_model.specs.declared.plan.Mode.{Mode}
+use Rattle.lock_model.specs.Holds.{Hold, Holds, NotHeld}
+use Rattle.lock_model.specs.Queues.{BySignal, ByAbort, stands}
+use Rattle.lock_model.specs.declared.numbers.ThreadNo.{ThreadNo}
+use Rattle.lock_model.specs.declared.plan.Plan.{Plan}
 use Rattle.lock_model.specs.declared.plan.QueueName.{QueueName}
-use Rattle.prio_lending.specs.declared.walk.Walk.{Walk}
-use Rattle.prio_lending.specs.declared.walk.Walk.TheVariants as walks
+use Rattle.lock_state.specs.State.{State, Wait, Walk, NoWalk, AtLock, AtThread, Running, Queued, Woken}
 use Rattle.run_chart.specs.declared.bars.Shown.{Shown}
-use Rattle.run_chart.specs.Spans.{drawn_at, told_of, Drawn}
-use Rattle.run_tracks.specs.Tracks.{value_in}
-use Rattle.run_tracks.specs.declared.threads.ThreadRow.{ThreadRow}
-use Rattle.run_tracks.specs.declared.threads.ThreadRows.{ThreadRows}
-use Rattle.lock_objects.specs.declared.wait.Wait.{Wait}
-use Rattle.lock_objects.specs.declared.wait.Wait.TheVariants as waits
+use Rattle.run_chart.specs.declared.spans.Span.{Span}
+use Rattle.run_chart.specs.Spans.{drawn_at, Drawn, IsDrawnIn}
 
 -- 1. Bars
 
@@ -27,61 +25,68 @@ bar_drawn bar =
 abbrev pub kinds_at : ℕ → ℕ → List Bar → List BarKind
 kinds_at t n bars = drawn_at bar_drawn t n bars
 
--- what is shown of a value by bars of one sort
-abbrev pub kind_shown : Shown → Option BarKind
-kind_shown shown = shown.0
+-- the bar of a span over which something is shown
+abbrev pub bar_of : ThreadNo → Span Shown → Option Bar
+bar_of thread span =
+    option_map (λ what. record {
+      thread = thread;
+      what = what;
+      first = span.first;
+      last = span.last;
+    }) span.value.0
 
--- as a function of the value
-abbrev pub as_shown : {T : Type 0} → (T → Option BarKind) → T → Shown
-as_shown kind value = record { 0 = kind value }
+-- a bar is of one of the threads, and has rows, all of them in the window
+abbrev pub IsBarOf : ℕ → ℕ → ℕ → Bar → Type 0
+IsBarOf threads from to bar = IsDrawnIn threads from to (bar_drawn bar)
 
--- 2. What is shown of a value
+-- 2. What is so of a thread
 
--- of how a lock is held
-abbrev pub held_kind : ℕ → Option Mode → Option BarKind
-held_kind l None = None
-held_kind l (Some mode) = Some (kinds.Holds (record { 0 = l }) mode)
+-- the queue on which it stands: the one that its record names, where it is in the lists of that
+abbrev pub standing_at : State → ℕ → Option QueueName → Option QueueName
+standing_at s t None = None
+standing_at s t (Some q) = if nat_lt 0 (stands t (s.lists q)) then Some q else None
 
--- of where a thread stands
-abbrev pub waited_as : Option QueueName → Option BarKind
-waited_as None = None
-waited_as (Some q) = Some (kinds.Waits q)
+abbrev pub standing : State → ℕ → Option QueueName
+standing s t = standing_at s t (s.blocked_on t)
 
-abbrev pub waited_kind : ThreadRow → Option BarKind
-waited_kind row = waited_as row.stands_on
+-- by how it holds a lock
+abbrev pub held_kind : ℕ → Hold → Option BarKind
+held_kind l NotHeld = None
+held_kind l (Holds mode) = Some (kinds.Holds (record { 0 = l }) mode)
 
--- of a wait word, of what the record names and of where the thread stands: it was woken where the word says so, and
--- else was taken off the queue that is named, where it stands on none
-abbrev pub woken_as : Wait → Option QueueName → Option QueueName → Option BarKind
-woken_as (waits.Woken q) named stands = Some (kinds.Woken q)
-woken_as waits.Running (Some q) None = Some (kinds.TakenOff q)
-woken_as waits.Queued (Some q) None = Some (kinds.TakenOff q)
-woken_as waits.Running (Some q) (Some r) = None
-woken_as waits.Queued (Some q) (Some r) = None
-woken_as waits.Running None stands = None
-woken_as waits.Queued None stands = None
+-- by where it stands
+abbrev pub waited_kind : Option QueueName → Option BarKind
+waited_kind None = None
+waited_kind (Some q) = Some (kinds.Waits q)
 
-abbrev pub woken_kind : ThreadRow → Option BarKind
-woken_kind row = woken_as row.wait row.blocked_on row.stands_on
+-- by the queue that its record names, and where it stands: it was taken off the one where it stands on none
+abbrev pub taken_kind : Option QueueName → Option QueueName → Option BarKind
+taken_kind None stands = None
+taken_kind (Some q) None = Some (kinds.TakenOff q)
+taken_kind (Some q) (Some r) = None
 
--- of a walk
-abbrev pub walked_as : Walk → Option BarKind
-walked_as walks.None = None
-walked_as (walks.AtLock l) = Some kinds.Walks
-walked_as (walks.AtThread t) = Some kinds.Walks
+-- by its wait word too: it was woken, or else isn't yet
+abbrev pub woken_kind : Wait → Option QueueName → Option QueueName → Option BarKind
+woken_kind (Woken q BySignal) named stands = Some (kinds.Woken q)
+woken_kind (Woken q ByAbort) named stands = taken_kind named stands
+woken_kind Running named stands = taken_kind named stands
+woken_kind Queued named stands = taken_kind named stands
 
-abbrev pub walked_kind : ThreadRow → Option BarKind
-walked_kind row = walked_as row.walk
+-- by its walk
+abbrev pub walked_kind : Walk → Option BarKind
+walked_kind NoWalk = None
+walked_kind (AtLock l) = Some kinds.Walks
+walked_kind (AtThread t) = Some kinds.Walks
 
--- 3. What is shown of a thread, in a row
+-- by how it holds the first locks, by number
+abbrev pub held_kinds : State → ℕ → ℕ → List BarKind
+held_kinds s t locks =
+    flat_map (λ l. option_to_list (held_kind l (s.held t l))) (range_with_len 0 locks)
 
--- by its locks
-abbrev pub holds_shown : ℕ → List (List (ℕ × Option Mode)) → List BarKind
-holds_shown n held =
-    flat_map (λ l. told_of (held_kind l.0) (value_in n l.1)) (enumerate_from 0 held)
-
--- by all
-abbrev pub kinds_of : ℕ → ThreadRows → List BarKind
-kinds_of n rows =
-    ((holds_shown n rows.held ++ told_of waited_kind (value_in n rows.row))
-    ++ told_of woken_kind (value_in n rows.row)) ++ told_of walked_kind (value_in n rows.row)
+-- What bars say of a thread: the locks that it holds, by number; the queue on which it stands; the one off which it was
+-- taken, or from which it was woken; and its walk.
+abbrev pub kinds_in : Plan → State → ℕ → List BarKind
+kinds_in plan s t =
+    ((held_kinds s t (length plan.locks) ++ option_to_list (waited_kind (standing s t)))
+    ++ option_to_list (woken_kind (s.wait t) (s.blocked_on t) (standing s t)))
+    ++ option_to_list (walked_kind (s.walk t))

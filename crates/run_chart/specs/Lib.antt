@@ -6,5 +6,3 @@ pub mod Bars
 pub mod Spans
 pub mod Steps
 pub mod Charts
-pub mod Lanes
-pub mod Ends

@@ -1,11 +1,11 @@
 -- What the steps of a chart say: by which priorities threads run, in which rows.
-use Rattle.std.specs.Prelude.{ℕ, List, Some}
+use Rattle.std.specs.Prelude.{ℕ, List, [], ◌∷◌}
 use Rattle.chart_layout.specs.declared.layout.PrioSpan.{PrioSpan}
 use Rattle.lock_model.specs.declared.numbers.Prio.{Prio}
-use Rattle.run_chart.specs.Spans.{drawn_at, told_of, Drawn, IsDrawnIn}
-use Rattle.run_tracks.specs.Tracks.{value_in}
-use Rattle.run_tracks.specs.declared.threads.ThreadRow.{ThreadRow}
-use Rattle.run_tracks.specs.declared.threads.ThreadRows.{ThreadRows}
+use Rattle.lock_model.specs.declared.numbers.ThreadNo.{ThreadNo}
+use Rattle.lock_state.specs.State.{State}
+use Rattle.run_chart.specs.declared.spans.Span.{Span}
+use Rattle.run_chart.specs.Spans.{drawn_at, Drawn, IsDrawnIn}
 
 -- a step says the effective priority and the base
 abbrev pub step_drawn : PrioSpan → Drawn (ℕ × ℕ)
@@ -24,11 +24,16 @@ IsStepOf threads from to step = IsDrawnIn threads from to (step_drawn step)
 abbrev pub prios_at : ℕ → ℕ → List PrioSpan → List (ℕ × ℕ)
 prios_at t n steps = drawn_at step_drawn t n steps
 
--- both priorities of a span, by their numbers
-abbrev pub numbers_of : Prio × Prio → ℕ × ℕ
-numbers_of v = (v.0.0, v.1.0)
+-- by which it runs in a state, with its own
+abbrev pub prios_in : State → ℕ → List (ℕ × ℕ)
+prios_in s t = (s.effective t, s.base t) ∷ []
 
--- by which a thread ran in a row, and its own
-abbrev pub strip_tells : ℕ → ThreadRows → List (ℕ × ℕ)
-strip_tells n rows =
-    told_of (λ (row : ThreadRow). Some (row.effective.0, row.base.0)) (value_in n rows.row)
+-- the step of a span over which both stay
+abbrev pub step_of : ThreadNo → Span (Prio × Prio) → PrioSpan
+step_of thread span = record {
+  thread = thread;
+  first = span.first;
+  last = span.last;
+  effective = span.value.0;
+  base = span.value.1;
+}

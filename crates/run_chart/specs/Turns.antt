@@ -32,7 +32,7 @@ use Rattle.lock_model.specs.declared.turn.Turn.TheVariants.{Did, Idle, Ended}
 use Rattle.lock_state.specs.Run.{course_after, next_turn, threads_of}
 use Rattle.lock_state.specs.State.{State, Wait, Walk, NoWalk, AtLock, AtThread, Running, Queued, Woken}
 use Rattle.run_chart.specs.declared.lookup.HopLoan.{HopLoan}
-use Rattle.run_tracks.specs.Rows.{run_in}
+use Rattle.run_tracks.specs.Rows.{entry_in, run_in}
 
 -- 1. What is so in a row
 
@@ -102,7 +102,7 @@ wakes_up plan n t =
 -- the first lock of a plan of which it is so
 abbrev pub first_lock : Plan → (ℕ → Bool) → Option LockNo
 first_lock plan is_so =
-    find (λ l. is_so l.0) (map (λ l. record { 0 = l }) (range_with_len 0 (length plan.locks)))
+    option_map (λ l. record { 0 = l }) (find is_so (range_with_len 0 (length plan.locks)))
 
 -- the lock that a thread holds in a row, and not in the other
 abbrev pub held_only : Plan → ℕ → ℕ → ℕ → Option LockNo
@@ -147,18 +147,7 @@ went_behind plan n l t =
 
 -- 4. What a turn noted
 
--- the history in a row, its newest entry first
-abbrev pub history_in : Plan → ℕ → List Entry
-history_in plan n = (state_in plan n).history
-
--- the newest entry of a history that has become longer
-abbrev pub newest : List Entry → List Entry → Option Entry
-newest before behind = if nat_lt (length before) (length behind) then slice_get behind 0 else None
-
--- the entry that the turn made
-abbrev pub entry_in : Plan → ℕ → Option Entry
-entry_in plan n = newest (history_in plan n) (history_in plan (n + 1))
-
+-- the event of its entry
 abbrev pub event_in : Plan → ℕ → Option Event
 event_in plan n = option_map (λ entry. entry.event) (entry_in plan n)
 

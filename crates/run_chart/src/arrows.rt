@@ -23,38 +23,26 @@ pub fn push_arrows(
         ≡ arrows.old.items ++ arrows_shown at.now.plan.now at.now.turn at.now.who.0 answer) }
 {
     match answer {
-        Turn::Did(kind) => push_of_step(alloc, arrows, at, kind),
-        Turn::Idle | Turn::Ended => Ok(()),
-    }
-}
-
-fn push_of_step(
-    alloc: Global,
-    arrows: &mut Vec<Arrow>,
-    at: &TurnOf<'_>,
-    kind: StepKind,
-) -> Result<(), AllocError>
-    requires { IsTurnOf at.now.plan.now at.now.rows.now at.now.turn at.now.who.0 }
-    ensures { OnOk result (arrows.new.items
-        ≡ arrows.old.items ++ step_arrows at.now.plan.now at.now.turn at.now.who.0 kind) }
-{
-    match kind {
-        StepKind::Lend => push_loan(arrows, at),
-        StepKind::Mark => {
+        Turn::Did(StepKind::Lend) => push_loan(arrows, at),
+        Turn::Did(StepKind::Mark) => {
             let woken = those(alloc, at, Asked::WakesUp)?;
             push_to(arrows, at, ArrowKind::Wakes, &woken)
         }
-        StepKind::Enter => push_blocks(alloc, arrows, at),
-        StepKind::Note => push_refusals(alloc, arrows, at),
-        StepKind::Gain
-        | StepKind::Claim
-        | StepKind::Drop
-        | StepKind::OpenUp
-        | StepKind::Resume
-        | StepKind::Shift
-        | StepKind::WalkEnd
-        | StepKind::Add
-        | StepKind::Wake => Ok(()),
+        Turn::Did(StepKind::Enter) => push_blocks(alloc, arrows, at),
+        Turn::Did(StepKind::Note) => push_refusals(alloc, arrows, at),
+        Turn::Did(
+            StepKind::Gain
+            | StepKind::Claim
+            | StepKind::Drop
+            | StepKind::OpenUp
+            | StepKind::Resume
+            | StepKind::Shift
+            | StepKind::WalkEnd
+            | StepKind::Add
+            | StepKind::Wake,
+        )
+        | Turn::Idle
+        | Turn::Ended => Ok(()),
     }
 }
 

@@ -1,70 +1,44 @@
-//! The bars of threads: what they hold, wait for and walk along.
-ghost use Rattle.std.specs.Prelude.{◌≡◌, ℕ, ◌≤◌, [], length, if◌then◌else◌, filter_map, option_to_list, Option, IfOk, OnOk};
-ghost use Rattle.std.specs.List.{All};
-ghost use Rattle.chart_layout.specs.declared.layout.BarKind as kinds;
-ghost use Rattle.run_chart.specs.Bars.{as_shown, bar_drawn, held_kind, holds_shown, kind_shown, kinds_of, waited_kind, walked_kind, woken_kind};
-ghost use Rattle.run_chart.specs.Spans.{covers, told_of, values_at, Adds, Draws, IsWithin, Makes};
-ghost use Rattle.run_tracks.specs.Tracks.{value_in};
+//! The bars of a thread: what it holds, waits for and walks along.
+ghost use Rattle.std.specs.Prelude.{◌≡◌, ℕ, ◌≤◌, ◌++◌, length, option_to_list, OnOk};
+ghost use Rattle.lock_objects.specs.Represents.{hold_of, wait_of, walk_of};
+ghost use Rattle.run_chart.specs.Bars.{bar_drawn, bar_of, held_kind, held_kinds, kinds_in, waited_kind, walked_kind, woken_kind};
+ghost use Rattle.run_chart.specs.Runs.{IsThreadOf};
+ghost use Rattle.run_chart.specs.Spans.{Adds, Makes};
+ghost use Rattle.run_chart.specs.declared.bars.Shown as kinds;
+ghost use Rattle.run_tracks.specs.Rows.{run_in};
 
+use crate::rows::{ThreadOf, thread_rows};
 use crate::spans::{Span, spans};
 use chart_layout::{Bar, BarKind};
 use lock_model::{LockNo, Mode, ThreadNo};
-use run_tracks::{Noted, ThreadRow, ThreadRows, Track, Wait, Walk};
+use run_tracks::{Noted, ThreadRow, Track, Wait, Walk};
 use std::alloc::{AllocError, Global};
 
-/// The bars of threads in the rows `from..=to`, by thread.
-pub fn bars(
-    alloc: Global,
-    threads: &[ThreadRows],
-    from: u32,
-    to: u32,
-) -> Result<Vec<Bar>, AllocError>
-    requires few { length threads.now ≤ 256 }
-    requires few_locks { All (λ rows. length rows.held ≤ 256) threads.now }
-    ensures { IfOk result (λ bars.
-        Draws bar_drawn (length threads.now) from to kinds_of threads.now bars.items) }
+/// Adds the bars of a thread in its window.
+pub fn push_bars(alloc: Global, bars: &mut Vec<Bar>, at: &ThreadOf<'_>) -> Result<(), AllocError>
+    requires { IsThreadOf at.now.plan.now at.now.rows.now at.now.who.0 at.now.from at.now.to }
+    ensures { OnOk result (Adds bar_drawn at.now.who.0 at.now.from at.now.to bars.old.items
+        bars.new.items
+        (λ n. kinds_in at.now.plan.now (run_in at.now.plan.now n).state at.now.who.0)) }
 {
-    let mut bars = Vec::new(alloc);
-    for (t, rows) in threads.iter().enumerate() {
-        push_thread(alloc, &mut bars, ThreadNo(t as u8), rows, from, to)?;
-    }
-    Ok(bars)
+    push_holds(alloc, bars, at)?;
+    let row = &thread_rows(at.rows, at.who).row;
+    push_shown(alloc, bars, at, row, waited)?;
+    push_shown(alloc, bars, at, row, woken)?;
+    push_shown(alloc, bars, at, row, walked)
 }
 
-fn push_thread(
-    alloc: Global,
-    bars: &mut Vec<Bar>,
-    thread: ThreadNo,
-    rows: &ThreadRows,
-    from: u32,
-    to: u32,
-) -> Result<(), AllocError>
-    requires { length rows.now.held ≤ 256 }
-    ensures { OnOk result (Adds bar_drawn thread.0 from to bars.old.items bars.new.items
-        (λ n. kinds_of n rows.now)) }
+// What it holds, by lock.
+fn push_holds(alloc: Global, bars: &mut Vec<Bar>, at: &ThreadOf<'_>) -> Result<(), AllocError>
+    requires { IsThreadOf at.now.plan.now at.now.rows.now at.now.who.0 at.now.from at.now.to }
+    ensures { OnOk result (Adds bar_drawn at.now.who.0 at.now.from at.now.to bars.old.items
+        bars.new.items (λ n. held_kinds (run_in at.now.plan.now n).state at.now.who.0
+        (length at.now.plan.now.locks))) }
 {
-    push_holds(alloc, bars, thread, rows.held.as_slice(), from, to)?;
-    push_shown(alloc, bars, thread, &rows.row, from, to, waited)?;
-    push_shown(alloc, bars, thread, &rows.row, from, to, woken)?;
-    push_shown(alloc, bars, thread, &rows.row, from, to, walked)
-}
-
-// What a thread holds, by lock.
-fn push_holds(
-    alloc: Global,
-    bars: &mut Vec<Bar>,
-    thread: ThreadNo,
-    tracks: &[Track<Option<Mode>>],
-    from: u32,
-    to: u32,
-) -> Result<(), AllocError>
-    requires { length tracks.now ≤ 256 }
-    ensures { OnOk result (Adds bar_drawn thread.0 from to bars.old.items bars.new.items
-        (λ n. holds_shown n tracks.now)) }
-{
+    let tracks = thread_rows(at.rows, at.who).held.as_slice();
     for (l, track) in tracks.iter().enumerate() {
         let l = LockNo(l as u8);
-        push_shown(alloc, bars, thread, track, from, to, |mode| held(l, mode))?;
+        push_shown(alloc, bars, at, track, |mode| held(l, mode))?;
     }
     Ok(())
 }
@@ -83,41 +57,26 @@ impl Noted for Shown {
 fn push_shown<T: Copy, F: Fn(T) -> Shown>(
     alloc: Global,
     bars: &mut Vec<Bar>,
-    thread: ThreadNo,
+    at: &ThreadOf<'_>,
     track: &Track<T>,
-    from: u32,
-    to: u32,
     shown: F,
 ) -> Result<(), AllocError>
-    requires { F.IsAlwaysCallable shown }
-    ensures { OnOk result ((kind : T → Option kinds.BarKind)
-        → Makes (F.post shown) (as_shown kind)
-        → Adds bar_drawn thread.0 from to bars.old.items bars.new.items
-        (λ n. told_of kind (value_in n track.now))) }
+    requires callable { F.IsAlwaysCallable shown }
+    requires in_order { at.now.from ≤ at.now.to }
+    ensures { OnOk result ((is : ℕ → kinds.Shown)
+        → Makes (F.post shown) track.now at.now.from at.now.to is
+        → Adds bar_drawn at.now.who.0 at.now.from at.now.to bars.old.items bars.new.items
+        (λ n. option_to_list (is n).0)) }
 {
-    let spans = spans(alloc, track, from, to, shown)?;
-    push_spans(bars, thread, &spans)
-}
-
-fn push_spans(
-    bars: &mut Vec<Bar>,
-    thread: ThreadNo,
-    spans: &[Span<Shown>],
-) -> Result<(), AllocError>
-    ensures { OnOk result ((from to : ℕ) → All (IsWithin from to) spans.now
-        → Adds bar_drawn thread.0 from to bars.old.items bars.new.items
-        (λ n. filter_map kind_shown (values_at n spans.now))) }
-{
-    for span in spans {
-        push_bar(bars, thread, *span)?;
+    let spans = spans(alloc, track, at.from, at.to, shown)?;
+    for span in &spans {
+        push_bar(bars, at.who, *span)?;
     }
     Ok(())
 }
 
 fn push_bar(bars: &mut Vec<Bar>, thread: ThreadNo, span: Span<Shown>) -> Result<(), AllocError>
-    ensures { OnOk result ((from to : ℕ) → IsWithin from to span
-        → Adds bar_drawn thread.0 from to bars.old.items bars.new.items
-        (λ n. if covers n span then option_to_list (kind_shown span.value) else [])) }
+    ensures { OnOk result (bars.new.items ≡ bars.old.items ++ option_to_list (bar_of thread span)) }
 {
     let Some(what) = span.value.0 else {
         return Ok(());
@@ -132,7 +91,7 @@ fn push_bar(bars: &mut Vec<Bar>, thread: ThreadNo, span: Span<Shown>) -> Result<
 }
 
 fn held(l: LockNo, mode: Option<Mode>) -> Shown
-    ensures { result.0 ≡ held_kind l.0 mode }
+    ensures { result.0 ≡ held_kind l.0 (hold_of mode) }
 {
     Shown(match mode {
         Some(mode) => Some(BarKind::Holds { l, mode }),
@@ -142,7 +101,7 @@ fn held(l: LockNo, mode: Option<Mode>) -> Shown
 
 // The queue on which it stands.
 fn waited(row: ThreadRow) -> Shown
-    ensures { result.0 ≡ waited_kind row }
+    ensures { result.0 ≡ waited_kind row.stands_on }
 {
     Shown(match row.stands_on {
         Some(q) => Some(BarKind::Waits { q }),
@@ -152,7 +111,7 @@ fn waited(row: ThreadRow) -> Shown
 
 // Off which queue it was taken, as long as it doesn't run.
 fn woken(row: ThreadRow) -> Shown
-    ensures { result.0 ≡ woken_kind row }
+    ensures { result.0 ≡ woken_kind (wait_of row.wait) row.blocked_on row.stands_on }
 {
     Shown(match (row.wait, row.blocked_on, row.stands_on) {
         (Wait::Woken(q), _, _) => Some(BarKind::Woken { q }),
@@ -162,7 +121,7 @@ fn woken(row: ThreadRow) -> Shown
 }
 
 fn walked(row: ThreadRow) -> Shown
-    ensures { result.0 ≡ walked_kind row }
+    ensures { result.0 ≡ walked_kind (walk_of row.walk) }
 {
     Shown(match row.walk {
         Walk::None => None,

@@ -1,13 +1,13 @@
 //! The chart of a run.
 ghost use Rattle.std.specs.Prelude.{◌≡◌, ◌≤◌, ℕ, length, IfOk};
 ghost use Rattle.lock_model.specs.Operations.{IsProper};
+ghost use Rattle.lock_model.specs.declared.plan.Plan as plans;
+ghost use Rattle.run_chart.specs.Bars.{standing};
 ghost use Rattle.run_chart.specs.Charts.{IsChartOf};
-ghost use Rattle.run_tracks.specs.Rows.{TellsRun};
+ghost use Rattle.run_tracks.specs.Rows.{run_in, IsWhereItStands, TellsRun};
 
-use crate::bars::bars;
 use crate::ending::{end, printed_end};
-use crate::lanes::lanes;
-use crate::steps::steps;
+use crate::threads::threads;
 use crate::window::turns;
 use chart_layout::Chart;
 use lock_model::{Plan, Sequence};
@@ -21,6 +21,7 @@ use std::alloc::{AllocError, Global};
 /// let rows = rows_of(alloc, &plan, 16, 1000)?;
 /// let chart = chart(alloc, &plan, &rows, 0, rows.turns.as_slice().len() as u32)?;
 /// ```
+#[tactic(auto, using(crate::proofs::Told::run_of))]
 pub fn chart(
     alloc: Global,
     plan: &Plan,
@@ -38,17 +39,15 @@ pub fn chart(
     ensures turns { IfOk result (λ chart. chart.turns ≡ length rows.now.turns) }
     ensures shows { IfOk result (IsChartOf plan.now) }
 {
-    let threads = rows.threads.as_slice();
-    let bars = bars(alloc, threads, from, to)?;
-    let steps = steps(alloc, threads, from, to)?;
+    let drawn = threads(alloc, plan, rows, from, to)?;
     let shown = turns(alloc, plan, rows, from, to)?;
     Ok(Chart {
         first: from,
         last: to,
         turns: rows.turns.as_slice().len() as u32,
-        lanes: Sequence::from_vec(lanes(alloc, threads)?),
-        bars: Sequence::from_vec(bars),
-        steps: Sequence::from_vec(steps),
+        lanes: Sequence::from_vec(drawn.lanes),
+        bars: Sequence::from_vec(drawn.bars),
+        steps: Sequence::from_vec(drawn.steps),
         arrows: Sequence::from_vec(shown.arrows),
         marks: Sequence::from_vec(shown.marks),
         sentences: Sequence::from_vec(shown.sentences),
@@ -56,3 +55,10 @@ pub fn chart(
         printed: Sequence::from_vec(printed_end(alloc, plan, &rows.outcome)?),
     })
 }
+
+/// Where bars and the end show that a thread waits is where it stands: in each row of a run `standing` names the queue
+/// in whose lists the thread is, and none where it is in no lists.
+pub fn threads_wait_where_they_stand()
+    ensures { (plan : plans.Plan) (n t : ℕ) → IsProper plan
+        → IsWhereItStands (run_in plan n).state t (standing (run_in plan n).state t) }
+{}

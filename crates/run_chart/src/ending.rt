@@ -1,49 +1,41 @@
 //! How the run of a chart ended, and the lines that are printed of it.
-ghost use Rattle.std.specs.Prelude.{◌≡◌, ◌≤◌, ◌++◌, length, Some, IfOk, OnOk};
+ghost use Rattle.std.specs.Prelude.{◌≡◌, ◌++◌, length, option_map, option_to_list, IfOk, OnOk};
 ghost use Rattle.lock_model.specs.declared.plan.Plan as plans;
-ghost use Rattle.run_chart.specs.Charts.{IsEnd};
-ghost use Rattle.run_chart.specs.Ends.{wait_of, waits_in};
+ghost use Rattle.run_chart.specs.Charts.{waits_in, IsEnd};
 ghost use Rattle.run_chart.specs.Runs.{IsRunOf};
 
 use chart_layout::End;
 use lock_history::{Last, Outcome, print};
 use lock_model::{Plan, QueueName, Sequence, ThreadNo};
-use run_tracks::{Rows, ThreadRows};
+use run_tracks::Rows;
 use std::alloc::{AllocError, Global};
 
 /// How the run ended, and who stands on which queue where it is stuck.
 pub fn end(alloc: Global, rows: &Rows) -> Result<End, AllocError>
-    requires few { length rows.now.threads ≤ 256 }
-    requires few_turns { length rows.now.turns ≤ 1000000 }
+    requires { (plan : plans.Plan) × IsRunOf plan rows.now }
     ensures { IfOk result (λ end. (plan : plans.Plan) → IsRunOf plan rows.now
         → IsEnd plan (length rows.now.turns) end) }
 {
     match rows.outcome.last {
         Last::Done => Ok(End::Done),
-        Last::Stuck => {
-            let threads = rows.threads.as_slice();
-            let waits = waits(alloc, threads, rows.turns.as_slice().len() as u32)?;
-            Ok(End::Stuck {
-                waits: Sequence::from_vec(waits),
-            })
-        }
+        Last::Stuck => Ok(End::Stuck {
+            waits: Sequence::from_vec(waits(alloc, rows)?),
+        }),
         Last::Reversed => Ok(End::Reversed),
         Last::TooLong => Ok(End::TooLong),
     }
 }
 
-// Who stands on which queue in a row.
-fn waits(
-    alloc: Global,
-    threads: &[ThreadRows],
-    row: u32,
-) -> Result<Vec<(ThreadNo, QueueName)>, AllocError>
-    requires { length threads.now ≤ 256 }
-    ensures { IfOk result (λ waits. waits.items ≡ waits_in row threads.now) }
+// Who stands on which queue in the last row.
+fn waits(alloc: Global, rows: &Rows) -> Result<Vec<(ThreadNo, QueueName)>, AllocError>
+    requires { (plan : plans.Plan) × IsRunOf plan rows.now }
+    ensures { IfOk result (λ waits. (plan : plans.Plan) → IsRunOf plan rows.now
+        → waits.items ≡ waits_in plan (length rows.now.turns)) }
 {
+    let last = rows.turns.as_slice().len() as u32;
     let mut waits = Vec::new(alloc);
-    for (t, thread) in threads.iter().enumerate() {
-        push_wait(&mut waits, ThreadNo(t as u8), thread.row.at(row).stands_on)?;
+    for (t, thread) in rows.threads.as_slice().iter().enumerate() {
+        push_wait(&mut waits, ThreadNo(t as u8), thread.row.at(last).stands_on)?;
     }
     Ok(waits)
 }
@@ -53,7 +45,8 @@ fn push_wait(
     t: ThreadNo,
     stands_on: Option<QueueName>,
 ) -> Result<(), AllocError>
-    ensures { OnOk result (waits.new.items ≡ waits.old.items ++ wait_of t.0 (Some stands_on)) }
+    ensures { OnOk result (waits.new.items
+        ≡ waits.old.items ++ option_to_list (option_map (λ q. (t, q)) stands_on)) }
 {
     if let Some(q) = stands_on {
         waits.push((t, q))?;

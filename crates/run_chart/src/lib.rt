@@ -2,9 +2,10 @@
 //! a drawing of it.
 //!
 //! - `spans`: the rows over which a value stays the same, the one mechanism of bars and steps.
-//! - `bars`, `steps`, `lanes`, `ending`: what the rows of a run make of each part.
-//! - `rows`, `lookup`, `naming`: what they say of a row, and of a turn, and whom it names.
+//! - `rows`, `lookup`, `naming`: what the rows of a run say of a row, and of a turn, and whom it names.
+//! - `bars`: what the bars of a thread show in a window; `threads`: all that the threads do.
 //! - `marks`, `arrows`, `saying`: what a turn shows; `window`: what the turns of a window show.
+//! - `ending`: how the run ended.
 //! - `charting`: the chart of a run.
 #![tactic(auto)]
 
@@ -12,14 +13,13 @@ mod arrows;
 mod bars;
 mod charting;
 mod ending;
-mod lanes;
 mod lookup;
 mod marks;
 mod naming;
 mod rows;
 mod saying;
 mod spans;
-mod steps;
+mod threads;
 mod window;
 
-pub use charting::chart;
+pub use charting::{chart, threads_wait_where_they_stand};

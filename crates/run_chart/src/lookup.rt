@@ -4,12 +4,13 @@ ghost use Rattle.std.specs.Prelude.{◌≡◌, ◌≤◌, None, Some, length, op
 ghost use Rattle.std.specs.List.{find, list_any};
 ghost use Rattle.run_chart.specs.Lines.{first_in, is_line_of, is_waiter, lists_of};
 ghost use Rattle.run_chart.specs.Runs.{IsTurnOf};
-ghost use Rattle.run_chart.specs.Turns.{blocked_on, entry_in, event_in, first_writer, history_in, loan_in, lock_named, refused_in, signalled, slept_on, state_in, went_behind};
+ghost use Rattle.run_chart.specs.Turns.{blocked_on, event_in, first_writer, loan_in, lock_named, refused_in, state_in, went_behind};
+ghost use Rattle.run_tracks.specs.Rows.{entry_in};
 ghost use Rattle.lock_model.specs.Queues.{lock_queue};
 
-use crate::rows::{TurnOf, named_by, owner_in, prio_in, thread_in, turn_at};
+use crate::rows::{TurnOf, named_by, owner_in, thread_in, turn_at};
 use lock_history::QueueLine;
-use lock_model::{ChanNo, ClassNo, Entry, Event, LockNo, Prio, QueueName, ThreadNo};
+use lock_model::{ClassNo, Entry, Event, LockNo, Prio, QueueName, ThreadNo};
 use run_tracks::Walk;
 
 /// What a hop of a walk lent: to the owner of a lock, which ran as one priority before the turn and as the other behind
@@ -33,8 +34,8 @@ pub fn loan_in(at: &TurnOf<'_>) -> Option<HopLoan>
             Some(HopLoan {
                 to,
                 lock,
-                before: prio_in(at, at.turn, to),
-                prio: prio_in(at, at.turn + 1, to),
+                before: thread_in(at, at.turn, to).effective,
+                prio: thread_in(at, at.turn + 1, to).effective,
             })
         }
         Walk::None | Walk::AtThread(_) => None,
@@ -110,52 +111,20 @@ fn first_in(waiters: &[(ThreadNo, Prio)]) -> Option<ThreadNo>
     Some(*first)
 }
 
-/// The entry that a turn made. It makes one at most.
+/// The entry that a turn made.
 pub fn entry_in(at: &TurnOf<'_>) -> Option<Entry>
     requires { IsTurnOf at.now.plan.now at.now.rows.now at.now.turn at.now.who.0 }
     ensures { result ≡ entry_in at.now.plan.now at.now.turn }
 {
-    let before = entries_in(at, at.turn);
-    if entries_in(at, at.turn + 1) > before {
-        at.rows.outcome.history.at(before)
-    } else {
-        None
-    }
+    turn_at(at.rows, at.turn).entry
 }
 
-// How many entries the history has in a row.
-fn entries_in(at: &TurnOf<'_>, row: u32) -> u32
-    requires turn { IsTurnOf at.now.plan.now at.now.rows.now at.now.turn at.now.who.0 }
-    requires row { row ≤ length at.now.rows.now.turns }
-    ensures { result ≡ length (history_in at.now.plan.now row) }
-{
-    if row == 0 {
-        return 0;
-    }
-    turn_at(at.rows, row - 1).entries
-}
-
-fn event_in(at: &TurnOf<'_>) -> Option<Event>
+/// The event of that.
+pub fn event_in(at: &TurnOf<'_>) -> Option<Event>
     requires { IsTurnOf at.now.plan.now at.now.rows.now at.now.turn at.now.who.0 }
     ensures { result ≡ event_in at.now.plan.now at.now.turn }
 {
     Some(entry_in(at)?.event)
-}
-
-/// The condition variable or channel on which its thread went to sleep, if it did.
-pub fn slept_on(at: &TurnOf<'_>) -> Option<ChanNo>
-    requires { IsTurnOf at.now.plan.now at.now.rows.now at.now.turn at.now.who.0 }
-    ensures { option_map (λ c. c.0) result ≡ slept_on at.now.plan.now at.now.turn }
-{
-    event_in(at)?.fell_asleep()
-}
-
-/// The condition variable or channel whose sleepers it woke, or found that there are none.
-pub fn signalled(at: &TurnOf<'_>) -> Option<ChanNo>
-    requires { IsTurnOf at.now.plan.now at.now.rows.now at.now.turn at.now.who.0 }
-    ensures { option_map (λ c. c.0) result ≡ signalled at.now.plan.now at.now.turn }
-{
-    event_in(at)?.woken_chan()
 }
 
 /// The lock that its thread was refused, and the class of the held one that forbids it.

@@ -1,7 +1,7 @@
 //! The mark of a turn: what was done in it.
 ghost use Rattle.std.specs.Prelude.{◌≡◌, ◌++◌, option_map, option_to_list, OnOk};
 ghost use Rattle.run_chart.specs.Runs.{IsTurnOf};
-ghost use Rattle.run_chart.specs.Turns.{entry_in, mark, mark_shown, marked_of};
+ghost use Rattle.run_chart.specs.Turns.{mark, mark_shown, marked_of};
 
 use crate::lookup::entry_in;
 use crate::rows::TurnOf;

@@ -46,7 +46,7 @@ fn push_if(named: &mut Vec<ThreadNo>, t: ThreadNo, is_so: bool) -> Result<(), Al
 
 fn passes(at: &TurnOf<'_>, asked: Asked, t: ThreadNo) -> bool
     requires turn { IsTurnOf at.now.plan.now at.now.rows.now at.now.turn at.now.who.0 }
-    requires thread { t.0 < length at.now.plan.now.threads }
+    requires thread { t.0 < length at.now.rows.now.threads }
     ensures { result ≡ passes at.now.plan.now at.now.turn asked t.0 }
 {
     match asked {

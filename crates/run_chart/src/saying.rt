@@ -4,11 +4,9 @@ ghost use Rattle.lock_model.specs.declared.turn.StepKind.TheVariants as step;
 ghost use Rattle.run_chart.specs.Runs.{IsTurnOf};
 ghost use Rattle.run_chart.specs.Turns.{sentence, sentence_shown, step_said};
 
-use crate::lookup::{
-    blocked_on, loan_in, lock_named, refused_in, signalled, slept_on, went_behind,
-};
+use crate::lookup::{blocked_on, event_in, loan_in, lock_named, refused_in, went_behind};
 use crate::naming::{Asked, Sought, first_lock, those};
-use crate::rows::{TurnOf, named_by, prio_in, thread_in};
+use crate::rows::{TurnOf, named_by, thread_in};
 use chart_layout::{Saying, Sentence};
 use lock_model::{QueueName, Sequence, StepKind, ThreadNo, Turn};
 use run_tracks::Walk;
@@ -122,8 +120,8 @@ fn claims(at: &TurnOf<'_>) -> Option<Saying>
 {
     Some(Saying::Claims {
         lock: first_lock(at, Sought::Gained)?,
-        before: prio_in(at, at.turn, at.who),
-        prio: prio_in(at, at.turn + 1, at.who),
+        before: thread_in(at, at.turn, at.who).effective,
+        prio: thread_in(at, at.turn + 1, at.who).effective,
     })
 }
 
@@ -138,8 +136,8 @@ fn frees(alloc: Global, at: &TurnOf<'_>) -> Result<Option<Saying>, AllocError>
     let takes_off = those(alloc, at, Asked::Leaves(QueueName::Lock(lock)))?;
     Ok(Some(Saying::Frees {
         lock,
-        before: prio_in(at, at.turn, at.who),
-        prio: prio_in(at, at.turn + 1, at.who),
+        before: thread_in(at, at.turn, at.who).effective,
+        prio: thread_in(at, at.turn + 1, at.who).effective,
         takes_off: Sequence::from_vec(takes_off),
     }))
 }
@@ -148,7 +146,7 @@ fn sleeps(at: &TurnOf<'_>) -> Option<Saying>
     requires { IsTurnOf at.now.plan.now at.now.rows.now at.now.turn at.now.who.0 }
     ensures { result ≡ step_said at.now.plan.now at.now.turn at.now.who.0 step.Add }
 {
-    let chan = slept_on(at)?;
+    let chan = event_in(at)?.fell_asleep()?;
     let lock = at.plan.chans.as_slice().get(usize::from(chan.0))?.lock;
     Some(Saying::Sleeps { chan, lock })
 }
@@ -158,7 +156,7 @@ fn wakes(alloc: Global, at: &TurnOf<'_>) -> Result<Option<Saying>, AllocError>
     ensures { IfOk result (λ saying.
         saying ≡ step_said at.now.plan.now at.now.turn at.now.who.0 step.Wake) }
 {
-    let Some(chan) = signalled(at) else {
+    let Some(chan) = event_in(at).and_then(|event| event.woken_chan()) else {
         return Ok(None);
     };
     let takes_off = those(alloc, at, Asked::Leaves(QueueName::Chan(chan)))?;

@@ -21,6 +21,7 @@ pub struct TurnsShown {
 }
 
 /// What the turns between the rows `from..=to` show.
+#[tactic(auto, using(crate::proofs::Told::turn_of))]
 pub fn turns(
     alloc: Global,
     plan: &Plan,

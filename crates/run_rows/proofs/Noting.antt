@@ -1,14 +1,14 @@
 -- What tracks tell, where one row more is noted or nothing changed.
-use Rattle.std.proofs.Common.{◌≡◌, ◌⊎◌, ℕ, suc, ◌+◌, ◌<◌, ◌≤◌, Bool, cond, leb, List, [], ◌∷◌, ◌++◌, length, get_or, slice_get, slice_set, Option, Some, None, IsSomeAnd, Result, Ok, Err, OnOk, refl, sym, ap, subst, inl, inr, arith, ◌∙◌}
+use Rattle.std.proofs.Common.{◌≡◌, ◌⊎◌, ℕ, suc, ◌+◌, ◌<◌, ◌≤◌, Bool, cond, leb, List, [], ◌∷◌, ◌++◌, length, slice_get, slice_set, Option, Some, None, IsSomeAnd, refl, sym, ap, subst, inl, inr, arith, ◌∙◌}
 use Rattle.std.specs.Prelude.{fold}
 use Rattle.std.specs.List.{All}
 use Rattle.std.proofs.lemmas.Bool.{cases_eq, cases_lt, le-leb, leb-true, cases_Bool}
 use Rattle.std.proofs.lemmas.List.{length-set}
 use Rattle.std.proofs.lemmas.List.Elements.{All-push}
 use Rattle.std.proofs.lemmas.List.Sums.{fold-append}
-use Rattle.std.proofs.lemmas.Option.{same_Some, slice_get-get_or, slice_get_read, slice_get_within}
+use Rattle.std.proofs.lemmas.Option.{same_Some, slice_get_within}
 use Rattle.script_laws.proofs.AcceptedLists.{get_push, get_push_other, get_set, get_set_other}
-use Rattle.run_tracks.specs.Tracks.{EachTells, Tells, value_in}
+use Rattle.run_tracks.specs.Tracks.{EachAt, Tells, value_in}
 use Rattle.run_tracks.proofs.Changes.{replaced}
 
 module _ {T : Type 0} where
@@ -34,8 +34,8 @@ module _ {T : Type 0} where
     below_or_there n row l = elim (cases_lt n row) [ inl i ↦ inl i | inr i ↦ inr (omega arith) ]
 
     -- by a change that was noted, or by none where the value is the same
-    pub noted : (old new : List (ℕ × T)) (row : ℕ) (v : T) → Tells old row IsSo → (new ≡ old) ⊎ (new ≡ old ++ (row, v) ∷ []) → value_in row new ≡ Some v → IsSo row v → Tells new (row + 1) IsSo
-    noted old new row v h kept is so = record {
+    pub noted : (old new : List (ℕ × T)) (row : ℕ) (v : T) → Tells old row IsSo → value_in row new ≡ Some v → IsSo row v → (new ≡ old) ⊎ (new ≡ old ++ (row, v) ∷ []) → Tells new (row + 1) IsSo
+    noted old new row v h is so kept = record {
       within = within kept;
       value = λ n l. elim (below_or_there n row l) [
         | inl i ↦ subst (λ (o : Option T). IsSomeAnd o (IsSo n)) (sym (before n i kept)) (h.value n i)
@@ -51,16 +51,21 @@ module _ {T : Type 0} where
         before n l (inl e) = ap (value_in n) e
         before n l (inr e) = ap (value_in n) e ∙ value_before old row v n l
 
+    -- so where the value of the row is told by its track alone
+    pub noted_as : (old new : List (ℕ × T)) (row : ℕ) → Tells old row IsSo → IsSomeAnd (value_in row new) (λ v. IsSo row v × ((new ≡ old) ⊎ (new ≡ old ++ (row, v) ∷ []))) → Tells new (row + 1) IsSo
+    noted_as old new row h is = go (value_in row new) refl is
+      where
+        go : (o : Option T) → value_in row new ≡ o → IsSomeAnd o (λ v. IsSo row v × ((new ≡ old) ⊎ (new ≡ old ++ (row, v) ∷ []))) → Tells new (row + 1) IsSo
+        go None e none = absurd none
+        go (Some v) e is = noted old new row v h e is.0 is.1
+
     -- by a change that was kept
     pub kept : (old new : List (ℕ × T)) (row : ℕ) (v : T) → Tells old row IsSo → new ≡ old ++ (row, v) ∷ [] → IsSo row v → Tells new (row + 1) IsSo
-    kept old new row v h e so = noted old new row v h (inr e) (ap (value_in row) e ∙ value_there old row v) so
+    kept old new row v h e so = noted old new row v h (ap (value_in row) e ∙ value_there old row v) so (inr e)
 
     -- by the first value
-    pub begun : (v : T) → IsSo 0 v → Tells ((0, v) ∷ []) 1 IsSo
-    begun v so = kept [] ((0, v) ∷ []) 0 v (record { within = λ k d l. absurd (omega arith); value = λ n l. absurd (omega arith) }) refl so
-
     pub first_told : (track : List (ℕ × T)) (v : T) → track ≡ (0, v) ∷ [] → IsSo 0 v → Tells track 1 IsSo
-    first_told track v e so = rw e (begun v so)
+    first_told track v e so = kept [] track 0 v (record { within = λ k d l. absurd (omega arith); value = λ n l. absurd (omega arith) }) e so
 
     -- and by no change
     pub stays : (xs : List (ℕ × T)) (n : ℕ) → Tells xs (n + 1) IsSo → ((v : T) → IsSo n v → IsSo (n + 1) v) → Tells xs (n + 1 + 1) IsSo
@@ -83,81 +88,35 @@ module _ {T : Type 0} where
             let both : leb y.0 (n + 1) ≡ leb y.0 n = le-leb y.0 (n + 1) (omega arith) ∙ sym (le-leb y.0 n (omega arith)) in
             ap (λ (b : Bool). fold (replaced (n + 1)) (cond b (Some y.1) before) ys) both ∙ same_value ys (replaced n before y) (λ k d j. l (suc k) d (omega arith))
 
--- 3. Lists, item by item
+-- 3. Things of which something holds by their number
 
-module _ {A : Type 0} where
-  -- something holds of each item and its number
-  abbrev pub EachAt : (ℕ → A → Type 0) → List A → Type 0
-  EachAt P xs = (i : ℕ) (x : A) → slice_get xs i ≡ Some x → P i x
-
-  -- so with one more
-  pub each_push : (P : ℕ → A → Type 0) (xs : List A) (y : A) → EachAt P xs → P (length xs) y → EachAt P (xs ++ y ∷ [])
-  each_push P xs y each there i x e = elim (cases_eq i (length xs)) [
+module _ {A : Type 0} (P : ℕ → A → Type 0) where
+  -- one more
+  pub each_push : (xs : List A) (y : A) → EachAt P xs → P (length xs) y → EachAt P (xs ++ y ∷ [])
+  each_push xs y each there i x e = elim (cases_eq i (length xs)) [
     | inl n ↦ let same : y ≡ x = same_Some y x (sym (get_push xs y) ∙ ap (slice_get (xs ++ y ∷ [])) (sym n) ∙ e) in rw n (subst (P (length xs)) same there)
     | inr n ↦ each i x (sym (get_push_other xs y i n) ∙ e)
   ]
 
-  -- where items are changed from the front, those from l on are left,
-  pub record AreLeft (before xs : List A) (l : ℕ) : Type 0 where
+  -- and where they are changed one by one, from the front,
+  -- those from i on are as before, and of those below something holds
+  pub record AreChanged (before xs : List A) (i : ℕ) : Type 0 where
     pub number : length xs ≡ length before
-    pub left : (i : ℕ) → l ≤ i → slice_get xs i ≡ slice_get before i
+    pub left : (k : ℕ) → i ≤ k → slice_get xs k ≡ slice_get before k
+    pub done : (k : ℕ) (x : A) → k < i → slice_get xs k ≡ Some x → P k x
 
-  -- and of those below something holds
-  abbrev pub AreDone : (ℕ → A → Type 0) → List A → ℕ → Type 0
-  AreDone P xs l = (i : ℕ) (x : A) → i < l → slice_get xs i ≡ Some x → P i x
+  pub none_changed : (xs : List A) → AreChanged xs xs 0
+  none_changed xs = record { number = refl; left = λ k l. refl; done = λ k x l. absurd (omega arith) }
 
-  -- so behind one more
-  pub left_more : (before xs : List A) (l i : ℕ) (y : A) → i ≡ l → AreLeft before xs l → AreLeft before (slice_set xs i y) (l + 1)
-  left_more before xs l i y e h = record {
+  pub one_changed : (before xs : List A) (i j : ℕ) (x y : A) → j ≡ i → slice_get xs i ≡ Some x → AreChanged before xs i → P i y → AreChanged before (slice_set xs j y) (i + 1)
+  one_changed before xs i j x y same within h there = rw same (record {
     number = length-set xs i y ∙ h.number;
-    left = λ k n. get_set_other xs i y k (λ same. omega (arith, n, same, e)) ∙ h.left k (omega (arith, n));
-  }
+    left = λ k n. get_set_other xs i y k (λ e. omega (arith, n, e)) ∙ h.left k (omega (arith, n));
+    done = λ k z below e. elim (cases_eq k i) [
+      | inl n ↦ let is : y ≡ z = same_Some y z (sym (get_set xs i y x within) ∙ ap (slice_get (slice_set xs i y)) (sym n) ∙ e) in rw n (subst (P i) is there)
+      | inr n ↦ h.done k z (omega (arith, below, n)) (sym (get_set_other xs i y k n) ∙ e)
+    ];
+  })
 
-  pub done_more : (P : ℕ → A → Type 0) (xs : List A) (l : ℕ) (y : A) → l < length xs → AreDone P xs l → P l y → AreDone P (slice_set xs l y) (l + 1)
-  done_more P xs l y within h there i x below e = elim (cases_eq i l) [
-    | inl n ↦ let same : y ≡ x = same_Some y x (sym (get_set xs l y (get_or xs l y) (slice_get-get_or xs l y within)) ∙ ap (slice_get (slice_set xs l y)) (sym n) ∙ e) in rw n (subst (P l) same there)
-    | inr n ↦ h i x (omega (arith, below, n)) (sym (get_set_other xs l y i n) ∙ e)
-  ]
-
-  -- and in the end of each
-  pub all_done : (P : ℕ → A → Type 0) (xs : List A) (l : ℕ) → length xs ≤ l → AreDone P xs l → EachAt P xs
-  all_done P xs l n h i x e = h i x (omega (arith, slice_get_within xs i x e, n)) e
-
-  pub none_done : (before : List A) → AreLeft before before 0
-  none_done before = record { number = refl; left = λ i n. refl }
-
-  -- the next item, which was there before
-  pub record IsNext (before xs : List A) (l i : ℕ) (x : A) : Type 0 where
-    pub place : i ≡ l
-    pub within : l < length xs
-    pub there : slice_get before l ≡ Some x
-
-  pub next : (before xs : List A) (l i n : ℕ) (x : A) → AreLeft before xs l → i ≡ l → l < n → n ≡ length before → x ≡ get_or xs i x → IsNext before xs l i x
-  next before xs l i n x h e less all read =
-      let within : l < length xs = omega (arith, h.number, less, all) in
-      record {
-        place = e;
-        within = within;
-        there = sym (h.left l (omega arith)) ∙ slice_get_read xs (length xs) l x refl within (read ∙ ap (λ (k : ℕ). get_or xs k x) e);
-      }
-
--- 4. Lists of tracks
-
-module _ {T : Type 0} (IsSo : ℕ → ℕ → T → Type 0) where
-  -- one more, at the begin
-  pub one_begun : (tracks more : List (List (ℕ × T))) (track : List (ℕ × T)) (l : ℕ) (v : T) → more ≡ tracks ++ track ∷ [] → track ≡ (0, v) ∷ [] → length tracks ≡ l → IsSo l 0 v → EachTells tracks 1 IsSo → EachTells more 1 IsSo
-  one_begun tracks more track l v e begins number so each =
-      rw e (each_push (λ k x. Tells x 1 (IsSo k)) tracks track each (rw (number, begins) (begun (IsSo l) v so)))
-
-  -- the next one, which notes a row
-  pub one_noted : (before tracks : List (List (ℕ × T))) (l i row : ℕ) (old new : List (ℕ × T)) (v : T) → IsNext before tracks l i old → (new ≡ old) ⊎ (new ≡ old ++ (row, v) ∷ []) → value_in row new ≡ Some v → IsSo l row v → EachTells before row IsSo
-      → AreDone (λ k x. Tells x (row + 1) (IsSo k)) tracks l → AreDone (λ k x. Tells x (row + 1) (IsSo k)) (slice_set tracks i new) (l + 1)
-  one_noted before tracks l i row old new v h is_kept is so each done =
-      rw h.place (done_more (λ k x. Tells x (row + 1) (IsSo k)) tracks l new h.within done (noted (IsSo l) old new row v (each l old h.there) is_kept is so))
-
--- 5. Results
-
--- what follows from two facts of an Ok
-pub both_ok : {A E : Type 0} (r : Result A E) {P Q R : Type 0} → OnOk r P → OnOk r Q → (P → Q → R) → OnOk r R
-both_ok (Ok x) p q f = f p q
-both_ok (Err e) p q f = tt
+  pub all_changed : (before xs : List A) (i : ℕ) → length xs ≤ i → AreChanged before xs i → EachAt P xs
+  all_changed before xs i n h k x e = h.done k x (omega (arith, slice_get_within xs k x e, n)) e

@@ -44,8 +44,7 @@ module _ (plan : Plan) (r : Run) (t : ℕ) (a : Turn) where
   who_comes (u ∷ us) e idle =
       let same : (u, (turn_of plan r u).answer) ≡ (t, a) = same_Some (u, (turn_of plan r u).answer) (t, a) e in
       let who : u ≡ t = ap (λ p. p.0) same in
-      let what : (turn_of plan r u).answer ≡ a = ap (λ p. p.1) same in
-      (ap (run_behind plan r) who, sym what ∙ ap (λ (v : ℕ). (turn_of plan r v).answer) who)
+      (ap (run_behind plan r) who, sym (ap (λ p. p.1) same) ∙ ap (λ (v : ℕ). (turn_of plan r v).answer) who)
 
 pub made_by : (plan : Plan) (k : run.Course) (t : ℕ) (a : Turn) → next_turn plan k ≡ Some (t, a) → IsMade plan k t a
 made_by plan k t a e = elim (cases_Bool (is_over plan k)) [
@@ -62,11 +61,8 @@ made_by plan k t a e = elim (cases_Bool (is_over plan k)) [
 
 -- where the answer is that the thread is idle or has ended, the next row is as this one
 pub same_run : (plan : Plan) (n t : ℕ) (a : Turn) → IsMade plan (course_after plan n) t a → (a ≡ Idle) ⊎ (a ≡ Ended) → run_in plan (n + 1) ≡ run_in plan n
-same_run plan n t a h idle = ap (λ (k : run.Course). k.run) (one_more plan n) ∙ h.behind ∙ changes_nothing plan (run_in plan n) t (its idle)
-  where
-    its : (a ≡ Idle) ⊎ (a ≡ Ended) → ((turn_of plan (run_in plan n) t).answer ≡ Idle) ⊎ ((turn_of plan (run_in plan n) t).answer ≡ Ended)
-    its (inl e) = inl (sym h.answer ∙ e)
-    its (inr e) = inr (sym h.answer ∙ e)
+same_run plan n t a h idle =
+    ap (λ (k : run.Course). k.run) (one_more plan n) ∙ h.behind ∙ changes_nothing plan (run_in plan n) t (subst (λ (b : Turn). (b ≡ Idle) ⊎ (b ≡ Ended)) h.answer idle)
 
 -- each other thread holds what it held
 keeps_holds : (plan : Plan) (r : Run) (t u : ℕ) → u ≢ t → (run_behind plan r t).state.held u ≡ r.state.held u

@@ -1,9 +1,10 @@
 -- A run under way, whose rows are made turn by turn.
-use Rattle.std.specs.Prelude.{◌≡◌, ◌≢◌, ℕ, ◌+◌, ◌<◌, ◌≤◌, true, List, length, slice_get, Option, Some, None}
+use Rattle.std.specs.Prelude.{◌≡◌, ◌≢◌, ℕ, ◌+◌, ◌<◌, ◌≤◌, true, List, length, Option, Some, None}
 use Rattle.lock_model.specs.declared.plan.Plan.{Plan}
 use Rattle.lock_state.specs.Run.{Run, course_after, is_over}
 use Rattle.step_world.specs.Courses.{Course, IsCourse}
 use Rattle.run_tracks.specs.Rows.{IsTurn, TellsColumns, run_in}
+use Rattle.run_tracks.specs.Tracks.{EachAt}
 use Rattle.run_rows.specs.declared.columns.Columns.{Columns}
 use Rattle.run_tracks.specs.declared.rows.TurnRow.{TurnRow}
 
@@ -33,5 +34,5 @@ pub record HasMade (plan : Plan) (chains turns : ℕ) (made : List TurnRow) (cou
     (columns : Columns) : Type 0 where
   pub few : length made ≤ turns
   pub ends : length made < turns → is_over plan (course_after plan (length made)) ≡ true
-  pub each : (n : ℕ) (turn : TurnRow) → slice_get made n ≡ Some turn → IsTurn plan n turn
+  pub each : EachAt (IsTurn plan) made
   pub at : IsAt plan chains (length made) course columns

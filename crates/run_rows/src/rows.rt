@@ -1,12 +1,13 @@
 //! A run, turn by turn, and its rows.
-ghost use Rattle.std.specs.Prelude.{◌<◌, ◌≤◌, ℕ, IfOk};
+ghost use Rattle.std.specs.Prelude.{◌≡◌, ◌<◌, ◌≤◌, ℕ, List, length, reverse, IfOk};
 ghost use Rattle.lock_model.specs.Operations.{IsProper};
+ghost use Rattle.lock_model.specs.declared.event.Entry as entries;
 ghost use Rattle.lock_model.specs.declared.plan.Plan as plans;
 ghost use Rattle.run_rows.specs.Making.{IsAt, GoesOn, HasMade};
-ghost use Rattle.run_tracks.specs.Rows.{TellsRun};
+ghost use Rattle.run_tracks.specs.Rows.{TellsRun, newest};
 
 use crate::columns::Columns;
-use lock_model::{Plan, Sequence, ThreadNo, Turn};
+use lock_model::{Entry, Plan, Sequence, Turn};
 use run_tracks::{Rows, TurnRow};
 use std::alloc::{AllocError, Global};
 use step_world::Course;
@@ -75,6 +76,8 @@ fn make_turn(
         → IsAt plan chains n course.old columns.old
         → GoesOn plan chains n made course.new columns.new) }
 {
+    let history = course.world().history();
+    let before = history.len();
     let Some((who, answer)) = course.go_on() else {
         return Ok(None);
     };
@@ -86,6 +89,18 @@ fn make_turn(
     Ok(Some(TurnRow {
         who,
         answer,
-        entries: world.history().len() as u32,
+        entry: newest(before, world.history()),
     }))
+}
+
+// The newest entry of a history that had fewer before.
+fn newest(before: usize, history: &[Entry]) -> Option<Entry>
+    ensures { (old entries : List entries.Entry) → before ≡ length old
+        → history.now ≡ reverse entries → result ≡ newest old entries }
+{
+    if before < history.len() {
+        history.last().copied()
+    } else {
+        None
+    }
 }

@@ -27,7 +27,10 @@ pub record Tells {T : Type 0} (track : List (ℕ × T)) (rows : ℕ) (IsSo : ℕ
   pub within : All (λ change. change.0 < rows) track
   pub value : (n : ℕ) → n < rows → IsSomeAnd (value_in n track) (IsSo n)
 
--- so each track of a list, by its number
+-- something holds of each item of a list, by its number
+abbrev pub EachAt : {A : Type 0} → (ℕ → A → Type 0) → List A → Type 0
+EachAt IsSo items = (i : ℕ) (item : _) → slice_get items i ≡ Some item → IsSo i item
+
+-- so each track tells
 abbrev pub EachTells : {T : Type 0} → List (List (ℕ × T)) → ℕ → (ℕ → ℕ → T → Type 0) → Type 0
-EachTells tracks rows IsSo =
-    (i : ℕ) (track : _) → slice_get tracks i ≡ Some track → Tells track rows (IsSo i)
+EachTells tracks rows IsSo = EachAt (λ i track. Tells track rows (IsSo i)) tracks

@@ -3,12 +3,12 @@
 use crate::threads::ThreadRows;
 use crate::track::Track;
 use lock_history::{Outcome, QueueLine};
-use lock_model::{Sequence, ThreadNo, Turn};
+use lock_model::{Entry, Sequence, ThreadNo, Turn};
 
 /// A turn of the run.
 ///
 /// ```
-/// let turn = TurnRow { who: ThreadNo(0), answer: Turn::Idle, entries: 0 };
+/// let turn = TurnRow { who: ThreadNo(0), answer: Turn::Idle, entry: None };
 /// ```
 #[derive(Clone, Copy, Debug, PartialEq, Eq)]
 pub struct TurnRow {
@@ -16,8 +16,8 @@ pub struct TurnRow {
     pub who: ThreadNo,
     /// What it answered.
     pub answer: Turn,
-    /// How many entries the history has behind it.
-    pub entries: u32,
+    /// The entry that it made, if it made one.
+    pub entry: Option<Entry>,
 }
 
 /// The queues that weren't empty, by the row from which on they hold: those of the locks by number, and then those of

@@ -1,5 +1,6 @@
 //! Which sources a world is opened for, and why not for others.
 use script_read::ScriptFault;
+use std::alloc::Global;
 use std::test::Fail;
 use turn_calls::{NotOpened, OpenWorld};
 
@@ -24,29 +25,26 @@ const ROWS: &[(&[u8], u32, Option<NotOpened>)] = &[
 ];
 
 #[test]
-fn worlds_are_opened_for_scripts(rt: HostRuntime) -> Result<(), Fail> {
-    let alloc = rt.alloc();
-    for &(script, chains, why) in ROWS {
-        match OpenWorld::open(alloc, script, chains) {
-            Ok(world) => {
-                assert_eq!(rt; why, None);
-                assert!(rt; world.plan().threads.as_slice().is_empty());
-            }
-            Err(found) => assert_eq!(rt; Some(found), why),
-        }
+fn worlds_are_opened_for_scripts(rt: HostRuntime) {
+    for (row, &(script, chains, why)) in ROWS.iter().enumerate() {
+        assert!(rt;
+            is_opened_so(rt.alloc(), script, chains, why),
+            "in row {row}"
+        );
     }
-    Ok(())
+}
+
+// Whether that stands against a world of a script. One that is opened has no threads.
+fn is_opened_so(alloc: Global, script: &[u8], chains: u32, why: Option<NotOpened>) -> bool {
+    match OpenWorld::open(alloc, script, chains) {
+        Ok(world) => why.is_none() && world.plan().threads.as_slice().is_empty(),
+        Err(found) => why == Some(found),
+    }
 }
 
 #[test]
 fn a_source_that_is_too_big_isnt_read(rt: HostRuntime) -> Result<(), Fail> {
-    let alloc = rt.alloc();
-    let big = vec![in alloc; b'#'; 1_048_577]?;
-    match OpenWorld::open(alloc, &big, 1) {
-        Ok(_) => Err("a world was opened for a source that is too big".into()),
-        Err(why) => {
-            assert_eq!(rt; why, NotOpened::TooBig);
-            Ok(())
-        }
-    }
+    let big = vec![in rt.alloc(); b'#'; 1_048_577]?;
+    assert!(rt; is_opened_so(rt.alloc(), &big, 1, Some(NotOpened::TooBig)));
+    Ok(())
 }

@@ -1,8 +1,8 @@
 //! Turns in an order that no schedule says: what became of each, what its thread is behind it, and the text.
 use lock_model::{LockNo, QueueName, StepKind, Turn};
-use std::alloc::Global;
+use std::alloc::{AllocError, Global};
 use std::test::Fail;
-use turn_calls::{NoThread, OpenWorld, ThreadState};
+use turn_calls::{NoThread, OpenWorld, ThreadNow, ThreadState};
 
 // A thread of little importance holds a mutex, one of great importance waits for it and lends it its priority.
 const SCRIPT: &[u8] = b"lockrun 1\nmutex bus buses\nthread low 200\nlock bus\nunlock bus\nend\n\
@@ -86,28 +86,79 @@ const WHOLE: &[u8] = b"0 low lock bus\n1 low unlock bus\n2 high lock bus\n3 high
 
 #[test]
 fn turns_are_told(rt: HostRuntime) -> Result<(), Fail> {
-    let alloc = rt.alloc();
-    let mut world = opened(alloc, SCRIPT)?;
-    for &(thread, turn, low, high) in ROWS {
-        let (behind, answer) = world.turn(thread);
-        assert_eq!(rt; answer, Ok(turn));
-        let (behind, first) = behind.thread(0);
-        let first = first.map_err(|_| "there is a first thread")?;
-        assert_eq!(rt; (first.state, first.effective.0), low);
-        let (behind, second) = behind.thread(1);
-        let second = second.map_err(|_| "there is a second thread")?;
-        assert_eq!(rt; (second.state, second.blocked_on), high);
+    let world = opened(rt.alloc(), SCRIPT)?;
+    assert!(rt; is_told(rt.alloc(), world)?);
+    Ok(())
+}
+
+// Whether all turns are told so, and behind them the text, also where turns were refused.
+fn is_told(alloc: Global, begun: OpenWorld) -> Result<bool, AllocError> {
+    let (world, are_told) = has_turns(begun);
+    let (world, before) = has_text(alloc, world, WHOLE);
+    let (world, are_refused) = refuses_others(world);
+    let (_, behind) = has_text(alloc, world, WHOLE);
+    Ok(before? && behind? && are_told && are_refused)
+}
+
+// Makes the turns of all rows. Whether each is told so.
+fn has_turns(begun: OpenWorld) -> (OpenWorld, bool) {
+    let (mut world, mut are_told) = (begun, true);
+    for row in ROWS {
+        let (behind, is_told) = has_turn(world, row);
+        are_told = are_told && is_told;
         world = behind;
     }
+    (world, are_told)
+}
+
+// Makes a turn of a row. Whether it answers so, and both threads are told to be that behind it.
+fn has_turn(world: OpenWorld, row: &Row) -> (OpenWorld, bool) {
+    let (thread, turn, low, high) = *row;
+    let (world, answer) = world.turn(thread);
+    let (world, first) = world.thread(0);
+    let (world, second) = world.thread(1);
+    (
+        world,
+        answer == Ok(turn) && lent(first) == Some(low) && queued(second) == Some(high),
+    )
+}
+
+// What a thread is, with its effective priority.
+fn lent(told: Result<ThreadNow, NoThread>) -> Option<(ThreadState, u8)> {
+    match told {
+        Ok(now) => Some((now.state, now.effective.0)),
+        Err(_) => None,
+    }
+}
+
+// What a thread is, and what it is blocked on.
+fn queued(told: Result<ThreadNow, NoThread>) -> Option<(ThreadState, Option<QueueName>)> {
+    match told {
+        Ok(now) => Some((now.state, now.blocked_on)),
+        Err(_) => None,
+    }
+}
+
+// Whether no thread has the number 2, and none 255.
+fn refuses_others(world: OpenWorld) -> (OpenWorld, bool) {
+    let (world, turn) = world.turn(2);
+    let (world, thread) = world.thread(255);
+    (world, turn == Err(NoThread) && thread.is_err())
+}
+
+// Whether a run has that text.
+fn has_text(
+    alloc: Global,
+    world: OpenWorld,
+    whole: &[u8],
+) -> (OpenWorld, Result<bool, AllocError>) {
     let (world, text) = world.text(alloc);
-    assert_eq!(rt; text?.as_slice(), WHOLE);
-    let (world, none) = world.turn(2);
-    assert_eq!(rt; none, Err(NoThread));
-    let (world, none) = world.thread(255);
-    assert_eq!(rt; none, Err(NoThread));
-    let (_, text) = world.text(alloc);
-    assert_eq!(rt; text?.as_slice(), WHOLE);
-    Ok(())
+    (world, is_text(text, whole))
+}
+
+fn is_text(text: Result<Vec<u8>, AllocError>, whole: &[u8]) -> Result<bool, AllocError> {
+    let text = text?;
+    Ok(text.as_slice() == whole)
 }
 
 // The texts of runs that are cut short: where a thread could go on, and where none can.
@@ -135,18 +186,31 @@ const CUT: &[(&[u8], &[u8], &[u8])] = &[
 
 #[test]
 fn texts_tell_runs_as_they_stand(rt: HostRuntime) -> Result<(), Fail> {
-    let alloc = rt.alloc();
-    for &(script, turns, whole) in CUT {
-        let mut world = opened(alloc, script)?;
-        for &thread in turns {
-            let (behind, answer) = world.turn(thread);
-            assert!(rt; answer.is_ok());
-            world = behind;
-        }
-        let (_, text) = world.text(alloc);
-        assert_eq!(rt; text?.as_slice(), whole);
+    for (row, &(script, turns, whole)) in CUT.iter().enumerate() {
+        assert!(rt;
+            is_cut_so(rt.alloc(), script, turns, whole)?,
+            "in row {row}"
+        );
     }
     Ok(())
+}
+
+fn is_cut_so(alloc: Global, script: &[u8], turns: &[u8], whole: &[u8]) -> Result<bool, Fail> {
+    let world = opened(alloc, script)?;
+    let (world, are_made) = behind(world, turns);
+    let (_, text) = world.text(alloc);
+    Ok(is_text(text, whole)? && are_made)
+}
+
+// The world behind these turns, and whether each was made.
+fn behind(begun: OpenWorld, turns: &[u8]) -> (OpenWorld, bool) {
+    let (mut world, mut are_made) = (begun, true);
+    for thread in turns {
+        let (behind, answer) = world.turn(*thread);
+        are_made = are_made && answer.is_ok();
+        world = behind;
+    }
+    (world, are_made)
 }
 
 fn opened(alloc: Global, script: &[u8]) -> Result<OpenWorld, Fail> {

@@ -1,12 +1,15 @@
-use Rattle.std.proofs.Common.{◌≡◌, ◌++◌}
-use Rattle.chart_escape.specs.JsonReader.{behind_items, read}
-use Rattle.chart_html.proofs.Arrays.{rest_of_track}
-use Rattle.chart_html.specs.Tracks.{track_bytes, value_bytes}
+use Rattle.std.proofs.Common.{◌≡◌, ◌≤◌, ◌++◌, ◌==◌, drop}
+use Rattle.std.specs.Prelude.{option_map}
+use Rattle.chart_escape.specs.Values.{items_bytes, line_items, told_from, value_bytes}
+use Rattle.chart_html.specs.Tracks.{cell, changed, column_track, pair, told}
 use Rattle.chart_html.proofs.columns.push_column.Given as goal
 
-abbrev pub invariant-loop-i : goal.invariant-loop-i
-invariant-loop-i l = record {
-  pushed : l.out.items ++ rest_of_track (value_bytes l.plan l.column) l.i l.change-items
-      ≡ l.fn.out.items ++ track_bytes (value_bytes l.plan l.column) l.change-items;
-  reads : read l.out.items ≡ behind_items l.i (read l.fn.out.items).opens;
-}
+-- what is left: the changes of the rows that come
+abbrev pub invariant-loop-row : goal.invariant-loop-row
+invariant-loop-row l =
+    let left = changed (told l.plan l.column) (option_map (λ text. text.items) l.last) (drop l.row-index l.rows) in
+    record {
+      few : l.n ≤ l.row-index;
+      pushed : l.out.items ++ items_bytes (l.n == 0) (line_items (told_from (λ i. pair (cell l.plan l.column)) l.n left))
+          ≡ l.fn.out.items ++ l.name ++ value_bytes (column_track l.plan l.column l.rows);
+    }

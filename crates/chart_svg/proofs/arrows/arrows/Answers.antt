@@ -1,5 +1,4 @@
-use Rattle.chart_svg.proofs.Drawn.{arrows_more}
-use Rattle.chart_svg.proofs.Standing.{all_in_all}
+use Rattle.chart_svg.proofs.Standing.{all_in_all, arrows_more}
 use Rattle.chart_svg.specs.Pages.{ArrowIsOn}
 use Rattle.chart_svg.specs.Shapes.{shapes_bytes}
 use Rattle.chart_svg.proofs.arrows.arrows.Goals as goal

@@ -1,5 +1,4 @@
-use Rattle.chart_svg.proofs.Drawn.{bars_kept}
-use Rattle.chart_svg.proofs.Standing.{all_in_all, item_drawn}
+use Rattle.chart_svg.proofs.Standing.{all_in_all, bars_kept, item_drawn}
 use Rattle.chart_svg.specs.Lanes.{BarsAreDrawn}
 use Rattle.chart_svg.specs.Shapes.{shapes_bytes}
 use Rattle.chart_svg.proofs.bars.bars.Goals as goal

@@ -1,21 +1,20 @@
-use Rattle.std.proofs.Common.{◌+◌, ◌∙◌, ap}
-use Rattle.chart_svg.proofs.Drawn.{stop_kept}
-use Rattle.chart_svg.proofs.Standing.{keeps_left, keeps_right, last_stands, words_same}
-use Rattle.chart_svg.specs.Drawn.{pixels}
+use Rattle.std.proofs.Common.{◌+◌, ◌∙◌, ap, codes}
+use Rattle.chart_svg.proofs.Standing.{last, left, right, stop_kept, within}
+use Rattle.chart_svg.specs.Drawn.{pixels, words_bytes}
 use Rattle.chart_svg.specs.Pages.{stop_at}
 use Rattle.chart_svg.proofs.frame.lane_frame.Goals as goal
 
 pub returns : goal.returns
 returns c =
-    let line = c.in_ok-append-2.ensures.items in
+    let line = left _ _ _ c.in_ok-append-2.ensures.items in
     record {
-      name = keeps_left _ _ _ line _
-          (keeps_left _ _ _ c.in_ok-append.ensures.items _ (last_stands _ _ _ _ c.in_ok-push.ensures.items
-          (c.in_ok-words.ensures
-          ∙ words_same _ _ 24 _ _ _ _ c.of.ensures (c.plus.ensures ∙ ap (λ y. pixels (y + 4)) c.line.ensures)
-          c.thread_name-name.ensures)));
-      prio = λ step is. keeps_left _ _ _ line _
-          (keeps_right _ _ _ c.in_ok-append.ensures.items _ (c.in_ok-priority.ensures step is));
-      stop = stop_kept c.args.lane.now (stop_at c.args.page.now c.args.lane.now.thread.0) _ _ (keeps_right _ _ _ line)
-          c.in_ok-own_line.ensures;
+      name = within _ _ _ line (within _ _ _ (left _ _ _ c.in_ok-append.ensures.items)
+          (last _ _ _ _ c.in_ok-push.ensures.items (c.in_ok-words.ensures
+          ∙ ap (λ y. words_bytes (codes "name") 24 y c.thread_name-name.result.now)
+          (c.plus.ensures ∙ ap (λ y. pixels (y + 4)) c.line.ensures)
+          ∙ ap (words_bytes (codes "name") 24 _) c.thread_name-name.ensures)));
+      prio = λ step is. within _ _ _ line
+          (within _ _ _ (right _ _ _ c.in_ok-append.ensures.items) (c.in_ok-priority.ensures step is));
+      stop = stop_kept c.args.lane.now (stop_at c.args.page.now c.args.lane.now.thread.0) _ _
+          (right _ _ _ c.in_ok-append-2.ensures.items) c.in_ok-own_line.ensures;
     }

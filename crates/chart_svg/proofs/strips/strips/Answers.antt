@@ -1,5 +1,4 @@
-use Rattle.chart_svg.proofs.Drawn.{loans_kept}
-use Rattle.chart_svg.proofs.Standing.{all_in_all, item_drawn}
+use Rattle.chart_svg.proofs.Standing.{all_in_all, item_drawn, loans_kept}
 use Rattle.chart_svg.specs.Lanes.{LoansAreDrawn}
 use Rattle.chart_svg.specs.Shapes.{shapes_bytes}
 use Rattle.chart_svg.proofs.strips.strips.Goals as goal

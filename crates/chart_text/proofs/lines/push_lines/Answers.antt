@@ -10,7 +10,7 @@ loop-turn-preserved c =
     let rows = c.args.rows.now in
     let turn = c.loop-turn.turn in
     let pushed = c.in_ok-push_turn.ensures
-    ∙ ap (λ said. c.loop-turn.out.items ++ line_of plan c.args.width rows turn (slice_get rows.turns turn) said)
+    ∙ ap (λ said. c.loop-turn.out.items ++ line_of plan c.args.width turn (slice_get rows.turns turn) said)
     (c.words_of.ensures ∙ c.requires turn) in
     lines_more plan c.args.width rows c.args.chart.now turn c.args.chart.now.last c.loop-turn-test.true _ _ _ pushed
     c.loop-turn.invariant

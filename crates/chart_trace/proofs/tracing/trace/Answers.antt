@@ -1,12 +1,20 @@
-use Rattle.std.proofs.Common.{◌∙◌, ◌++◌, ap, codes}
-use Rattle.chart_trace.specs.Events.{beginning, end_event, event_bytes, next_lines, other_events}
+use Rattle.std.proofs.Common.{◌∙◌, ◌++◌, ap, codes, subst, sym}
+use Rattle.chart_escape.specs.Values.{IsJson}
+use Rattle.chart_trace.proofs.Traces.{trace_is, trace_is_json}
+use Rattle.chart_trace.specs.Events.{beginning, next_lines, other_events}
 use Rattle.chart_trace.proofs.tracing.trace.Goals as goal
 
 pub returns-clause-told : goal.returns-clause-told
 returns-clause-told c =
+    let plan = c.args.plan.now in
     let chart = c.args.chart.now in
-    c.in_ok-end_object.ensures.pushed
-    ∙ ap (λ w. w ++ codes "}\n") (c.in_ok-end_array.ensures.pushed
-    ∙ ap (λ w. w ++ codes "]") (c.in_ok-push_others.ensures.pushed
-    ∙ ap (λ w. w ++ next_lines (other_events c.args.plan.now chart)) (c.in_ok-begin_trace.ensures.pushed
-    ∙ ap (λ w. w ++ beginning c.args.title.now ++ codes "[" ++ codes "\n" ++ event_bytes (end_event chart)) c.new-out.ensures.items)))
+    let title = c.args.title.now in
+    c.in_ok-push_tokens.ensures
+    ∙ ap (λ w. w ++ codes "]}\n") (c.in_ok-push_others.ensures
+    ∙ ap (λ w. w ++ next_lines (other_events plan chart)) (c.in_ok-push_begin.ensures
+    ∙ ap (λ w. w ++ beginning chart title) c.new-out.ensures.items))
+    ∙ trace_is plan chart title
+
+pub returns-clause-json : goal.returns-clause-json
+returns-clause-json c =
+    subst IsJson (sym (returns-clause-told c)) (trace_is_json c.args.plan.now c.args.chart.now c.args.title.now)

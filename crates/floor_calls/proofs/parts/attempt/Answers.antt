@@ -1,25 +1,24 @@
-use Rattle.floor_calls.specs.Stages.{told_of_try}
+use Rattle.std.proofs.Common.{sym, ap, subst, ◌∙◌}
+use Rattle.floor_calls.specs.Stages.{stage_behind}
+use Rattle.floor_calls.specs.Threads.{IsAt}
+use Rattle.floor_calls.specs.declared.stages.Stage.{Stage}
 use Rattle.floor_calls.specs.declared.stages.Stage.TheVariants.{Tries}
-use Rattle.floor_calls.proofs.Standing.{is_told, stands, stands_behind, try_begins}
+use Rattle.floor_calls.proofs.Standing.{try_begins}
 use Rattle.floor_calls.proofs.parts.attempt.Goals as goal
 
 pub returns-clause-at : goal.returns-clause-at
 returns-clause-at c =
     let part = c.begin_try-part in
     let f = c.args.floor.now in
-    stands_behind Tries c.behind.result c.told_of_try.result (told_of_try part.result) c.behind.ensures
-    c.told_of_try.ensures
-    f part.new.pass
-    (try_begins f c.args.pass.now part.new.pass part.ensures.own c.args.l c.args.mode part.result
-    part.ensures.begun)
+    subst (λ (s : Stage). IsAt f s part.new.pass) (sym (c.begun.ensures.stands ∙ ap (stage_behind Tries) c.told_of_try.ensures))
+    (try_begins f c.args.pass.now part.new.pass part.ensures.own c.args.l c.args.mode part.result part.ensures.begun)
 
 pub returns-clause-did : goal.returns-clause-did
 returns-clause-did c =
     let part = c.begin_try-part in
-    let t = told_of_try part.result in
     record {
       part = part.result;
-      tells = is_told Tries c.behind.result c.told_of_try.result t c.behind.ensures c.told_of_try.ensures;
-      stands = stands Tries c.behind.result c.told_of_try.result t c.behind.ensures c.told_of_try.ensures;
+      tells = c.begun.ensures.next ∙ c.told_of_try.ensures;
+      stands = c.begun.ensures.stands ∙ ap (stage_behind Tries) c.told_of_try.ensures;
       did = part.ensures.begun;
     }

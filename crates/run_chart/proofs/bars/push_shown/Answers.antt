@@ -1,15 +1,19 @@
-use Rattle.std.proofs.Common.{refl}
-use Rattle.std.proofs.lemmas.Result.{on_ok_weaker}
-use Rattle.run_chart.specs.Bars.{as_shown, bar_drawn, kind_shown}
-use Rattle.run_chart.proofs.Drawn.{adds_told}
+use Rattle.std.proofs.Common.{◌++◌, ap, flat_map, refl, ◌∙◌}
+use Rattle.std.specs.Prelude.{option_to_list}
+use Rattle.std.proofs.lemmas.List.{take_all}
+use Rattle.run_chart.specs.Bars.{bar_drawn, bar_of}
+use Rattle.run_chart.proofs.Drawn.{adds_spans}
 use Rattle.run_chart.proofs.bars.push_shown.Goals as goal
 
 pub returns : goal.returns
-returns g c =
+returns g c = λ is makes.
+    let at = c.args.at.now in
     let spans = c.in_ok-spans in
-    let from = c.args.from in
-    let to = c.args.to in
-    on_ok_weaker c.push_spans.result
-    (λ pushed kind makes.
-    adds_told bar_drawn c.args.thread.0 from to kind_shown (as_shown kind) kind c.args.bars.now.items c.push_spans.new.bars.items spans.spans.items c.deref.result.now c.args.track.now (λ v. refl) c.deref.ensures.value
-    (spans.ensures.values (as_shown kind) makes) (pushed from to (rw c.deref.ensures.value spans.ensures.within))) c.push_spans.ensures
+    let old = c.args.bars.now.items in
+    adds_spans bar_drawn at.who.0 at.from at.to (λ shown. shown.0)
+    (λ s what. record { thread = at.who; what = what; first = s.first; last = s.last }) (λ s what. refl) old
+    c.loop-span.bars.items spans.spans.items is spans.ensures.within (spans.ensures.values is makes)
+    (c.loop-span.invariant
+    ∙ ap (λ ss. old ++ flat_map (λ s. option_to_list (bar_of at.who s)) ss)
+    (take_all c.loop-span.span-index c.deref-span-items.result.now c.loop-span-test.false
+    ∙ c.deref-span-items.ensures.value))

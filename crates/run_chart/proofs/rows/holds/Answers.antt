@@ -1,9 +1,5 @@
-use Rattle.std.proofs.Common.{arith}
 use Rattle.run_chart.proofs.Told.{holds_nothing}
 use Rattle.run_chart.proofs.rows.holds.Goals as goal
-
-pub thread_rows-requires : goal.thread_rows-requires
-thread_rows-requires c = let each = c.requires.turn.run.told.columns.thread_each in omega (arith, each, c.requires.thread)
 
 pub returns-in-None : goal.returns-in-None
 returns-in-None c =

@@ -2,9 +2,6 @@ use Rattle.std.proofs.Common.{arith}
 use Rattle.run_chart.proofs.Told.{row_told}
 use Rattle.run_chart.proofs.rows.thread_in.Goals as goal
 
-pub thread_rows-requires : goal.thread_rows-requires
-thread_rows-requires c = let each = c.requires.turn.run.told.columns.thread_each in omega (arith, each, c.requires.thread)
-
 pub returns : goal.returns
 returns c =
     row_told c.args.at.now.plan.now c.args.at.now.rows.now c.requires.turn.run c.args.t.0 c.thread_rows.result.now c.thread_rows.ensures

@@ -1,17 +1,17 @@
-use Rattle.std.proofs.Common.{◌≡◌, ℕ, ◌≤◌, ◌++◌, length}
-use Rattle.std.specs.Prelude.{option_map, option_to_list}
+use Rattle.std.proofs.Common.{◌≡◌, ℕ, ◌<◌, ◌≤◌, ◌++◌, [], ◌∷◌, cond, get_or, leb}
 use Rattle.std.specs.List.{All}
 use Rattle.run_chart.specs.Spans.{values_at, IsWithin, Makes}
-use Rattle.run_tracks.specs.Tracks.{value_in, Ascend}
 use Rattle.run_chart.proofs.spans.spans.Given as goal
 
-abbrev pub invariant-loop-change : goal.invariant-loop-change
-invariant-loop-change g l = record {
-  ascends : Ascend l.left;
+-- the spans so far and the one that goes on tell the rows up to the next change
+abbrev pub invariant-loop-i : goal.invariant-loop-i
+invariant-loop-i g l = record {
   within : All (IsWithin l.from l.to) l.spans.items;
-  tells : (f : g.row.T.Denot → g.row.U.Denot) → Makes (goal.F-post g l.made) f → (n : ℕ) → l.from ≤ n → n ≤ l.to
-      → values_at n l.spans.items ++ option_to_list (option_map f (value_in n l.left)) ≡ option_to_list (option_map f (value_in n l.track));
+  begins : l.from ≤ l.first;
+  ends : l.first ≤ l.to;
+  ahead : (k : ℕ) (d : ℕ × g.row.T.Denot) → l.i ≤ k → k < l.up_to → l.first < (get_or l.changes k d).0;
+  behind : (n : ℕ) → l.first ≤ n → values_at n l.spans.items ≡ [];
+  tells : (is : ℕ → g.row.U.Denot) → Makes (goal.F-post g l.made) l.track l.from l.to is → (n : ℕ) → l.from ≤ n
+      → n ≤ l.to → ((d : ℕ × g.row.T.Denot) → l.i < l.up_to → n < (get_or l.changes l.i d).0)
+      → values_at n l.spans.items ++ cond (leb l.first n) (l.value ∷ []) [] ≡ is n ∷ [];
 }
-
-abbrev pub decreases-loop-change : goal.decreases-loop-change
-decreases-loop-change g l = length l.left

@@ -1,6 +1,5 @@
 use Rattle.std.proofs.Common.{◌≡◌, ℕ, ap, sym, arith, ◌∙◌}
 use Rattle.run_chart.specs.Turns.{arrows_shown, in_turns, mark_shown, sentence_shown}
-use Rattle.run_chart.proofs.Told.{turn_of}
 use Rattle.run_chart.proofs.Turns.{no_turns, turns_more}
 use Rattle.run_chart.proofs.window.turns.Goals as goal
 
@@ -13,15 +12,6 @@ loop-turn-init c =
       arrows = c.new-arrows.ensures.items ∙ sym (no_turns arrows_shown plan from);
       sentences = c.new-sentences.ensures.items ∙ sym (no_turns sentence_shown plan from);
     }
-
-pub push_mark-requires : goal.push_mark-requires
-push_mark-requires c = turn_of c.args.plan.now c.args.rows.now c.requires.run c.loop-turn.turn c.turn_at-row.result c.turn_at-row.ensures
-
-pub push_arrows-requires : goal.push_arrows-requires
-push_arrows-requires c = turn_of c.args.plan.now c.args.rows.now c.requires.run c.loop-turn.turn c.turn_at-row.result c.turn_at-row.ensures
-
-pub push_sentence-requires : goal.push_sentence-requires
-push_sentence-requires c = turn_of c.args.plan.now c.args.rows.now c.requires.run c.loop-turn.turn c.turn_at-row.result c.turn_at-row.ensures
 
 pub loop-turn-preserved : goal.loop-turn-preserved
 loop-turn-preserved c =

@@ -1,4 +1,4 @@
-use Rattle.std.proofs.Common.{◌≡◌, ◌+◌, length, Some, sym, ap, subst, ◌∙◌, arith}
+use Rattle.std.proofs.Common.{◌≡◌, ◌+◌, length, Some, sym, ap, subst, ◌∙◌}
 use Rattle.std.proofs.lemmas.List.{length-reverse}
 use Rattle.lock_model.specs.declared.plan.Plan.{Plan}
 use Rattle.lock_state.specs.Run as run
@@ -6,13 +6,10 @@ use Rattle.lock_state.specs.Run.{course_after, go_on, next_turn}
 use Rattle.step_world.specs.Courses.{IsCourse}
 use Rattle.step_world.specs.Worlds.{World, Represents}
 use Rattle.run_laws.proofs.TurnsOfCourses.{one_more}
-use Rattle.run_tracks.specs.Rows.{TellsColumns, run_in}
+use Rattle.run_tracks.specs.Rows.{TellsColumns, history_in, run_in}
 use Rattle.run_rows.proofs.Turns.{columns_stay, made_by, others_hold, same_run}
 use Rattle.run_rows.proofs.rows.make_turn.Goals as goal
 use Rattle.run_rows.proofs.rows.make_turn.Goals.{in-Did+in_ok-note-in-Did, in-Idle}
-
-pub overflow_cast-result : goal.overflow_cast-result
-overflow_cast-result c = omega (arith, c.history.ensures.few)
 
 pub returns : goal.returns
 returns c plan chains at =
@@ -23,12 +20,13 @@ returns c plan chains at =
     let by = made_by plan k c.in-Some.who.0 c.in-Some.answer made in
     let behind : IsCourse c.go_on.new.self (course_after plan (n + 1)) = subst (IsCourse c.go_on.new.self) (ap (λ (p : Plan). go_on p k) at.plan_is ∙ sym (one_more plan n)) (c.go_on.ensures.course k at.course_is) in
     let shows : Represents c.world-world.result.now (run_in plan (n + 1)) = subst (λ (w : World). Represents w (run_in plan (n + 1))) (sym c.world-world.ensures) behind.shows in
+    let was = c.history-history.ensures.history (run_in plan n) (subst (λ (w : World). Represents w (run_in plan n)) (sym c.world.ensures) at.course_is.shows) in
     let its_plan : c.world-world.result.now.plan ≡ plan = ap (λ (w : World). w.plan) c.world-world.ensures ∙ c.go_on.ensures.plan ∙ at.plan_is in
     let its_chains : c.world-world.result.now.chains ≡ chains = ap (λ (w : World). w.chains) c.world-world.ensures ∙ c.go_on.ensures.chains ∙ at.chains_are in
     let tells : TellsColumns plan chains (run_in plan) (n + 1 + 1) c.match-answer.columns.threads.items c.match-answer.columns.words.items c.match-answer.columns.queues = elim c.match-answer.branch [
       | in-Did+in_ok-note-in-Did b ↦ rw b.columns-is (let told = rw (its_plan, its_chains) at (b.in_ok-note-in-Did.ensures (run_in plan) shows (others_hold plan n c.in-Some.who.0 c.in-Some.answer by)) in told at.tells)
       | in-Idle b ↦ rw b.columns-is (columns_stay (run_in plan) n (same_run plan n c.in-Some.who.0 c.in-Some.answer by b.in-Idle.is) plan chains _ _ _ at.tells)
     ] in (
-      record { going = by.going; made = made; thread = rw at.plan_is at gone.thread; entries = ap length (c.history.ensures.history (run_in plan (n + 1)) shows) ∙ length-reverse (run_in plan (n + 1)).state.history },
+      record { going = by.going; made = made; thread = rw at.plan_is at gone.thread; entry = c.newest.ensures (history_in plan n) (history_in plan (n + 1)) (ap length was ∙ length-reverse (history_in plan n)) (c.history.ensures.history (run_in plan (n + 1)) shows) },
       record { plan_is = c.go_on.ensures.plan ∙ at.plan_is; chains_are = c.go_on.ensures.chains ∙ at.chains_are; course_is = behind; tells = tells },
     )

@@ -2,7 +2,7 @@ use Rattle.std.proofs.Common.{◌≡◌, ℕ, length}
 use Rattle.lock_model.specs.declared.plan.Plan.{Plan}
 use Rattle.run_rows.specs.Making.{IsAt}
 use Rattle.run_tracks.specs.Rows.{IsTurn}
-use Rattle.run_rows.proofs.Noting.{EachAt}
+use Rattle.run_tracks.specs.Tracks.{EachAt}
 use Rattle.run_rows.proofs.rows.make_turns.Given as goal
 
 -- as many turns were made as are behind the course

@@ -5,7 +5,7 @@ use Rattle.chart_svg.proofs.page.LaneBand.put_strip.Goals as goal
 
 pub returns-then-changes-clause-fits : goal.returns-then-changes-clause-fits
 returns-then-changes-clause-fits c =
-    fits_lent c.args.page.now _ c.bars_end-end.result c.plus.result c.requires.begins c.requires.begin_fits
+    fits_lent c.args.page.now.prios.items _ c.bars_end-end.result c.plus.result c.requires.begins c.requires.begin_fits
     c.bars_end-end.ensures refl c.plus.ensures
     (c.plus-self.ensures ∙ ap (λ n. pixels (n + 27))
     (c.plus-then-changes.ensures ∙ ap (λ n. pixels (c.bars_end-end.result.0 + n)) c.strip_height.ensures))

@@ -1,0 +1,210 @@
+-- What is written of a value is JSON, in which no tag begins.
+use Rattle.std.proofs.Common.{ℕ, ◌+◌, ◌<◌, ◌≤◌, ◌≡◌, ◌∙◌, ◌++◌, ap, ap₂, refl, sym, Bool, true, false, not, ◌&&◌, ◌==◌, List, [], ◌∷◌, flat_map, Some, option_and_then, append_assoc, append-nil, codes, arith}
+use Rattle.std.proofs.lemmas.Grind.{common_steps}
+use Rattle.std.specs.List.{list_all}
+use Rattle.std.proofs.lemmas.List.Folds.{list_all-append}
+use Rattle.json.proofs.Printed.Numbers.{lex-number}
+use Rattle.json.proofs.Printed.Trees.{value-json_tokens}
+use Rattle.json.specs.Json as tree
+use Rattle.json.specs.Json.{Json, document, if_last, max_depth, value}
+use Rattle.json.specs.Lex.{Place, after_comma, after_value, begins_colon, between, fresh, lex, punctuate}
+use Rattle.json.specs.Token.{Token}
+use Rattle.json.specs.Tree.{depth, items_depth, items_tokens, json_tokens, members_tokens}
+use Rattle.json.specs.Word.{ends_word}
+use Rattle.chart_escape.proofs.Numbers.{is_number, number_passes}
+use Rattle.chart_escape.proofs.Strings.{string_lexed}
+use Rattle.chart_escape.specs.Json.{json_byte, json_string, HasNoTag, IsReadBack}
+use Rattle.chart_escape.specs.Values.{Value, Number, String, Array, Object, Items, NoItems, Item, LineItem, Members, NoMembers, Member, LineMember, comma_before, items_bytes, line_items, members_bytes, number_bytes, told_from, text_bytes, value_bytes, IsJson}
+
+-- 1. What a reader takes a value for
+
+abbrev mutual
+  pub json_of : Value → Json
+  json_of (Number n) = tree.number (number_bytes n)
+  json_of (String text) = tree.string text
+  json_of (Array is) = tree.array (json_items is)
+  json_of (Object ms) = tree.object (json_members ms)
+
+  pub json_items : Items → tree.Items
+  json_items NoItems = tree.no_items
+  json_items (Item v is) = tree.item (json_of v) (json_items is)
+  json_items (LineItem v is) = tree.item (json_of v) (json_items is)
+
+  pub json_members : Members → tree.Members
+  json_members NoMembers = tree.no_members
+  json_members (Member name v ms) = tree.member name (json_of v) (json_members ms)
+  json_members (LineMember name v ms) = tree.member name (json_of v) (json_members ms)
+
+-- at most so many arrays and objects lie in one another
+abbrev pub IsShallow : ℕ → Value → Type 0
+IsShallow k v = depth (json_of v) ≤ k
+
+-- 2. Its tokens
+
+-- what stands behind a value ends it, and makes no name of it
+record Ends (r : List ℕ) : Type 0 where
+  word : ends_word r ≡ true
+  colon : begins_colon (lex between r) ≡ false
+
+items_end : (is : Items) (r : List ℕ) → Ends (items_bytes false is ++ r)
+unfolding lex
+items_end NoItems r = record { word = refl; colon = refl }
+items_end (Item v is) r = record { word = refl; colon = refl }
+items_end (LineItem v is) r = record { word = refl; colon = refl }
+
+members_end : (ms : Members) (r : List ℕ) → Ends (members_bytes false ms ++ r)
+unfolding lex
+members_end NoMembers r = record { word = refl; colon = refl }
+members_end (Member name v ms) r = record { word = refl; colon = refl }
+members_end (LineMember name v ms) r = record { word = refl; colon = refl }
+
+-- where a reader is before the comma of an item, and behind it
+abbrev before : Bool → Place
+before true = fresh
+before false = after_value
+
+abbrev behind : Bool → Place
+behind true = fresh
+behind false = after_comma
+
+comma_read : (first : Bool) (r : List ℕ) → punctuate (before first) (lex between (comma_before first ++ r)) ≡ punctuate (behind first) (lex between r)
+unfolding lex punctuate
+comma_read true r = refl
+comma_read false r = refl
+
+name_read : (first : Bool) (name r : List ℕ)
+    → punctuate (behind first) (lex between (json_string name ++ 58 ∷ r)) ≡ Token.key name ∷ punctuate fresh (lex between r)
+unfolding lex punctuate
+name_read true name r = ap (punctuate fresh) (string_lexed name (58 ∷ r))
+name_read false name r = ap (punctuate after_comma) (string_lexed name (58 ∷ r))
+
+-- what stands behind a comma, one part behind the other
+after : (a b c d : List ℕ) → a ++ b ++ c ++ d ≡ a ++ (b ++ (c ++ d))
+after a b c d = append_assoc (a ++ b) c d ∙ append_assoc a b (c ++ d)
+
+joined : (ts us x y z : List Token) → x ≡ ts ++ y → y ≡ us ++ z → x ≡ ts ++ us ++ z
+joined ts us x y z e f = e ∙ ap (λ l. ts ++ l) f ∙ sym (append_assoc ts us z)
+
+mutual
+  unfolding lex punctuate
+
+  value_read : (first : Bool) (v : Value) (r : List ℕ) → Ends r
+      → punctuate (behind first) (lex between (value_bytes v ++ r)) ≡ json_tokens (json_of v) ++ punctuate after_value (lex between r)
+  value_read true (Number n) r e = ap (punctuate fresh) (lex-number (number_bytes n) r (is_number n) e.word)
+  value_read false (Number n) r e = ap (punctuate after_comma) (lex-number (number_bytes n) r (is_number n) e.word)
+  value_read true (String text) r e = ap (punctuate fresh) (string_lexed text r) ∙ rw e.colon refl
+  value_read false (String text) r e = ap (punctuate after_comma) (string_lexed text r) ∙ rw e.colon refl
+  value_read true (Array is) r e = ap (λ ts. Token.begin_array ∷ ts) (items_read true is r)
+  value_read false (Array is) r e = ap (λ ts. Token.begin_array ∷ ts) (items_read true is r)
+  value_read true (Object ms) r e = ap (λ ts. Token.begin_object ∷ ts) (members_read true ms r)
+  value_read false (Object ms) r e = ap (λ ts. Token.begin_object ∷ ts) (members_read true ms r)
+
+  items_read : (first : Bool) (is : Items) (r : List ℕ)
+      → punctuate (before first) (lex between (items_bytes first is ++ r)) ≡ items_tokens (json_items is) ++ punctuate after_value (lex between r)
+  items_read true NoItems r = refl
+  items_read false NoItems r = refl
+  items_read first (Item v is) r =
+      let rest = items_bytes false is ++ r in
+      ap (λ l. punctuate (before first) (lex between l)) (after (comma_before first) (value_bytes v) (items_bytes false is) r)
+      ∙ comma_read first (value_bytes v ++ rest)
+      ∙ joined (json_tokens (json_of v)) (items_tokens (json_items is)) _ _ _ (value_read first v rest (items_end is r)) (items_read false is r)
+  items_read first (LineItem v is) r =
+      let rest = items_bytes false is ++ r in
+      ap (λ l. punctuate (before first) (lex between l))
+      (after (comma_before first ++ codes "\n") (value_bytes v) (items_bytes false is) r ∙ append_assoc (comma_before first) (codes "\n") (value_bytes v ++ rest))
+      ∙ comma_read first (10 ∷ value_bytes v ++ rest)
+      ∙ joined (json_tokens (json_of v)) (items_tokens (json_items is)) _ _ _ (value_read first v rest (items_end is r)) (items_read false is r)
+
+  members_read : (first : Bool) (ms : Members) (r : List ℕ)
+      → punctuate (before first) (lex between (members_bytes first ms ++ r)) ≡ members_tokens (json_members ms) ++ punctuate after_value (lex between r)
+  members_read true NoMembers r = refl
+  members_read false NoMembers r = refl
+  members_read first (Member name v ms) r =
+      let rest = members_bytes false ms ++ r in
+      let named = json_string name ++ 58 ∷ (value_bytes v ++ rest) in
+      ap (λ l. punctuate (before first) (lex between l))
+      (after (comma_before first ++ json_string name ++ codes ":") (value_bytes v) (members_bytes false ms) r
+      ∙ after (comma_before first) (json_string name) (codes ":") (value_bytes v ++ rest))
+      ∙ comma_read first named ∙ name_read first name (value_bytes v ++ rest)
+      ∙ ap (λ ts. Token.key name ∷ ts)
+      (joined (json_tokens (json_of v)) (members_tokens (json_members ms)) _ _ _ (value_read true v rest (members_end ms r)) (members_read false ms r))
+  members_read first (LineMember name v ms) r =
+      let rest = members_bytes false ms ++ r in
+      let named = json_string name ++ 58 ∷ (value_bytes v ++ rest) in
+      ap (λ l. punctuate (before first) (lex between l))
+      (after (comma_before first ++ codes "\n" ++ json_string name ++ codes ":") (value_bytes v) (members_bytes false ms) r
+      ∙ after (comma_before first ++ codes "\n") (json_string name) (codes ":") (value_bytes v ++ rest)
+      ∙ append_assoc (comma_before first) (codes "\n") named)
+      ∙ comma_read first (10 ∷ named) ∙ name_read first name (value_bytes v ++ rest)
+      ∙ ap (λ ts. Token.key name ∷ ts)
+      (joined (json_tokens (json_of v)) (members_tokens (json_members ms)) _ _ _ (value_read true v rest (members_end ms r)) (members_read false ms r))
+
+-- 3. JSON
+
+-- a value, and what is nothing to a reader
+read_whole : (v : Value) (r : List ℕ) → Ends r → punctuate after_value (lex between r) ≡ [] → IsShallow 128 v
+    → document (value_bytes v ++ r) ≡ Some (json_of v)
+read_whole v r ends none shallow =
+    ap (λ ts. option_and_then (λ p. if_last p.0 p.1) (value max_depth ts)) (value_read true v r ends ∙ ap (λ ts. json_tokens (json_of v) ++ ts) none)
+    ∙ ap (option_and_then (λ p. if_last p.0 p.1)) (value-json_tokens (json_of v) max_depth [] shallow)
+
+pub is_json : (v : Value) → IsShallow 128 v → IsJson (text_bytes v)
+unfolding lex punctuate
+is_json v shallow = (json_of v, read_whole v (codes "\n") (record { word = refl; colon = refl }) refl shallow)
+
+pub is_read_back : (text : List ℕ) → IsReadBack text
+unfolding lex punctuate
+is_read_back text = ap document (sym (append-nil (json_string text))) ∙ read_whole (String text) [] (record { word = refl; colon = refl }) refl (omega arith)
+
+-- how deep lines nest
+pub numbered_is_shallow : {T : Type 0} (told : ℕ → T → Value) (k : ℕ) → ((i : ℕ) (x : T) → IsShallow k (told i x)) → (i : ℕ) (xs : List T)
+    → items_depth (json_items (line_items (told_from told i xs))) ≤ k
+numbered_is_shallow told k each i [] = omega arith
+numbered_is_shallow told k each i (x ∷ xs) = omega (arith, each i x, numbered_is_shallow told k each (i + 1) xs)
+
+-- 4. No tag
+
+appended : (xs ys : List ℕ) → list_all (λ b. not (b == 60)) (xs ++ ys) ≡ (list_all (λ b. not (b == 60)) xs && list_all (λ b. not (b == 60)) ys)
+appended xs ys = list_all-append (λ b. not (b == 60)) xs ys
+
+both_have_none : (xs ys : List ℕ) → HasNoTag xs → HasNoTag ys → HasNoTag (xs ++ ys)
+both_have_none xs ys h k = appended xs ys ∙ ap₂ (λ a b. a && b) h k
+
+byte_has_none : (b : ℕ) → HasNoTag (json_byte b)
+byte_has_none b = grind (arith, common_steps)
+
+text_has_none : (text : List ℕ) → HasNoTag (flat_map json_byte text)
+text_has_none [] = refl
+text_has_none (b ∷ bs) = both_have_none (json_byte b) (flat_map json_byte bs) (byte_has_none b) (text_has_none bs)
+
+pub string_has_no_tag : (text : List ℕ) → HasNoTag (json_string text)
+string_has_no_tag text = both_have_none (flat_map json_byte text) (34 ∷ []) (text_has_none text) refl
+
+digit_has_none : (d : ℕ) → d < 10 → not (48 + d == 60) ≡ true
+digit_has_none d h = grind (arith, h)
+
+comma_has_none : (first : Bool) → HasNoTag (comma_before first)
+comma_has_none true = refl
+comma_has_none false = refl
+
+mutual
+  value_has_none : (v : Value) → HasNoTag (value_bytes v)
+  value_has_none (Number n) = number_passes (λ b. not (b == 60)) digit_has_none n
+  value_has_none (String text) = string_has_no_tag text
+  value_has_none (Array is) = items_have_none true is
+  value_has_none (Object ms) = members_have_none true ms
+
+  items_have_none : (first : Bool) (is : Items) → HasNoTag (items_bytes first is)
+  items_have_none first NoItems = refl
+  items_have_none first (Item v is) = simp (appended, comma_has_none first, value_has_none v, items_have_none false is) refl
+  items_have_none first (LineItem v is) = simp (appended, comma_has_none first, value_has_none v, items_have_none false is) refl
+
+  members_have_none : (first : Bool) (ms : Members) → HasNoTag (members_bytes first ms)
+  members_have_none first NoMembers = refl
+  members_have_none first (Member name v ms) =
+      simp (appended, comma_has_none first, text_has_none name, value_has_none v, members_have_none false ms) refl
+  members_have_none first (LineMember name v ms) =
+      simp (appended, comma_has_none first, text_has_none name, value_has_none v, members_have_none false ms) refl
+
+pub text_has_no_tag : (v : Value) → HasNoTag (text_bytes v)
+text_has_no_tag v = both_have_none (value_bytes v) (codes "\n") (value_has_none v) refl

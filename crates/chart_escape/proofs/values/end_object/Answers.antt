@@ -1,8 +1,0 @@
-use Rattle.std.proofs.lemmas.Result.{on_ok_weaker}
-use Rattle.chart_escape.proofs.JsonReadings.{object_ended}
-use Rattle.chart_escape.proofs.values.end_object.Goals as goal
-
-pub returns-clause-reads : goal.returns-clause-reads
-returns-clause-reads c = on_ok_weaker c.push_tokens.result
-    (λ e. object_ended c.args.out.now.items c.push_tokens.new.out.items c.args.pieces.now c.requires.within c.requires.end e)
-    c.push_tokens.ensures.reads

@@ -1,0 +1,50 @@
+//! Arrays of the data. What stands in one says which value tells it, and pushes that.
+ghost use Rattle.std.specs.Prelude.{◌≡◌, ◌++◌, ℕ, OnOk};
+ghost use Rattle.chart_escape.specs.Values.{numbered, value_bytes, Value};
+
+use chart_escape::begin_line_item;
+use chart_layout::Chart;
+use lock_model::Plan;
+use run_tracks::Rows;
+use std::alloc::AllocError;
+
+/// What items are told by: a plan, its run, and a chart of that.
+#[derive(Clone, Copy)]
+pub struct Known<'a> {
+    pub plan: &'a Plan,
+    pub rows: &'a Rows,
+    pub chart: &'a Chart,
+}
+
+/// What stands in an array of the data.
+pub trait Listed {
+    ghost use Rattle.chart_html.specs.declared.items.Known.{Known};
+
+    /// The value that tells the item of a number.
+    ghost value: { Known → ℕ → Self → Value };
+
+    /// Pushes it. It fails where memory runs out.
+    fn push(&self, out: &mut Vec<u8>, known: &Known<'_>, n: usize) -> Result<(), AllocError>
+        ensures { OnOk result (out.new.items
+            ≡ out.old.items ++ value_bytes (value known.now n self.now)) };
+}
+
+/// Pushes an array behind its name, each item on a line of its own.
+pub fn push_items<T: Listed>(
+    out: &mut Vec<u8>,
+    name: &[u8],
+    known: &Known<'_>,
+    items: &[T],
+) -> Result<(), AllocError>
+    ensures { OnOk result (out.new.items
+        ≡ out.old.items ++ name.now ++ value_bytes (numbered (T.value known.now) items.now)) }
+{
+    out.extend_from_slice(name)?;
+    out.push(b'[')?;
+    for (i, item) in items.iter().enumerate() {
+        begin_line_item(out, i == 0)?;
+        item.push(out, known, i)?;
+    }
+    out.push(b']')?;
+    Ok(())
+}
