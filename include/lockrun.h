@@ -199,7 +199,8 @@ enum lockrun_request {
                                    SPENT. Ends by DONE */
     LOCKRUN_RELEASE_SHARED = 7, /* to release one that is held shared. The same */
     LOCKRUN_WAKE_ONE = 8,       /* to wake a channel's most important sleeper, if there is one. Its lock needn't be
-                                   held. ENDED IN_CALL NO_CHANNEL SPENT. Ends by DONE */
+                                   held, but a wake without it may come between another thread's look at what it waits
+                                   for and its wait. ENDED IN_CALL NO_CHANNEL SPENT. Ends by DONE */
     LOCKRUN_WAKE_ALL = 9,       /* to wake all its sleepers. The same */
     LOCKRUN_WAIT = 10,          /* to wait on a channel: it gives the channel's lock up, sleeps until it is woken, and
                                    takes the lock back in the same mode. ENDED IN_CALL NO_CHANNEL NOT_LAST

@@ -1,8 +1,8 @@
 //! Wrong calls are answered, and right ones go on: each row is a thread, what is asked of it, and what the rules of the
 //! calls say that it answers. A row that goes on does so until that answers something else than to go on.
 use crate::asking::ask;
-use crate::floors::{Parts, describe};
-use floor_calls::{Cause, Next, OpenFloor, Request};
+use crate::floors::{Parts, opened};
+use floor_calls::{Cause, Next, Request, Thread};
 use lock_model::{ChanNo, ClassNo, LockNo, Mode, Reversal, ThreadNo};
 use std::test::Fail;
 
@@ -117,7 +117,10 @@ const REVERSAL: Reversal = Reversal {
     wanted: ClassNo(2),
 };
 
-const ROWS: &[(usize, Request, Result<Next, Cause>)] = &[
+// A thread, what is asked of it, and what it answers.
+type Row = (usize, Request, Result<Next, Cause>);
+
+const ROWS: &[Row] = &[
     // Nothing was begun, and nothing is held.
     (0, Request::GoOn, Err(Cause::AtRest)),
     (0, RELEASE_M, Err(Cause::NotHeld(M, Mode::Excl))),
@@ -213,29 +216,38 @@ const ROWS: &[(usize, Request, Result<Next, Cause>)] = &[
 
 #[test]
 fn calls_are_answered(rt: HostRuntime) -> Result<(), Fail> {
-    let description = describe(rt.alloc(), &FLOOR)?;
-    let Ok((_open, mut threads)) = OpenFloor::open(rt.alloc(), description) else {
-        return Err("the floor isn't opened".into());
-    };
-    for (row, (t, request, answer)) in ROWS.iter().enumerate() {
-        let thread = threads.get_mut(*t).ok_or("there is no such thread")?;
-        let stage = thread.stage();
-        assert_eq!(rt; ask(thread, *request), *answer, "in row {row}");
-        assert!(rt; answer.is_ok() || thread.stage() == stage, "in row {row}");
+    let (_open, mut threads) = opened(rt.alloc(), &FLOOR)?;
+    for (row, asked) in ROWS.iter().enumerate() {
+        assert!(rt; is_answered(threads.as_mut_slice(), asked), "in row {row}");
     }
     Ok(())
 }
 
+// Whether the thread of a row answers so. One that is refused stands where it stood.
+fn is_answered(threads: &mut [Thread], row: &Row) -> bool {
+    let (t, request, answer) = *row;
+    let Some(thread) = threads.get_mut(t) else {
+        return false;
+    };
+    let stage = thread.stage();
+    ask(thread, request) == answer && (answer.is_ok() || thread.stage() == stage)
+}
+
 #[test]
 fn a_thread_holds_eight_locks(rt: HostRuntime) -> Result<(), Fail> {
-    let description = describe(rt.alloc(), &FLOOR)?;
-    let Ok((_open, mut threads)) = OpenFloor::open(rt.alloc(), description) else {
-        return Err("the floor isn't opened".into());
-    };
-    let thread = threads.get_mut(3).ok_or("there is no such thread")?;
-    for l in 2..10 {
-        assert_eq!(rt; thread.begin_try(LockNo(l), Mode::Excl), Ok(Next::Done));
-    }
-    assert_eq!(rt; thread.begin_take(M, Mode::Excl), Err(Cause::HoldsMost));
+    let (_open, mut threads) = opened(rt.alloc(), &FLOOR)?;
+    assert!(rt; holds_eight(threads.as_mut_slice()));
     Ok(())
+}
+
+fn holds_eight(threads: &mut [Thread]) -> bool {
+    let Some(thread) = threads.get_mut(3) else {
+        return false;
+    };
+    for l in 2..10 {
+        if thread.begin_try(LockNo(l), Mode::Excl) != Ok(Next::Done) {
+            return false;
+        }
+    }
+    thread.begin_take(M, Mode::Excl) == Err(Cause::HoldsMost)
 }

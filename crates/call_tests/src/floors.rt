@@ -1,7 +1,9 @@
 //! Descriptions of floors, by what they have.
+use floor_calls::{OpenFloor, Thread};
 use floor_table::{Description, LockPart, ThreadPart};
 use lock_model::{ClassNo, Kind, LockNo, Prio, Sequence};
 use std::alloc::{AllocError, Global};
+use std::test::Fail;
 
 /// What a description has: threads with these rooms, so many locks, of which the last is of this class, so many
 /// channels, all of lock 0, so many keys of each of so many locks, from 0 on, of which the first of lock 0 may stand
@@ -28,6 +30,15 @@ pub fn describe(alloc: Global, parts: &Parts) -> Result<Description, AllocError>
         keys: keys(alloc, parts)?,
         chains: parts.chains,
     })
+}
+
+/// A floor that has these, and its threads.
+pub fn opened(alloc: Global, parts: &Parts) -> Result<(OpenFloor, Vec<Thread>), Fail> {
+    let description = describe(alloc, parts)?;
+    match OpenFloor::open(alloc, description) {
+        Ok(opened) => Ok(opened),
+        Err(_) => Err("the floor isn't opened".into()),
+    }
 }
 
 fn threads(alloc: Global, parts: &Parts) -> Result<Sequence<ThreadPart>, AllocError> {

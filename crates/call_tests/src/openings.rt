@@ -85,15 +85,20 @@ const ROWS: &[(Parts, Option<Unfit>)] = &[
 #[test]
 fn descriptions_are_tested(rt: HostRuntime) -> Result<(), Fail> {
     for (row, (parts, unfit)) in ROWS.iter().enumerate() {
-        let description = describe(rt.alloc(), parts)?;
-        let answer = match OpenFloor::open(rt.alloc(), description) {
-            Ok(_) => None,
-            Err(NotOpened::Unfit(why)) => Some(why),
-            Err(NotOpened::NoMemory) => return Err("memory was wanting".into()),
-        };
+        let answer = unfit_for(rt.alloc(), parts)?;
         assert!(rt; answer == *unfit, "in row {row}");
     }
     Ok(())
+}
+
+// What stands against a floor that has these.
+fn unfit_for(alloc: Global, parts: &Parts) -> Result<Option<Unfit>, Fail> {
+    let description = describe(alloc, parts)?;
+    match OpenFloor::open(alloc, description) {
+        Ok(_) => Ok(None),
+        Err(NotOpened::Unfit(why)) => Ok(Some(why)),
+        Err(NotOpened::NoMemory) => Err("memory was wanting".into()),
+    }
 }
 
 // The only thread is the last that is awake: so it looks whether others are left before its end is done.
@@ -103,8 +108,8 @@ fn a_floor_is_closed(rt: HostRuntime) -> Result<(), Fail> {
     let Err(mut thread) = open.gather(thread) else {
         return Err("a thread was taken in that hasn't ended".into());
     };
-    assert_eq!(rt; thread.begin_end(), Ok(Next::Again));
-    assert_eq!(rt; thread.go_on(), Ok(Next::Done));
+    assert!(rt; thread.begin_end() == Ok(Next::Again));
+    assert!(rt; thread.go_on() == Ok(Next::Done));
     let Err(NotClosed::NotGathered(mut open)) = open.close() else {
         return Err("the floor was closed before its thread was taken in".into());
     };

@@ -1,7 +1,7 @@
 //! Waits of threads that one thread of the system drives, part by part.
 use crate::asking::ask;
-use crate::floors::{Parts, describe};
-use floor_calls::{Next, OpenFloor, Request, Stage, Thread};
+use crate::floors::{Parts, opened};
+use floor_calls::{Cause, Next, Request, Stage, Thread};
 use lock_model::{ChanNo, LockNo, Mode};
 use std::test::Fail;
 
@@ -38,26 +38,38 @@ const THINGS: u32 = 3;
 
 const TURNS: u32 = 1_000;
 
+const ALONE: Parts = Parts {
+    rooms: &[4],
+    ..FLOOR
+};
+
+// What the last who is awake is asked, and what it answers.
+const HALTED: [(Request, Next); 5] = [
+    (TAKE, Next::Done),
+    (WAIT, Next::Again),
+    (Request::GoOn, Next::Sleep),
+    (Request::GoOn, Next::Halted),
+    (RELEASE, Next::Done),
+];
+
 // Its sleep would leave nobody awake: so it is halted, and holds the mutex again.
 #[test]
 fn a_wait_of_the_last_who_is_awake_is_halted(rt: HostRuntime) -> Result<(), Fail> {
-    let description = describe(
-        rt.alloc(),
-        &Parts {
-            rooms: &[4],
-            ..FLOOR
-        },
-    )?;
-    let Ok((_open, mut threads)) = OpenFloor::open(rt.alloc(), description) else {
-        return Err("the floor isn't opened".into());
-    };
-    let thread = threads.get_mut(0).ok_or("there is no such thread")?;
-    assert_eq!(rt; ask(thread, TAKE), Ok(Next::Done));
-    assert_eq!(rt; ask(thread, WAIT), Ok(Next::Again));
-    assert_eq!(rt; ask(thread, Request::GoOn), Ok(Next::Sleep));
-    assert_eq!(rt; ask(thread, Request::GoOn), Ok(Next::Halted));
-    assert_eq!(rt; ask(thread, RELEASE), Ok(Next::Done));
+    let (_open, mut threads) = opened(rt.alloc(), &ALONE)?;
+    assert!(rt; is_halted(threads.as_mut_slice()));
     Ok(())
+}
+
+fn is_halted(threads: &mut [Thread]) -> bool {
+    let Some(thread) = threads.get_mut(0) else {
+        return false;
+    };
+    for (request, answer) in HALTED {
+        if ask(thread, request) != Ok(answer) {
+            return false;
+        }
+    }
+    true
 }
 
 // What a worker does: the call that its thread is in the middle of, or makes next.
@@ -84,31 +96,46 @@ struct Worker {
 // is made.
 #[test]
 fn a_producer_and_a_consumer_end(rt: HostRuntime) -> Result<(), Fail> {
-    let description = describe(rt.alloc(), &FLOOR)?;
-    let Ok((_open, mut threads)) = OpenFloor::open(rt.alloc(), description) else {
-        return Err("the floor isn't opened".into());
-    };
-    let mut producer = make_worker(threads.pop().ok_or("there is no such thread")?);
-    let mut consumer = make_worker(threads.pop().ok_or("there is no such thread")?);
-    let mut left = 0;
-    for _ in 0..TURNS {
-        let next = turn(&mut consumer)?;
-        if next == Some(Next::Done) {
-            consume(&mut consumer, &mut left);
+    let (_open, mut threads) = opened(rt.alloc(), &FLOOR)?;
+    match (threads.pop(), threads.pop()) {
+        (Some(first), Some(second)) => {
+            assert!(rt; both_end(make_worker(first), make_worker(second)));
+            Ok(())
         }
-        wake(&mut producer, next);
-        let next = turn(&mut producer)?;
-        if next == Some(Next::Done) {
-            produce(&mut producer, &mut left);
-        }
-        wake(&mut consumer, next);
+        (None, _) | (Some(_), None) => Err("there is no such thread".into()),
     }
-    assert!(rt; producer.thread.has_ended() && consumer.thread.has_ended());
-    assert_eq!(rt;
-        (producer.things, consumer.things, left),
-        (THINGS, THINGS, 0)
-    );
-    Ok(())
+}
+
+// Whether both end, and each thing that was made was used.
+fn both_end(first: Worker, second: Worker) -> bool {
+    let (mut producer, mut consumer, mut left) = (first, second, 0);
+    for _ in 0..TURNS {
+        if !take_turns(&mut producer, &mut consumer, &mut left) {
+            return false;
+        }
+    }
+    producer.thread.has_ended()
+        && consumer.thread.has_ended()
+        && (producer.things, consumer.things, left) == (THINGS, THINGS, 0)
+}
+
+// A turn of each. Whether all that was asked was made.
+fn take_turns(producer: &mut Worker, consumer: &mut Worker, left: &mut u32) -> bool {
+    let Ok(next) = turn(consumer) else {
+        return false;
+    };
+    if next == Some(Next::Done) {
+        consume(consumer, left);
+    }
+    wake(producer, next);
+    let Ok(next) = turn(producer) else {
+        return false;
+    };
+    if next == Some(Next::Done) {
+        produce(producer, left);
+    }
+    wake(consumer, next);
+    true
 }
 
 // A worker that begins with a take.
@@ -122,31 +149,38 @@ fn make_worker(thread: Thread) -> Worker {
 }
 
 // Makes one part of what a worker does, unless it sleeps or has ended.
-fn turn(worker: &mut Worker) -> Result<Option<Next>, Fail> {
-    let begin = match worker.work {
-        Work::Take => TAKE,
-        Work::Wait => WAIT,
-        Work::Wake => WAKE,
-        Work::Release => RELEASE,
-        Work::End => Request::End,
-        Work::Nothing => return Ok(None),
-    };
-    if worker.sleeps {
-        return Ok(None);
+fn turn(worker: &mut Worker) -> Result<Option<Next>, Cause> {
+    match begins(worker.work) {
+        Some(begin) if !worker.sleeps => Ok(Some(make_part(worker, begin)?)),
+        Some(_) | None => Ok(None),
     }
+}
+
+// What begins a call.
+fn begins(work: Work) -> Option<Request> {
+    match work {
+        Work::Take => Some(TAKE),
+        Work::Wait => Some(WAIT),
+        Work::Wake => Some(WAKE),
+        Work::Release => Some(RELEASE),
+        Work::End => Some(Request::End),
+        Work::Nothing => None,
+    }
+}
+
+// One part of the call that begins so.
+fn make_part(worker: &mut Worker, begin: Request) -> Result<Next, Cause> {
     let request = if worker.thread.stage() == Stage::AtRest {
         begin
     } else {
         Request::GoOn
     };
-    let Ok(next) = worker.thread.ask(request) else {
-        return Err("a call isn't made".into());
-    };
+    let next = worker.thread.ask(request)?;
     if next == Next::Sleep {
         // it may have been woken already
         worker.sleeps = worker.thread.is_queued();
     }
-    Ok(Some(next))
+    Ok(next)
 }
 
 // Ends the sleep of a worker, where the other's part woke it.

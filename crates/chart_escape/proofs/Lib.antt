@@ -1,6 +1,5 @@
-mod Digits
 mod Escapes
-pub mod Numbers
-pub mod Readings
+mod Numbers
+mod Readings
 mod Strings
 pub mod Written

@@ -1,6 +1,7 @@
--- How numbers are written in JSON.
-use Rattle.std.proofs.Common.{ℕ, zero, suc, ◌+◌, ◌^◌, ◌<◌, ◌≡◌, ◌∙◌, ◌++◌, ap, refl, sym, subst, Bool, true, false, cond, ◌==◌, if◌then◌else◌, List, [], ◌∷◌, map, flat_map, get_or, length, drop, Some, option_and_then, codes, decimal, ne_eqb, arith}
+-- How numbers are written, as `decimal` has them and in JSON.
+use Rattle.std.proofs.Common.{ℕ, zero, suc, ◌+◌, ◌/◌, ◌%◌, ◌^◌, ◌<◌, ◌≡◌, ◌∙◌, ap, refl, Bool, true, false, cond, ◌==◌, List, [], ◌∷◌, map, get_or, length, drop, Some, option_and_then, decimal, ne_eqb, arith}
 use Rattle.std.specs.Char.{is_ascii_digit}
+use Rattle.std.specs.Fmt.{digits, digits_onto, digit_glyph}
 use Rattle.std.specs.Int.Digits.{digits_of, AllBelowBase}
 use Rattle.std.specs.List.{list_all, prefix_len}
 use Rattle.std.proofs.lemmas.Bool.{and_from, and_parts}
@@ -9,32 +10,40 @@ use Rattle.std.proofs.lemmas.Int.Digits.{all_below_base_digits_of, first_digits_
 use Rattle.std.proofs.lemmas.List.{drop_all}
 use Rattle.json.specs.Print.{IsNumber}
 use Rattle.json.specs.Word.{head, after_exponent, after_fraction, after_number, after_whole}
-use Rattle.chart_escape.specs.Json.{json_byte, json_string}
 use Rattle.chart_escape.specs.Values.{number_bytes}
 
 -- 1. Their digits
-
-more_than_zero : (n : ℕ) → number_bytes (suc n) ≡ map (λ d. 48 + d) (digits_of 10 (suc n))
-unfolding number_bytes
-more_than_zero n = ap (λ b. if b then codes "0" else map (λ d. 48 + d) (digits_of 10 (suc n))) (ne_eqb (suc n) 0 (λ e. omega arith))
 
 digits_pass : (p : ℕ → Bool) → ((d : ℕ) → d < 10 → p (48 + d) ≡ true) → (ds : List ℕ) → AllBelowBase 10 ds
     → list_all p (map (λ d. 48 + d) ds) ≡ true
 digits_pass p each [] h = refl
 digits_pass p each (d ∷ ds) h = and_from _ _ (each d h.0) (digits_pass p each ds h.1)
 
--- what each digit passes, all bytes of a number pass
+-- what each digit passes, all bytes of a number pass,
 pub number_passes : (p : ℕ → Bool) → ((d : ℕ) → d < 10 → p (48 + d) ≡ true) → (n : ℕ) → list_all p (number_bytes n) ≡ true
 unfolding number_bytes
 number_passes p each zero = and_from _ _ (each 0 (omega arith)) refl
-number_passes p each (suc n) =
-    ap (list_all p) (more_than_zero n) ∙ digits_pass p each (digits_of 10 (suc n)) (all_below_base_digits_of 10 (suc n) (omega arith))
+number_passes p each (suc n) = digits_pass p each (digits_of 10 (suc n)) (all_below_base_digits_of 10 (suc n) (omega arith))
 
--- of 64 bits it is written as `decimal` has it
+onto_pass : (p : ℕ → Bool) → ((d : ℕ) → d < 10 → p (digit_glyph false d) ≡ true) → (k n : ℕ) (acc : List ℕ)
+    → list_all p acc ≡ true → list_all p (digits_onto k 10 false n acc) ≡ true
+onto_pass p each zero n acc h = h
+onto_pass p each (suc k) n acc h =
+    let small : n % 10 < 10 = grind arith in
+    let more = and_from _ _ (each (n % 10) small) h in
+    let others = onto_pass p each k (n / 10) (digit_glyph false (n % 10) ∷ acc) more in
+    grind (arith, more, others)
+
+-- and as `decimal` has it
+pub decimal_passes : (p : ℕ → Bool) → ((d : ℕ) → d < 10 → p (digit_glyph false d) ≡ true) → (n : ℕ) → list_all p (decimal n) ≡ true
+unfolding digits
+decimal_passes p each n = onto_pass p each 64 n [] refl
+
+-- of 64 bits it is written so in JSON too
 pub number_is_decimal : (n : ℕ) → n < 2 ^ 64 → decimal n ≡ number_bytes n
 unfolding number_bytes
 number_is_decimal zero h = decimal_digit 0 (omega arith)
-number_is_decimal (suc n) h = decimal-digits_of (suc n) (omega arith) h ∙ sym (more_than_zero n)
+number_is_decimal (suc n) h = decimal-digits_of (suc n) (omega arith) h
 
 -- 2. As numbers of JSON
 
@@ -62,18 +71,7 @@ pub is_number : (n : ℕ) → IsNumber (number_bytes n)
 unfolding after_number number_bytes
 is_number zero = refl
 is_number (suc n) =
-    let first = subst (λ ds. 48 < get_or ds 0 0) (sym (more_than_zero n)) (first_is (digits_of 10 (suc n)) (first_digits_of 10 (suc n) (omega arith) (omega arith))) in
+    let first = first_is (digits_of 10 (suc n)) (first_digits_of 10 (suc n) (omega arith) (omega arith)) in
     let w = whole (number_bytes (suc n)) first (all_digits (number_bytes (suc n)) (number_passes is_ascii_digit digit_is (suc n))) in
     ap (λ o. option_and_then after_exponent (option_and_then after_fraction o))
     (ap (λ b. after_whole (cond b (drop 1 (number_bytes (suc n))) (number_bytes (suc n)))) w.1 ∙ w.0)
-
--- 3. As strings
-
-digits_stay : (bs : List ℕ) → list_all is_ascii_digit bs ≡ true → flat_map json_byte bs ≡ bs
-digits_stay [] h = refl
-digits_stay (b ∷ bs) h =
-    let hs = and_parts (is_ascii_digit b) (list_all is_ascii_digit bs) h in
-    grind (arith, hs.0, digits_stay bs hs.1)
-
-pub digits_in_quotes : (n : ℕ) → json_string (number_bytes n) ≡ 34 ∷ number_bytes n ++ 34 ∷ []
-digits_in_quotes n = ap (λ bs. 34 ∷ bs ++ 34 ∷ []) (digits_stay (number_bytes n) (number_passes is_ascii_digit digit_is n))

@@ -2,11 +2,11 @@
 use Rattle.std.proofs.Common.{ℕ, ◌≡◌, ◌∙◌, ◌++◌, ◌<◌, ap, refl, sym, Bool, true, false, not, ◌||◌, ◌==◌, List, [], ◌∷◌, Some, None, decimal, arith}
 use Rattle.std.specs.Fmt.{digit_glyph}
 use Rattle.std.specs.List.{list_all}
-use Rattle.std.proofs.lemmas.Bool.{and_parts, false≢true}
-use Rattle.chart_escape.proofs.Digits.{decimal_passes}
+use Rattle.std.proofs.lemmas.Bool.{and_parts}
+use Rattle.chart_escape.proofs.Numbers.{decimal_passes}
 use Rattle.chart_escape.specs.Markup.{escaped, markup_byte}
 use Rattle.chart_escape.specs.Pieces.{piece_bytes, pieces_bytes}
-use Rattle.chart_escape.specs.Reader.{Text, Between, Quoted, Place, InText, InReference, InName, InTag, AtSlash, InClosing, Broken, Reader, at, behind, behind_byte, behind_piece, behind_pieces, behind_text, behind_words, read, is_between, IsBetweenTags, AddsElements, AreElements}
+use Rattle.chart_escape.specs.Reader.{Text, Between, Quoted, Place, InText, InReference, InName, InTag, AtSlash, InClosing, Broken, Reader, at, behind, behind_byte, behind_piece, behind_pieces, behind_text, behind_words, read, IsBetweenTags, AddsElements, AreElements}
 use Rattle.chart_escape.specs.declared.piece.Piece.{Piece}
 use Rattle.chart_escape.specs.declared.piece.Piece.TheVariants as piece
 
@@ -78,19 +78,9 @@ pieces_read_on old new ps e =
 
 -- 3. Whole elements
 
-pub text_of_place : (p : Place) (elements : List (List ℕ)) → is_between p ≡ true → at p elements ≡ at (InText Between) elements
-text_of_place (InText Between) elements h = refl
-text_of_place (InText (Quoted name)) elements h = absurd (false≢true h)
-text_of_place (InReference t) elements h = absurd (false≢true h)
-text_of_place (InName name) elements h = absurd (false≢true h)
-text_of_place (InTag name) elements h = absurd (false≢true h)
-text_of_place AtSlash elements h = absurd (false≢true h)
-text_of_place (InClosing name) elements h = absurd (false≢true h)
-text_of_place Broken elements h = absurd (false≢true h)
-
 -- pieces that leave a reader of text where it was
 pub adds : (old new : List ℕ) (ps : List Piece) → IsBetweenTags old → AreElements ps → read new ≡ behind_pieces (read old) ps
     → AddsElements old new
 adds old new ps between same e =
-    let is = text_of_place (read old).place (read old).elements between in
+    let is = ap (λ (p : Place). at p (read old).elements) between in
     e ∙ ap (λ r. behind_pieces r ps) is ∙ same (read old).elements ∙ sym is

@@ -14,7 +14,7 @@ use Rattle.json.specs.Word.{ends_word}
 use Rattle.chart_escape.proofs.Numbers.{is_number, number_passes}
 use Rattle.chart_escape.proofs.Strings.{string_lexed}
 use Rattle.chart_escape.specs.Json.{json_byte, json_string, HasNoTag, IsReadBack}
-use Rattle.chart_escape.specs.Values.{Value, Number, String, Array, Object, Items, NoItems, Item, LineItem, Members, NoMembers, Member, LineMember, comma_before, items_bytes, line_items, members_bytes, number_bytes, told_from, text_bytes, value_bytes, IsJson}
+use Rattle.chart_escape.specs.Values.{Value, Number, String, Array, Object, Items, NoItems, Item, Members, NoMembers, Member, items, items_bytes, members_bytes, number_bytes, separator, told_from, text_bytes, value_bytes, IsJson}
 
 -- 1. What a reader takes a value for
 
@@ -27,13 +27,11 @@ abbrev mutual
 
   pub json_items : Items → tree.Items
   json_items NoItems = tree.no_items
-  json_items (Item v is) = tree.item (json_of v) (json_items is)
-  json_items (LineItem v is) = tree.item (json_of v) (json_items is)
+  json_items (Item own_line v is) = tree.item (json_of v) (json_items is)
 
   pub json_members : Members → tree.Members
   json_members NoMembers = tree.no_members
-  json_members (Member name v ms) = tree.member name (json_of v) (json_members ms)
-  json_members (LineMember name v ms) = tree.member name (json_of v) (json_members ms)
+  json_members (Member own_line name v ms) = tree.member name (json_of v) (json_members ms)
 
 -- at most so many arrays and objects lie in one another
 abbrev pub IsShallow : ℕ → Value → Type 0
@@ -49,16 +47,16 @@ record Ends (r : List ℕ) : Type 0 where
 items_end : (is : Items) (r : List ℕ) → Ends (items_bytes false is ++ r)
 unfolding lex
 items_end NoItems r = record { word = refl; colon = refl }
-items_end (Item v is) r = record { word = refl; colon = refl }
-items_end (LineItem v is) r = record { word = refl; colon = refl }
+items_end (Item true v is) r = record { word = refl; colon = refl }
+items_end (Item false v is) r = record { word = refl; colon = refl }
 
 members_end : (ms : Members) (r : List ℕ) → Ends (members_bytes false ms ++ r)
 unfolding lex
 members_end NoMembers r = record { word = refl; colon = refl }
-members_end (Member name v ms) r = record { word = refl; colon = refl }
-members_end (LineMember name v ms) r = record { word = refl; colon = refl }
+members_end (Member true name v ms) r = record { word = refl; colon = refl }
+members_end (Member false name v ms) r = record { word = refl; colon = refl }
 
--- where a reader is before the comma of an item, and behind it
+-- where a reader is before the separator of an item, and behind it
 abbrev before : Bool → Place
 before true = fresh
 before false = after_value
@@ -67,10 +65,13 @@ abbrev behind : Bool → Place
 behind true = fresh
 behind false = after_comma
 
-comma_read : (first : Bool) (r : List ℕ) → punctuate (before first) (lex between (comma_before first ++ r)) ≡ punctuate (behind first) (lex between r)
+separator_read : (first own_line : Bool) (r : List ℕ)
+    → punctuate (before first) (lex between (separator first own_line ++ r)) ≡ punctuate (behind first) (lex between r)
 unfolding lex punctuate
-comma_read true r = refl
-comma_read false r = refl
+separator_read true true r = refl
+separator_read true false r = refl
+separator_read false true r = refl
+separator_read false false r = refl
 
 name_read : (first : Bool) (name r : List ℕ)
     → punctuate (behind first) (lex between (json_string name ++ 58 ∷ r)) ≡ Token.key name ∷ punctuate fresh (lex between r)
@@ -78,7 +79,7 @@ unfolding lex punctuate
 name_read true name r = ap (punctuate fresh) (string_lexed name (58 ∷ r))
 name_read false name r = ap (punctuate after_comma) (string_lexed name (58 ∷ r))
 
--- what stands behind a comma, one part behind the other
+-- what stands behind a separator, one part behind the other
 after : (a b c d : List ℕ) → a ++ b ++ c ++ d ≡ a ++ (b ++ (c ++ d))
 after a b c d = append_assoc (a ++ b) c d ∙ append_assoc a b (c ++ d)
 
@@ -103,39 +104,23 @@ mutual
       → punctuate (before first) (lex between (items_bytes first is ++ r)) ≡ items_tokens (json_items is) ++ punctuate after_value (lex between r)
   items_read true NoItems r = refl
   items_read false NoItems r = refl
-  items_read first (Item v is) r =
+  items_read first (Item own_line v is) r =
       let rest = items_bytes false is ++ r in
-      ap (λ l. punctuate (before first) (lex between l)) (after (comma_before first) (value_bytes v) (items_bytes false is) r)
-      ∙ comma_read first (value_bytes v ++ rest)
-      ∙ joined (json_tokens (json_of v)) (items_tokens (json_items is)) _ _ _ (value_read first v rest (items_end is r)) (items_read false is r)
-  items_read first (LineItem v is) r =
-      let rest = items_bytes false is ++ r in
-      ap (λ l. punctuate (before first) (lex between l))
-      (after (comma_before first ++ codes "\n") (value_bytes v) (items_bytes false is) r ∙ append_assoc (comma_before first) (codes "\n") (value_bytes v ++ rest))
-      ∙ comma_read first (10 ∷ value_bytes v ++ rest)
+      ap (λ l. punctuate (before first) (lex between l)) (after (separator first own_line) (value_bytes v) (items_bytes false is) r)
+      ∙ separator_read first own_line (value_bytes v ++ rest)
       ∙ joined (json_tokens (json_of v)) (items_tokens (json_items is)) _ _ _ (value_read first v rest (items_end is r)) (items_read false is r)
 
   members_read : (first : Bool) (ms : Members) (r : List ℕ)
       → punctuate (before first) (lex between (members_bytes first ms ++ r)) ≡ members_tokens (json_members ms) ++ punctuate after_value (lex between r)
   members_read true NoMembers r = refl
   members_read false NoMembers r = refl
-  members_read first (Member name v ms) r =
+  members_read first (Member own_line name v ms) r =
       let rest = members_bytes false ms ++ r in
       let named = json_string name ++ 58 ∷ (value_bytes v ++ rest) in
       ap (λ l. punctuate (before first) (lex between l))
-      (after (comma_before first ++ json_string name ++ codes ":") (value_bytes v) (members_bytes false ms) r
-      ∙ after (comma_before first) (json_string name) (codes ":") (value_bytes v ++ rest))
-      ∙ comma_read first named ∙ name_read first name (value_bytes v ++ rest)
-      ∙ ap (λ ts. Token.key name ∷ ts)
-      (joined (json_tokens (json_of v)) (members_tokens (json_members ms)) _ _ _ (value_read true v rest (members_end ms r)) (members_read false ms r))
-  members_read first (LineMember name v ms) r =
-      let rest = members_bytes false ms ++ r in
-      let named = json_string name ++ 58 ∷ (value_bytes v ++ rest) in
-      ap (λ l. punctuate (before first) (lex between l))
-      (after (comma_before first ++ codes "\n" ++ json_string name ++ codes ":") (value_bytes v) (members_bytes false ms) r
-      ∙ after (comma_before first ++ codes "\n") (json_string name) (codes ":") (value_bytes v ++ rest)
-      ∙ append_assoc (comma_before first) (codes "\n") named)
-      ∙ comma_read first (10 ∷ named) ∙ name_read first name (value_bytes v ++ rest)
+      (after (separator first own_line ++ json_string name ++ codes ":") (value_bytes v) (members_bytes false ms) r
+      ∙ after (separator first own_line) (json_string name) (codes ":") (value_bytes v ++ rest))
+      ∙ separator_read first own_line named ∙ name_read first name (value_bytes v ++ rest)
       ∙ ap (λ ts. Token.key name ∷ ts)
       (joined (json_tokens (json_of v)) (members_tokens (json_members ms)) _ _ _ (value_read true v rest (members_end ms r)) (members_read false ms r))
 
@@ -158,7 +143,7 @@ is_read_back text = ap document (sym (append-nil (json_string text))) ∙ read_w
 
 -- how deep lines nest
 pub numbered_is_shallow : {T : Type 0} (told : ℕ → T → Value) (k : ℕ) → ((i : ℕ) (x : T) → IsShallow k (told i x)) → (i : ℕ) (xs : List T)
-    → items_depth (json_items (line_items (told_from told i xs))) ≤ k
+    → items_depth (json_items (items true (told_from told i xs))) ≤ k
 numbered_is_shallow told k each i [] = omega arith
 numbered_is_shallow told k each i (x ∷ xs) = omega (arith, each i x, numbered_is_shallow told k each (i + 1) xs)
 
@@ -183,9 +168,11 @@ string_has_no_tag text = both_have_none (flat_map json_byte text) (34 ∷ []) (t
 digit_has_none : (d : ℕ) → d < 10 → not (48 + d == 60) ≡ true
 digit_has_none d h = grind (arith, h)
 
-comma_has_none : (first : Bool) → HasNoTag (comma_before first)
-comma_has_none true = refl
-comma_has_none false = refl
+separator_has_none : (first own_line : Bool) → HasNoTag (separator first own_line)
+separator_has_none true true = refl
+separator_has_none true false = refl
+separator_has_none false true = refl
+separator_has_none false false = refl
 
 mutual
   value_has_none : (v : Value) → HasNoTag (value_bytes v)
@@ -196,15 +183,13 @@ mutual
 
   items_have_none : (first : Bool) (is : Items) → HasNoTag (items_bytes first is)
   items_have_none first NoItems = refl
-  items_have_none first (Item v is) = simp (appended, comma_has_none first, value_has_none v, items_have_none false is) refl
-  items_have_none first (LineItem v is) = simp (appended, comma_has_none first, value_has_none v, items_have_none false is) refl
+  items_have_none first (Item own_line v is) =
+      simp (appended, separator_has_none first own_line, value_has_none v, items_have_none false is) refl
 
   members_have_none : (first : Bool) (ms : Members) → HasNoTag (members_bytes first ms)
   members_have_none first NoMembers = refl
-  members_have_none first (Member name v ms) =
-      simp (appended, comma_has_none first, text_has_none name, value_has_none v, members_have_none false ms) refl
-  members_have_none first (LineMember name v ms) =
-      simp (appended, comma_has_none first, text_has_none name, value_has_none v, members_have_none false ms) refl
+  members_have_none first (Member own_line name v ms) =
+      simp (appended, separator_has_none first own_line, text_has_none name, value_has_none v, members_have_none false ms) refl
 
 pub text_has_no_tag : (v : Value) → HasNoTag (text_bytes v)
 text_has_no_tag v = both_have_none (value_bytes v) (codes "\n") (value_has_none v) refl

@@ -1,6 +1,6 @@
 -- What a reader of markup makes of bytes: where it is behind them, and which elements are open there. So markup is well
 -- formed where each tag, attribute and reference comes to its end, and each element is closed by its own name.
-use Rattle.std.specs.Prelude.{◌≡◌, ℕ, Bool, true, false, ◌&&◌, ◌||◌, ◌==◌, nat_le, if◌then◌else◌, List, [], ◌∷◌, Some, None, decimal}
+use Rattle.std.specs.Prelude.{◌≡◌, ℕ, Bool, ◌&&◌, ◌||◌, ◌==◌, nat_le, if◌then◌else◌, List, [], ◌∷◌, Some, None, decimal}
 use Rattle.lock_model.specs.Counts.{is_empty}
 use Rattle.lock_model.specs.Script.Lines.{is_same}
 use Rattle.chart_escape.specs.Json.{json_string}
@@ -112,28 +112,8 @@ abbrev pub read : List ℕ → Reader
 read bytes = behind (at (InText Between) []) bytes
 
 -- it is in text there
-abbrev pub is_between : Place → Bool
-is_between (InText Between) = true
-is_between (InText (Quoted name)) = false
-is_between (InReference text) = false
-is_between (InName name) = false
-is_between (InTag name) = false
-is_between AtSlash = false
-is_between (InClosing name) = false
-is_between Broken = false
-
--- it is in a tag, among the attributes
-abbrev pub is_in_tag : Place → Bool
-is_in_tag (InText text) = false
-is_in_tag (InReference text) = false
-is_in_tag (InName name) = false
-is_in_tag (InTag name) = true
-is_in_tag AtSlash = false
-is_in_tag (InClosing name) = false
-is_in_tag Broken = false
-
 abbrev pub IsBetweenTags : List ℕ → Type 0
-IsBetweenTags bytes = is_between (read bytes).place ≡ true
+IsBetweenTags bytes = (read bytes).place ≡ InText Between
 
 -- behind the new bytes the reader is where it was: whole elements and text were added
 abbrev pub AddsElements : List ℕ → List ℕ → Type 0

@@ -1,9 +1,9 @@
 //! What a line of markup or JSON is made of.
 
-ghost use Rattle.std.specs.Prelude.{◌≡◌, ◌++◌, codes, decimal, OnOk};
+ghost use Rattle.std.specs.Prelude.{◌≡◌, ◌++◌, decimal, true, OnOk};
 ghost use Rattle.chart_escape.specs.Pieces.{piece_bytes, pieces_bytes, tokens_bytes, written};
 ghost use Rattle.chart_escape.specs.Reader.{behind_pieces, read, AddsElements, AreElements, IsBetweenTags};
-ghost use Rattle.chart_escape.specs.Values.{comma_before, number_bytes};
+ghost use Rattle.chart_escape.specs.Values.{number_bytes, separator};
 
 use crate::markup::push_text;
 use crate::quoted::push_json;
@@ -51,6 +51,7 @@ pub fn push_pieces(out: &mut Vec<u8>, pieces: &[Piece<'_>]) -> Result<(), AllocE
 }
 
 /// The same for pieces that are whole elements and text, where a reader of markup is between tags.
+#[tactic(auto, using(crate::proofs::Readings::adds))]
 pub fn push_elements(out: &mut Vec<u8>, pieces: &[Piece<'_>]) -> Result<(), AllocError>
     requires between { IsBetweenTags out.old.items }
     requires whole { AreElements pieces.now }
@@ -95,7 +96,7 @@ fn push_number(out: &mut Vec<u8>, n: u64) -> Result<(), AllocError>
 /// Pushes what stands before the item of an array that has a line of its own: a comma, but for the first, and the end
 /// of the line before.
 pub fn begin_line_item(out: &mut Vec<u8>, first: bool) -> Result<(), AllocError>
-    ensures { OnOk result (out.new.items ≡ out.old.items ++ comma_before first ++ codes "\n") }
+    ensures { OnOk result (out.new.items ≡ out.old.items ++ separator first true) }
 {
     if first {
         out.extend_from_slice(b"\n")

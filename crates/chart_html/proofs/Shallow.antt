@@ -1,15 +1,16 @@
 -- The data is JSON: its values nest no deeper than a reader goes.
-use Rattle.std.proofs.Common.{ℕ, ◌+◌, List, [], ◌∷◌, Option, Some, None, arith}
+use Rattle.std.proofs.Common.{ℕ, ◌+◌, List, [], ◌∷◌, Option, Some, None, true, arith}
 use Rattle.std.specs.Prelude.{slice_get, unwrap_or}
 use Rattle.chart_escape.proofs.Written.{is_json, numbered_is_shallow, IsShallow}
-use Rattle.chart_escape.specs.Values.{object, Array, IsJson, Number, Value}
-use Rattle.chart_html.specs.Data.{data_bytes, data_value, done, edit_of, edits_behind, lane_end, lock, mark, queue, queues_from, sentence, thread, thread_called, waiter, with_edit}
+use Rattle.chart_escape.specs.Values.{items, object, Array, IsJson, Number, Value}
+use Rattle.chart_html.specs.Data.{data_bytes, data_value, done, edits_behind, lane_end, lock, mark, queue, queues_from, sentence, table_of, thread, thread_called, waiter, with_edit}
 use Rattle.chart_html.specs.Tracks.{cell, changed, column_track, hold, pair, told, track}
 use Rattle.chart_html.specs.declared.columns.Column.{Column}
 use Rattle.chart_html.specs.declared.columns.Column.TheVariants as columns
-use Rattle.chart_html.specs.declared.edits.Edit.{Edit}
 use Rattle.chart_layout.specs.declared.layout.Chart.{Chart}
 use Rattle.lock_history.specs.declared.outcome.QueueLine.{QueueLine}
+use Rattle.lock_model.specs.declared.event.OfTable.{OfTable}
+use Rattle.lock_model.specs.declared.event.OfTable.TheVariants.{NoTable, SetsTo, AddsTo, Reads}
 use Rattle.lock_model.specs.declared.plan.LockDecl.{LockDecl}
 use Rattle.lock_model.specs.declared.plan.Mode.{Mode}
 use Rattle.lock_model.specs.declared.plan.Mode.TheVariants.{Excl, Shared}
@@ -75,14 +76,16 @@ lock_is : (words : List (List (ℕ × ℕ))) (l : ℕ) (its : LockDecl) → IsSh
 lock_is words l its =
     let word = track_is Number (λ n. omega arith) (unwrap_or (slice_get words l) []) in omega (arith, word)
 
-edits_are : (row : ℕ) (turns : List TurnRow) → IsShallow 2 (Array (edits_behind row turns))
+edits_are : (row : ℕ) (turns : List TurnRow) → IsShallow 2 (Array (items true (edits_behind row turns)))
 edits_are row [] = omega arith
-edits_are row (turn ∷ turns) = go (edit_of turn) (edits_are (row + 1) turns)
+edits_are row (turn ∷ turns) = go (table_of turn) (edits_are (row + 1) turns)
   where
-    go : (its : Option Edit) → IsShallow 2 (Array (edits_behind (row + 1) turns))
-        → IsShallow 2 (Array (with_edit (row + 1) its (edits_behind (row + 1) turns)))
-    go None later = later
-    go (Some its) later = omega (arith, later)
+    go : (its : OfTable) → IsShallow 2 (Array (items true (edits_behind (row + 1) turns)))
+        → IsShallow 2 (Array (items true (with_edit (row + 1) its (edits_behind (row + 1) turns))))
+    go NoTable later = later
+    go (SetsTo l key value) later = omega (arith, later)
+    go (AddsTo l key amount) later = omega (arith, later)
+    go (Reads l key found) later = later
 
 pub data_is_json : (plan : Plan) (rows : Rows) (chart : Chart) → IsJson (data_bytes plan rows chart)
 data_is_json plan rows chart =

@@ -1,9 +1,8 @@
 -- What the page knows of a run: its data, as values of JSON.
-use Rattle.std.specs.Prelude.{ℕ, ◌+◌, if◌then◌else◌, true, false, List, [], ◌∷◌, ◌++◌, codes, slice_get, Option, Some, None, unwrap_or, option_and_then}
-use Rattle.chart_escape.specs.Values.{list, number_bytes, numbered, object, text_bytes, tuple, Array, Items, LineItem, LineMember, Member, NoItems, NoMembers, Number, Object, String, Value}
+use Rattle.std.specs.Prelude.{ℕ, ◌+◌, true, false, List, [], ◌∷◌, ◌++◌, codes, decimal, slice_get, Option, Some, None, unwrap_or, option_map, option_and_then}
+use Rattle.chart_escape.specs.Values.{items, list, numbered, object, text_bytes, tuple, Array, Member, NoMembers, Number, Object, String, Value}
 use Rattle.chart_html.specs.Tracks.{column_track, hold, track}
 use Rattle.chart_html.specs.declared.columns.Column.TheVariants as columns
-use Rattle.chart_html.specs.declared.edits.Edit.{Edit}
 use Rattle.chart_layout.specs.declared.layout.Chart.{Chart}
 use Rattle.chart_layout.specs.declared.layout.MarkKind.{MarkKind}
 use Rattle.chart_layout.specs.declared.layout.MarkKind.TheVariants.{Noted, Did, Idle}
@@ -14,9 +13,9 @@ use Rattle.chart_words.specs.Words.{mark_words, note_words, queue_name}
 use Rattle.lock_history.specs.declared.outcome.QueueLine.{QueueLine}
 use Rattle.lock_model.specs.Events.{facets}
 use Rattle.lock_model.specs.Plans.{thread_name}
-use Rattle.lock_model.specs.declared.event.Entry.{Entry}
 use Rattle.lock_model.specs.declared.event.OfTable.{OfTable}
 use Rattle.lock_model.specs.declared.event.OfTable.TheVariants.{NoTable, SetsTo, AddsTo, Reads}
+use Rattle.lock_model.specs.declared.numbers.LockNo.{LockNo}
 use Rattle.lock_model.specs.declared.numbers.Prio.{Prio}
 use Rattle.lock_model.specs.declared.numbers.ThreadNo.{ThreadNo}
 use Rattle.lock_model.specs.declared.plan.Kind.{Kind}
@@ -110,48 +109,42 @@ sentence plan said = tuple (Number said.turn ∷ String (sentence_words plan sai
 
 -- 5. Edits
 
--- what is set in a lock's table, or added there
-abbrev pub edit_at : OfTable → Option Edit
-edit_at NoTable = None
-edit_at (SetsTo l key value) = Some (record { l = l; key = key; adds = false; amount = value })
-edit_at (AddsTo l key amount) = Some (record { l = l; key = key; adds = true; amount = amount })
-edit_at (Reads l key found) = None
+-- what a turn did in a lock's table
+abbrev pub table_of : TurnRow → OfTable
+table_of turn = unwrap_or (option_map (λ entry. (facets entry.event).table) turn.entry) NoTable
 
--- the edit that a turn made, if it made one
-abbrev pub edit_of : TurnRow → Option Edit
-edit_of turn = option_and_then (λ entry. edit_at (facets entry.event).table) turn.entry
+-- an edit of a lock's table: its row, the lock, the key, whether it adds, as 1 or 0, and what; key
+-- and amount may have 64 bits, so they are strings
+abbrev pub edit : ℕ → LockNo → ℕ → ℕ → ℕ → Value
+edit row l key adds amount = tuple (Number row ∷ Number l.0 ∷ String (decimal key)
+    ∷ Number adds ∷ String (decimal amount) ∷ [])
 
--- an edit: its row, its lock, its key, whether it adds, and what; key and amount may have 64 bits,
--- so they are strings
-abbrev pub edit : ℕ → Edit → Value
-edit row its = tuple
-    (Number row ∷ Number its.l.0 ∷ String (number_bytes its.key)
-    ∷ Number (if its.adds then 1 else 0) ∷ String (number_bytes its.amount) ∷ [])
-
--- an edit before others, if there is one
-abbrev pub with_edit : ℕ → Option Edit → Items → Items
-with_edit row None others = others
-with_edit row (Some its) others = LineItem (edit row its) others
+-- what was set or added, before other edits
+abbrev pub with_edit : ℕ → OfTable → List Value → List Value
+with_edit row NoTable others = others
+with_edit row (SetsTo l key value) others = edit row l key 0 value ∷ others
+with_edit row (AddsTo l key amount) others = edit row l key 1 amount ∷ others
+with_edit row (Reads l key found) others = others
 
 -- the edits of the turns behind a row, each with the row behind its turn
-abbrev pub edits_behind : ℕ → List TurnRow → Items
-edits_behind row [] = NoItems
+abbrev pub edits_behind : ℕ → List TurnRow → List Value
+edits_behind row [] = []
 edits_behind row (turn ∷ turns) =
-    with_edit (row + 1) (edit_of turn) (edits_behind (row + 1) turns)
+    with_edit (row + 1) (table_of turn) (edits_behind (row + 1) turns)
 
 -- 6. The data
 
 -- the rows of the window, and all that is known of the run
 abbrev pub data_value : Plan → Rows → Chart → Value
 data_value plan rows chart = Object
-    (Member (codes "first") (Number chart.first)
-    (Member (codes "last") (Number chart.last)
-    (LineMember (codes "marks") (list (mark plan) chart.marks)
-    (LineMember (codes "said") (list (sentence plan) chart.sentences)
-    (LineMember (codes "threads") (numbered (thread plan chart) rows.threads)
-    (LineMember (codes "locks") (numbered (lock rows.words) plan.locks)
-    (LineMember (codes "queues") (list (queues_from plan) rows.queues)
-    (LineMember (codes "edits") (Array (edits_behind 0 rows.turns)) NoMembers))))))))
+    (Member false (codes "first") (Number chart.first)
+    (Member false (codes "last") (Number chart.last)
+    (Member true (codes "marks") (list (mark plan) chart.marks)
+    (Member true (codes "said") (list (sentence plan) chart.sentences)
+    (Member true (codes "threads") (numbered (thread plan chart) rows.threads)
+    (Member true (codes "locks") (numbered (lock rows.words) plan.locks)
+    (Member true (codes "queues") (list (queues_from plan) rows.queues)
+    (Member true (codes "edits") (Array (items true (edits_behind 0 rows.turns))) NoMembers))))))))
 
 -- as it is written
 abbrev pub data_bytes : Plan → Rows → Chart → List ℕ

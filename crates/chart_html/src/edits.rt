@@ -1,61 +1,74 @@
 //! What was set and added in the locks' tables, each with its row.
-ghost use Rattle.std.specs.Prelude.{◌≡◌, ◌++◌, OnOk};
-ghost use Rattle.chart_escape.specs.Values.{value_bytes, Array};
-ghost use Rattle.chart_html.specs.Data.{edit, edit_of, edits_behind};
+ghost use Rattle.std.specs.Prelude.{◌≡◌, ◌++◌, [], ◌∷◌, true, OnOk};
+ghost use Rattle.chart_escape.specs.Values.{items, tuple, value_bytes, Array, Number, String};
+ghost use Rattle.chart_html.specs.Data.{edit, edits_behind, table_of};
 
 use chart_escape::{Piece, begin_line_item, push_tokens};
-use lock_model::{LockNo, OfTable};
+use lock_model::{LockNo, OfTable, push_digits};
 use run_tracks::TurnRow;
 use std::alloc::AllocError;
-
-/// An edit of a lock's table.
-#[derive(Clone, Copy)]
-pub struct Edit {
-    pub l: LockNo,
-    pub key: u64,
-    /// Whether the amount was added to what stood there.
-    pub adds: bool,
-    pub amount: u64,
-}
 
 /// Pushes the edits of a run, by row. A turn made one, or none.
 pub fn push_edits(out: &mut Vec<u8>, turns: &[TurnRow]) -> Result<(), AllocError>
     ensures { OnOk result (out.new.items
-        ≡ out.old.items ++ value_bytes (Array (edits_behind 0 turns.now))) }
+        ≡ out.old.items ++ value_bytes (Array (items true (edits_behind 0 turns.now)))) }
 {
     out.push(b'[')?;
     let mut first = true;
     for (turn, its) in turns.iter().enumerate() {
-        let Some(edit) = edit_of(*its) else {
-            continue;
+        let (l, key, adds, amount) = match table_of(*its) {
+            OfTable::SetsTo { l, key, value } => (l, key, 0, value),
+            OfTable::AddsTo { l, key, amount } => (l, key, 1, amount),
+            OfTable::NoTable | OfTable::Reads { .. } => continue,
         };
         begin_line_item(out, first)?;
-        push_edit(out, turn as u64 + 1, edit)?;
+        push_edit(out, turn as u64 + 1, l, key, adds, amount)?;
         first = false;
     }
     out.push(b']')?;
     Ok(())
 }
 
-fn edit_of(turn: TurnRow) -> Option<Edit>
-    ensures { result ≡ edit_of turn }
+// What a turn did in a lock's table.
+fn table_of(turn: TurnRow) -> OfTable
+    ensures { result ≡ table_of turn }
 {
-    let (l, key, adds, amount) = match turn.entry?.event.at_table() {
-        OfTable::SetsTo { l, key, value } => (l, key, false, value),
-        OfTable::AddsTo { l, key, amount } => (l, key, true, amount),
-        OfTable::NoTable | OfTable::Reads { .. } => return None,
-    };
-    Some(Edit {
-        l,
-        key,
-        adds,
-        amount,
-    })
+    match turn.entry {
+        Some(entry) => entry.event.at_table(),
+        None => OfTable::NoTable,
+    }
 }
 
 // A key and an amount may have 64 bits, so they are strings.
-fn push_edit(out: &mut Vec<u8>, row: u64, its: Edit) -> Result<(), AllocError>
-    ensures { OnOk result (out.new.items ≡ out.old.items ++ value_bytes (edit row its)) }
+fn push_edit(
+    out: &mut Vec<u8>,
+    row: u64,
+    l: LockNo,
+    key: u64,
+    adds: u64,
+    amount: u64,
+) -> Result<(), AllocError>
+    ensures { OnOk result (out.new.items
+        ≡ out.old.items ++ value_bytes (edit row l key adds amount)) }
+{
+    let mut key_text = Vec::new(*out.allocator());
+    push_digits(&mut key_text, key)?;
+    let mut amount_text = Vec::new(*out.allocator());
+    push_digits(&mut amount_text, amount)?;
+    push_texts(out, row, l, &key_text, adds, &amount_text)
+}
+
+fn push_texts<'a>(
+    out: &mut Vec<u8>,
+    row: u64,
+    l: LockNo,
+    key: &'a [u8],
+    adds: u64,
+    amount: &'a [u8],
+) -> Result<(), AllocError>
+    ensures { OnOk result (out.new.items
+        ≡ out.old.items ++ value_bytes (tuple (Number row ∷ Number l.0 ∷ String key.now
+        ∷ Number adds ∷ String amount.now ∷ []))) }
 {
     push_tokens(
         out,
@@ -63,14 +76,14 @@ fn push_edit(out: &mut Vec<u8>, row: u64, its: Edit) -> Result<(), AllocError>
             Piece::Own("["),
             Piece::Number(row),
             Piece::Own(","),
-            Piece::Number(u64::from(its.l.0)),
-            Piece::Own(",\""),
-            Piece::Number(its.key),
-            Piece::Own("\","),
-            Piece::Number(u64::from(its.adds)),
-            Piece::Own(",\""),
-            Piece::Number(its.amount),
-            Piece::Own("\"]"),
+            Piece::Number(u64::from(l.0)),
+            Piece::Own(","),
+            Piece::Json(key),
+            Piece::Own(","),
+            Piece::Number(adds),
+            Piece::Own(","),
+            Piece::Json(amount),
+            Piece::Own("]"),
         ],
     )
 }

@@ -31,17 +31,13 @@ some_or_none : {X : Type 0} (o : Option X) → ((x : X) × (o ≡ Some x)) ⊎ (
 some_or_none None = inr refl
 some_or_none (Some x) = inl (x, refl)
 
-kept : {X : Type 0} (b : Bool) (y x : X) (more : List X) → b ≡ true → y ≡ x → Contains (cond b (y ∷ more) more) x
-kept true y x more t same = (0, omega arith, same)
-kept false y x more t same = absurd (false≢true t)
-
 passed : {X : Type 0} (b : Bool) (y x : X) (more : List X) → Contains more x → Contains (cond b (y ∷ more) more) x
 passed true y x more (k, lt, is) = (suc k, omega arith, is)
 passed false y x more has = has
 
 filtered : {X : Type 0} (p : X → Bool) (xs : List X) (x : X) → Contains xs x → p x ≡ true → Contains (filter p xs) x
 filtered p [] x (k, lt, is) t = absurd (omega arith)
-filtered p (y ∷ ys) x (zero, lt, is) t = kept (p y) y x (filter p ys) (ap p is ∙ t) is
+filtered p (y ∷ ys) x (zero, lt, is) t = rw (ap p is ∙ t) (0, omega arith, is)
 filtered p (y ∷ ys) x (suc k, lt, is) t = passed (p y) y x (filter p ys) (filtered p ys x (k, omega arith, is) t)
 
 -- what is of a thread is among what is of it
@@ -323,9 +319,6 @@ module _ (page : Page) (picture : List ℕ) (out : IsLaidOut page)
             (own_step lane step (get_or steps k d) is (Contains-get_or steps k d below) same)))
       ]
 
-  has_lane : (t : ℕ) → HasLane page.chart.now t → t < length page.lanes.items
-  has_lane t lt = omega arith
-
   page_drawn : Draws page.plan.now page.chart.now picture
   page_drawn = record {
     scale = scale_of page;
@@ -339,9 +332,9 @@ module _ (page : Page) (picture : List ℕ) (out : IsLaidOut page)
     prios = prios_drawn;
     loans = loans_drawn;
     arrows = λ arrow in_chart from to. All-contains (ArrowIsOn page picture picture) page.chart.now.arrows arrow
-        drawn.arrows in_chart (has_lane arrow.from.0 from, has_lane arrow.to.0 to);
+        drawn.arrows in_chart (omega (arith, from), omega (arith, to));
     marks = λ mark in_chart on. All-contains (MarkIsOn page picture) page.chart.now.marks mark drawn.marks in_chart
-        (has_lane mark.thread.0 on);
+        (omega (arith, on));
   }
 
 pub picture_draws : (page : Page) (plan : Plan) (chart : Chart) (laned picture : List ℕ) → page.plan.now ≡ plan

@@ -3,7 +3,7 @@ use Rattle.std.proofs.Common.{ℕ, ◌+◌, ◌<◌, ◌≤◌, length, take, ge
 use Rattle.std.proofs.lemmas.Grind.{flat_map-append}
 use Rattle.std.proofs.lemmas.List.Elements.{All-more, All-same, All-weaker}
 use Rattle.std.proofs.lemmas.List.{take_all}
-use Rattle.chart_svg.specs.Drawn.{Stands, rect_bytes}
+use Rattle.chart_svg.specs.Drawn.{Stands}
 use Rattle.chart_svg.specs.Shapes.{shape_bytes, shapes_bytes}
 use Rattle.chart_svg.specs.declared.shapes.Shape.{Shape}
 use Rattle.chart_layout.specs.declared.layout.Arrow.{Arrow}
@@ -11,7 +11,6 @@ use Rattle.chart_svg.specs.Lanes.{BarIsOn, BarsAreDrawn, IsLentAt, LoansAreDrawn
 use Rattle.chart_svg.specs.Pages.{stop_at, ArrowIsOn, FrameIsOn, MarkIsOn, StopsAt}
 use Rattle.chart_svg.specs.declared.page.LaneBand.{LaneBand}
 use Rattle.chart_svg.specs.declared.page.Page.{Page}
-use Rattle.chart_svg.specs.declared.shapes.Area.{Area}
 
 -- what stands in a part stands in the whole
 pub within : (whole text part : List ℕ) → Stands whole text → Stands text part → Stands whole part
@@ -59,39 +58,22 @@ pub all_still : {X : Type 0} (P : List ℕ → X → Type 0) → IsKept P → (o
     → All (P old) xs → All (P new) xs
 all_still {X} P still old new xs keeps h = All-weaker (P old) (P new) (λ x. still old new x keeps) xs h
 
--- 3. Loops
-
-pub all_more : {X : Type 0} (P : X → Type 0) (xs ys : List X) (i : ℕ) (d : X) → ys ≡ xs → i < length ys
-    → All P (take i xs) → P (get_or ys i d) → All P (take (i + 1) xs)
-all_more {X} P xs ys i d e lt h p =
-    let Q = λ (zs : List X). All P (take (i + 1) zs) in
-    let R = λ (zs : List X). All P (take i zs) in
-    subst Q e (All-more P ys i d lt (subst R (sym e) h) p)
-
-pub all_in_all : {X : Type 0} (P : X → Type 0) (xs ys : List X) (i : ℕ) → ys ≡ xs → length ys ≤ i → All P (take i xs)
-    → All P xs
-all_in_all {X} P xs ys i e le h =
-    let le2 : length xs ≤ i = subst (λ (zs : List X). length zs ≤ i) e le in
-    All-same P xs (take i xs) (sym (take_all i xs le2)) h
-
 -- a thing more is drawn, by shapes behind those so far
 pub more_drawn : {X : Type 0} (P : List ℕ → X → Type 0) → IsKept P → (old new own : List Shape) → new ≡ old ++ own
-    → (xs ys : List X) (i : ℕ) (d : X) → ys ≡ xs → i < length ys
-    → All (P (shapes_bytes old)) (take i xs) → P (shapes_bytes own) (get_or ys i d)
-    → All (P (shapes_bytes new)) (take (i + 1) xs)
-more_drawn {X} P still old new own is xs ys i d e lt h p =
-    all_more (P (shapes_bytes new)) xs ys i d e lt
-    (all_still P still (shapes_bytes old) (shapes_bytes new) (take i xs) (left old new own is) h)
-    (still (shapes_bytes own) (shapes_bytes new) (get_or ys i d) (right old new own is) p)
-
-pub item_drawn : {X : Type 0} (P : List ℕ → X → Type 0) → IsKept P → (old new own : List Shape) → new ≡ old ++ own
-    → (xs ys : List X) (i : ℕ) (x : X) → ys ≡ xs → i < length ys → x ≡ get_or ys i x
+    → (xs : List X) (i : ℕ) (x d : X) → i < length xs → x ≡ get_or xs i d
     → All (P (shapes_bytes old)) (take i xs) → P (shapes_bytes own) x → All (P (shapes_bytes new)) (take (i + 1) xs)
-item_drawn {X} P still old new own is xs ys i x e lt at h p =
-    more_drawn P still old new own is xs ys i x e lt h (subst (P (shapes_bytes own)) at p)
+more_drawn {X} P still old new own is xs i x d lt at h p =
+    All-more (P (shapes_bytes new)) xs i d lt
+    (all_still P still (shapes_bytes old) (shapes_bytes new) (take i xs) (left old new own is) h)
+    (still (shapes_bytes own) (shapes_bytes new) (get_or xs i d) (right old new own is)
+    (subst (P (shapes_bytes own)) at p))
 
--- 4. What is drawn of a page
+-- of all, where the loop has come to the end
+pub all_drawn : {X : Type 0} (P : X → Type 0) (xs ys : List X) (i : ℕ) → length xs ≤ i → xs ≡ ys → All P (take i xs)
+    → All P ys
+all_drawn {X} P xs ys i le same h = subst (All P) same (All-same P xs (take i xs) (sym (take_all i xs le)) h)
 
+-- 3. What is drawn of a page
 pub bars_kept : (page : Page) → IsKept (BarsAreDrawn page)
 bars_kept page old new lane keeps was =
     all_still (BarIsOn page lane) (λ before behind at keeps. within _ _ _ keeps) old new lane.bars.laid.items keeps was
@@ -136,31 +118,20 @@ arrows_still page lines heads new arrows keeps_lines keeps_heads was =
 -- an arrow more is drawn
 pub arrows_more : (page : Page) (lines new_lines own_lines heads new_heads own_heads : List Shape)
     → new_lines ≡ lines ++ own_lines → new_heads ≡ heads ++ own_heads
-    → (arrows ys : List Arrow) (i : ℕ) (d : Arrow) → ys ≡ arrows → i < length ys
+    → (arrows : List Arrow) (i : ℕ) (d : Arrow) → i < length arrows
     → All (ArrowIsOn page (shapes_bytes lines) (shapes_bytes heads)) (take i arrows)
-    → ArrowIsOn page (shapes_bytes own_lines) (shapes_bytes own_heads) (get_or ys i d)
+    → ArrowIsOn page (shapes_bytes own_lines) (shapes_bytes own_heads) (get_or arrows i d)
     → All (ArrowIsOn page (shapes_bytes new_lines) (shapes_bytes new_heads)) (take (i + 1) arrows)
-arrows_more page lines new_lines own_lines heads new_heads own_heads el eh arrows ys i d e lt h p =
-    let l = shapes_bytes lines in
+arrows_more page lines new_lines own_lines heads new_heads own_heads el eh arrows i d lt h p =
     let nl = shapes_bytes new_lines in
-    let g = shapes_bytes heads in
-    let ng = shapes_bytes new_heads in
-    all_more (ArrowIsOn page nl ng) arrows ys i d e lt
-    (All-weaker (ArrowIsOn page l g) (ArrowIsOn page nl ng)
-    (λ arrow. arrow_kept page l nl g ng arrow (left lines new_lines own_lines el)
-    (left heads new_heads own_heads eh))
+    let nh = shapes_bytes new_heads in
+    All-more (ArrowIsOn page nl nh) arrows i d lt
+    (All-weaker (ArrowIsOn page (shapes_bytes lines) (shapes_bytes heads)) (ArrowIsOn page nl nh)
+    (λ arrow. arrow_kept page _ nl _ nh arrow (left lines new_lines own_lines el) (left heads new_heads own_heads eh))
     (take i arrows) h)
-    (arrow_kept page (shapes_bytes own_lines) nl (shapes_bytes own_heads) ng (get_or ys i d)
-    (right lines new_lines own_lines el) (right heads new_heads own_heads eh) p)
+    (arrow_kept page _ nl _ nh (get_or arrows i d) (right lines new_lines own_lines el)
+    (right heads new_heads own_heads eh) p)
 
 pub mark_kept : (page : Page) → IsKept (MarkIsOn page)
 mark_kept page old new mark keeps was has = let h = was has in
     record { y = h.y; in_lane = h.in_lane; stands = within _ _ _ keeps h.stands }
-
--- 5. Rectangles
-
--- one that is told by equal parts
-pub rect_same : (class told said title : List ℕ) (area drawn : Area) → class ≡ told → area ≡ drawn → said ≡ title
-    → rect_bytes class area said ≡ rect_bytes told drawn title
-rect_same class told said title area drawn ec ea es =
-    ap (λ c. rect_bytes c area said) ec ∙ ap (λ a. rect_bytes told a said) ea ∙ ap (λ t. rect_bytes told drawn t) es

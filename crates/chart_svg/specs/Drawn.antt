@@ -1,5 +1,6 @@
 -- Where the names of threads and their ends, bars, loans, arrows and marks of a chart stand in its picture.
 use Rattle.std.specs.Prelude.{◌≡◌, ◌≢◌, ◌⊎◌, ℕ, ◌+◌, ◌-◌, ◌*◌, ◌/◌, ◌<◌, ◌≤◌, ◌==◌, nat_lt, min, max, Bool, true, false, if◌then◌else◌, All, Any, List, [], ◌∷◌, ◌++◌, length, slice_get, Some, codes, decimal, Contains}
+use Rattle.std.specs.List.{concat}
 use Rattle.chart_escape.specs.Markup.{escaped}
 use Rattle.chart_layout.specs.Marks.{is_refusal}
 use Rattle.chart_layout.specs.declared.layout.Arrow.{Arrow}
@@ -42,30 +43,27 @@ class_bytes (Word word) = word.now
 class_bytes (OfLock word l) = word.now ++ decimal l.0
 
 -- a rectangle, and what it says
-abbrev pub rect_bytes : List ℕ → Area → List ℕ → List ℕ
-rect_bytes class area said =
-    codes "<rect class='" ++ escaped class
-    ++ codes "' x='" ++ decimal area.x.0 ++ codes "' y='" ++ decimal area.y.0
-    ++ codes "' width='" ++ decimal area.width ++ codes "' height='" ++ decimal area.height
-    ++ codes "' rx='3'><title>" ++ escaped said ++ codes "</title></rect>\n"
+unfoldable pub rect_bytes : List ℕ → Area → List ℕ → List ℕ
+rect_bytes class area said = concat (codes "<rect class='" ∷ escaped class
+    ∷ codes "' x='" ∷ decimal area.x.0 ∷ codes "' y='" ∷ decimal area.y.0
+    ∷ codes "' width='" ∷ decimal area.width ∷ codes "' height='" ∷ decimal area.height
+    ∷ codes "' rx='3'><title>" ∷ escaped said ∷ codes "</title></rect>\n" ∷ [])
 
 -- a line from one point to another
-abbrev pub stroke_bytes : List ℕ → ℕ → ℕ → ℕ → ℕ → List ℕ
-stroke_bytes class x1 y1 x2 y2 =
-    codes "<line class='" ++ escaped class
-    ++ codes "' x1='" ++ decimal x1 ++ codes "' y1='" ++ decimal y1
-    ++ codes "' x2='" ++ decimal x2 ++ codes "' y2='" ++ decimal y2 ++ codes "'></line>\n"
+unfoldable pub stroke_bytes : List ℕ → ℕ → ℕ → ℕ → ℕ → List ℕ
+stroke_bytes class x1 y1 x2 y2 = concat (codes "<line class='" ∷ escaped class
+    ∷ codes "' x1='" ∷ decimal x1 ∷ codes "' y1='" ∷ decimal y1
+    ∷ codes "' x2='" ∷ decimal x2 ∷ codes "' y2='" ∷ decimal y2 ∷ codes "'></line>\n" ∷ [])
 
 -- one straight up or down, from one height to another
 abbrev pub line_bytes : List ℕ → ℕ → ℕ → ℕ → List ℕ
 line_bytes class x begin end = stroke_bytes class x begin x end
 
 -- a dot round a point, and what it says
-abbrev pub dot_bytes : List ℕ → ℕ → ℕ → List ℕ → List ℕ
-dot_bytes class x y said =
-    codes "<circle class='" ++ escaped class
-    ++ codes "' cx='" ++ decimal x ++ codes "' cy='" ++ decimal y
-    ++ codes "' r='3'><title>" ++ escaped said ++ codes "</title></circle>\n"
+unfoldable pub dot_bytes : List ℕ → ℕ → ℕ → List ℕ → List ℕ
+dot_bytes class x y said = concat (codes "<circle class='" ∷ escaped class
+    ∷ codes "' cx='" ∷ decimal x ∷ codes "' cy='" ∷ decimal y
+    ∷ codes "' r='3'><title>" ∷ escaped said ∷ codes "</title></circle>\n" ∷ [])
 
 -- the outline of a figure, from its point
 abbrev pub outline : Figure → List ℕ
@@ -74,10 +72,10 @@ outline Down = codes "l-4-8h8z"
 outline Cross = codes "m-5-5l10 10m0-10l-10 10"
 
 -- a path, as SVG writes one, and what it says
-abbrev pub curve_bytes : List ℕ → List ℕ → List ℕ → List ℕ
-curve_bytes class path said =
-    codes "<path class='" ++ escaped class ++ codes "' d='" ++ escaped path
-    ++ codes "'><title>" ++ escaped said ++ codes "</title></path>\n"
+unfoldable pub curve_bytes : List ℕ → List ℕ → List ℕ → List ℕ
+curve_bytes class path said = concat (codes "<path class='" ∷ escaped class
+    ∷ codes "' d='" ∷ escaped path
+    ∷ codes "'><title>" ∷ escaped said ∷ codes "</title></path>\n" ∷ [])
 
 -- a figure at its point, and what it says
 abbrev pub figure_bytes : List ℕ → Figure → ℕ → ℕ → List ℕ → List ℕ
@@ -85,11 +83,10 @@ figure_bytes class figure x y said =
     curve_bytes class (codes "M" ++ decimal x ++ 32 ∷ decimal y ++ outline figure) said
 
 -- words at a point
-abbrev pub words_bytes : List ℕ → ℕ → ℕ → List ℕ → List ℕ
-words_bytes class x y words =
-    codes "<text class='" ++ escaped class
-    ++ codes "' x='" ++ decimal x ++ codes "' y='" ++ decimal y
-    ++ codes "'>" ++ escaped words ++ codes "</text>\n"
+unfoldable pub words_bytes : List ℕ → ℕ → ℕ → List ℕ → List ℕ
+words_bytes class x y words = concat (codes "<text class='" ∷ escaped class
+    ∷ codes "' x='" ∷ decimal x ∷ codes "' y='" ∷ decimal y
+    ∷ codes "'>" ∷ escaped words ∷ codes "</text>\n" ∷ [])
 
 -- 3. Columns, lanes and priorities
 

@@ -1,38 +1,31 @@
 -- What shapes are written as.
-use Rattle.std.specs.Prelude.{ℕ, List, ◌++◌, Some, None, codes, decimal, flat_map}
+use Rattle.std.specs.Prelude.{ℕ, List, [], ◌∷◌, Some, None, codes, decimal, flat_map}
+use Rattle.std.specs.List.{concat}
 use Rattle.chart_escape.specs.Markup.{escaped}
 use Rattle.chart_svg.specs.Drawn.{class_bytes, curve_bytes, dot_bytes, rect_bytes, stroke_bytes, words_bytes}
-use Rattle.chart_svg.specs.declared.shapes.Area.{Area}
 use Rattle.chart_svg.specs.declared.shapes.Form.{Form}
 use Rattle.chart_svg.specs.declared.shapes.Form.TheVariants as form
 use Rattle.chart_svg.specs.declared.shapes.Shape.{Shape}
 
--- a rectangle that says nothing
-abbrev pub plain_rect_bytes : List ℕ → Area → List ℕ
-plain_rect_bytes class area =
-    codes "<rect class='" ++ escaped class
-    ++ codes "' x='" ++ decimal area.x.0 ++ codes "' y='" ++ decimal area.y.0
-    ++ codes "' width='" ++ decimal area.width ++ codes "' height='" ++ decimal area.height
-    ++ codes "' rx='3'></rect>\n"
-
 -- what has a class is written so
 abbrev pub form_bytes : List ℕ → Form → List ℕ
-form_bytes class (form.Rect area None) = plain_rect_bytes class area
+form_bytes class (form.Rect area None) = concat (codes "<rect class='" ∷ escaped class
+    ∷ codes "' x='" ∷ decimal area.x.0 ∷ codes "' y='" ∷ decimal area.y.0
+    ∷ codes "' width='" ∷ decimal area.width ∷ codes "' height='" ∷ decimal area.height
+    ∷ codes "' rx='3'></rect>\n" ∷ [])
 form_bytes class (form.Rect area (Some said)) = rect_bytes class area said.items
 form_bytes class (form.Dot at said) = dot_bytes class at.0.0 at.1.0 said.items
 form_bytes class (form.Line from to) = stroke_bytes class from.0.0 from.1.0 to.0.0 to.1.0
 form_bytes class (form.Curve path said) = curve_bytes class path.items said.items
 form_bytes class (form.Words at words) = words_bytes class at.0.0 at.1.0 words.items
-form_bytes class (form.Heading title words) =
-    codes "<title>" ++ escaped title.items ++ codes "</title>\n<desc>" ++ escaped words.items
-    ++ codes "</desc>\n"
+form_bytes class (form.Heading title words) = concat (codes "<title>" ∷ escaped title.items
+    ∷ codes "</title>\n<desc>" ∷ escaped words.items ∷ codes "</desc>\n" ∷ [])
 form_bytes class (form.Style rules) =
-    codes "<style>\n" ++ escaped rules.items ++ codes "</style>\n"
-form_bytes class (form.Hatch name) =
-    codes "<pattern id='h" ++ escaped name.items
-    ++ codes "' width='7' height='7' patternTransform='rotate(45)'"
-    ++ codes " patternUnits='userSpaceOnUse'><path class='paper' d='M0 0H7V7H0z'/>"
-    ++ codes "<path class='hatch" ++ escaped name.items ++ codes "' d='M0 0V7'/></pattern>\n"
+    concat (codes "<style>\n" ∷ escaped rules.items ∷ codes "</style>\n" ∷ [])
+form_bytes class (form.Hatch name) = concat (codes "<pattern id='h" ∷ escaped name.items
+    ∷ codes "' width='7' height='7' patternTransform='rotate(45)'"
+    ∷ codes " patternUnits='userSpaceOnUse'><path class='paper' d='M0 0H7V7H0z'/>"
+    ∷ codes "<path class='hatch" ∷ escaped name.items ∷ codes "' d='M0 0V7'/></pattern>\n" ∷ [])
 
 -- a shape is its form, with its class
 abbrev pub shape_bytes : Shape → List ℕ

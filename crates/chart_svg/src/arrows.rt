@@ -110,7 +110,7 @@ fn line_of(page: &Page<'_>, arrow: Arrow, begin: Px, tip: Px) -> Shape
         (turn_at (scale_of page.now) page.now.chart.now arrow.turn) begin.0 tip.0 }
 {
     let x = page.turn_at(arrow.turn);
-    Shape(line_class(arrow.kind), Form::Line((x, begin), (x, tip)))
+    Shape(classes(arrow.kind).0, Form::Line((x, begin), (x, tip)))
 }
 
 // A head without its words.
@@ -128,30 +128,20 @@ fn head_of(
 {
     let said = said_of(alloc, page, arrow)?;
     let at = (page.turn_at(arrow.turn), tip);
-    Shape::figure(alloc, head_class(arrow.kind), figure, at, said)
+    Shape::figure(alloc, classes(arrow.kind).1, figure, at, said)
 }
 
-fn line_class(kind: ArrowKind) -> Class
-    ensures { class_bytes result ≡ line_class kind }
+// The classes of its line and of its head.
+fn classes(kind: ArrowKind) -> (Class, Class)
+    ensures line { class_bytes result.0 ≡ line_class kind }
+    ensures head { class_bytes result.1 ≡ head_class kind }
 {
     match kind {
-        ArrowKind::Lends { before, prio } if before == prio => Word("pale"),
-        ArrowKind::Lends { .. } => Word("lends"),
-        ArrowKind::Wakes => Word("wakes"),
-        ArrowKind::BlockedOn | ArrowKind::Behind => Word("block"),
-        ArrowKind::Refused => Word("refused"),
-    }
-}
-
-fn head_class(kind: ArrowKind) -> Class
-    ensures { class_bytes result ≡ head_class kind }
-{
-    match kind {
-        ArrowKind::Lends { before, prio } if before == prio => Word("palehead"),
-        ArrowKind::Lends { .. } => Word("lendhead"),
-        ArrowKind::Wakes => Word("wakehead"),
-        ArrowKind::BlockedOn | ArrowKind::Behind => Word("blockhead"),
-        ArrowKind::Refused => Word("refusedhead"),
+        ArrowKind::Lends { before, prio } if before == prio => (Word("pale"), Word("palehead")),
+        ArrowKind::Lends { .. } => (Word("lends"), Word("lendhead")),
+        ArrowKind::Wakes => (Word("wakes"), Word("wakehead")),
+        ArrowKind::BlockedOn | ArrowKind::Behind => (Word("block"), Word("blockhead")),
+        ArrowKind::Refused => (Word("refused"), Word("refusedhead")),
     }
 }
 

@@ -3,7 +3,6 @@
 ghost use Rattle.std.specs.Prelude.{◌≡◌, [], ◌++◌, ◌∷◌, codes, decimal, IfOk, OnOk};
 ghost use Rattle.chart_escape.specs.Reader.{at, read, AddsElements, Between, InText, IsBetweenTags, IsWellFormed};
 ghost use Rattle.chart_svg.specs.Drawn.{class_bytes, figure_bytes, outline, words_bytes, Stands};
-ghost use Rattle.chart_svg.specs.declared.shapes.Form.TheVariants.{Rect};
 ghost use Rattle.chart_svg.specs.Shapes.{form_bytes, picture, shape_bytes, shapes_bytes};
 
 use crate::page::Page;
@@ -209,13 +208,49 @@ fn push_shapes(alloc: Global, out: &mut Vec<u8>, shapes: &[Shape]) -> Result<(),
     Ok(())
 }
 
+#[tactic(auto, unfolding(crate::specs::Drawn::curve_bytes, crate::specs::Drawn::stroke_bytes, crate::specs::Drawn::words_bytes))]
 fn push_form<'a>(out: &mut Vec<u8>, class: &'a [u8], form: &'a Form) -> Result<(), AllocError>
     requires { IsBetweenTags out.old.items }
     ensures whole { OnOk result (AddsElements out.old.items out.new.items) }
     ensures pushed { OnOk result (out.new.items ≡ out.old.items ++ form_bytes class.now form.now) }
 {
     match form {
-        Form::Rect(area, said) => push_rect(out, class, *area, said),
+        Form::Rect(area, said) => match said {
+            None => push_elements(
+                out,
+                &[
+                    Piece::Own("<rect class='"),
+                    Piece::Text(class),
+                    Piece::Own("' x='"),
+                    Piece::Number(area.x.0 as u64),
+                    Piece::Own("' y='"),
+                    Piece::Number(area.y.0 as u64),
+                    Piece::Own("' width='"),
+                    Piece::Number(area.width as u64),
+                    Piece::Own("' height='"),
+                    Piece::Number(area.height as u64),
+                    Piece::Own("' rx='3'></rect>\n"),
+                ],
+            ),
+            Some(said) => push_elements(
+                out,
+                &[
+                    Piece::Own("<rect class='"),
+                    Piece::Text(class),
+                    Piece::Own("' x='"),
+                    Piece::Number(area.x.0 as u64),
+                    Piece::Own("' y='"),
+                    Piece::Number(area.y.0 as u64),
+                    Piece::Own("' width='"),
+                    Piece::Number(area.width as u64),
+                    Piece::Own("' height='"),
+                    Piece::Number(area.height as u64),
+                    Piece::Own("' rx='3'><title>"),
+                    Piece::Text(said),
+                    Piece::Own("</title></rect>\n"),
+                ],
+            ),
+        },
         Form::Dot(at, said) => push_elements(
             out,
             &[
@@ -302,55 +337,6 @@ fn push_form<'a>(out: &mut Vec<u8>, class: &'a [u8], form: &'a Form) -> Result<(
                 ),
                 Piece::Text(name),
                 Piece::Own("' d='M0 0V7'/></pattern>\n"),
-            ],
-        ),
-    }
-}
-
-fn push_rect<'a>(
-    out: &mut Vec<u8>,
-    class: &'a [u8],
-    area: Area,
-    said: &'a Option<Vec<u8>>,
-) -> Result<(), AllocError>
-    requires { IsBetweenTags out.old.items }
-    ensures whole { OnOk result (AddsElements out.old.items out.new.items) }
-    ensures pushed { OnOk result (out.new.items
-        ≡ out.old.items ++ form_bytes class.now (Rect area said.now)) }
-{
-    match said {
-        None => push_elements(
-            out,
-            &[
-                Piece::Own("<rect class='"),
-                Piece::Text(class),
-                Piece::Own("' x='"),
-                Piece::Number(area.x.0 as u64),
-                Piece::Own("' y='"),
-                Piece::Number(area.y.0 as u64),
-                Piece::Own("' width='"),
-                Piece::Number(area.width as u64),
-                Piece::Own("' height='"),
-                Piece::Number(area.height as u64),
-                Piece::Own("' rx='3'></rect>\n"),
-            ],
-        ),
-        Some(said) => push_elements(
-            out,
-            &[
-                Piece::Own("<rect class='"),
-                Piece::Text(class),
-                Piece::Own("' x='"),
-                Piece::Number(area.x.0 as u64),
-                Piece::Own("' y='"),
-                Piece::Number(area.y.0 as u64),
-                Piece::Own("' width='"),
-                Piece::Number(area.width as u64),
-                Piece::Own("' height='"),
-                Piece::Number(area.height as u64),
-                Piece::Own("' rx='3'><title>"),
-                Piece::Text(said),
-                Piece::Own("</title></rect>\n"),
             ],
         ),
     }

@@ -66,8 +66,8 @@ did_words plan (Did kind) (Some entry) =
 abbrev pub said_by : Plan → ℕ → Sentence → List ℕ
 said_by plan n s = if s.turn == n then 58 ∷ saying_words plan s.saying else []
 
--- by an arrow: to whom was lent what changed nothing, and whom a turn woke; of other loans, of whom a thread blocked on,
--- and of what it was refused, the sentence of its turn tells
+-- by an arrow: to whom was lent what changed nothing, and whom a turn woke; of other loans, of whom a thread blocked
+-- on, and of what it was refused, the sentence of its turn tells
 abbrev pub told_words : Plan → ArrowKind → ThreadNo → List ℕ
 told_words plan (Lends before prio) to =
     if before.0 == prio.0

@@ -1,5 +1,5 @@
 //! What a chart says of each turn, by the turn's number.
-ghost use Rattle.std.specs.Prelude.{◌≡◌, ◌==◌, ◌++◌, ℕ, [], if◌then◌else◌, codes, decimal, flat_map, IfOk, OnOk};
+ghost use Rattle.std.specs.Prelude.{◌≡◌, ◌==◌, ◌++◌, ℕ, List, [], if◌then◌else◌, codes, decimal, flat_map, IfOk, OnOk};
 ghost use Rattle.lock_model.specs.Text.{thread_name};
 ghost use Rattle.chart_text.specs.Lines.{said_by, said_of, told_by, told_words, words_at};
 
@@ -18,8 +18,8 @@ pub fn said_by_turn(alloc: Global, plan: &Plan, chart: &Chart) -> Result<Said, A
         → words_at said n ≡ said_of plan.now chart.now n) }
 {
     let mut said = HashMap::new(alloc);
-    add_sentences(alloc, &mut said, plan, chart.sentences.as_slice())?;
-    add_arrows(alloc, &mut said, plan, chart.arrows.as_slice())?;
+    add_each(alloc, &mut said, plan, chart.sentences.as_slice())?;
+    add_each(alloc, &mut said, plan, chart.arrows.as_slice())?;
     Ok(said)
 }
 
@@ -33,59 +33,54 @@ pub fn words_of(said: &Said, turn: u32) -> &[u8]
     }
 }
 
-fn add_sentences(
+/// What says something of a turn.
+trait Says {
+    ghost use Rattle.lock_model.specs.declared.plan.Plan.{Plan};
+
+    /// What it says of the turn of a number.
+    ghost words: { Plan → ℕ → Self → List ℕ };
+
+    /// Puts that behind what is said of its turn.
+    fn add(&self, alloc: Global, said: &mut Said, plan: &Plan) -> Result<(), AllocError>
+        ensures { OnOk result ((n : ℕ) → words_at said.new n
+            ≡ words_at said.old n ++ words plan.now n self.now) };
+}
+
+fn add_each<T: Says>(
     alloc: Global,
     said: &mut Said,
     plan: &Plan,
-    sentences: &[Sentence],
+    each: &[T],
 ) -> Result<(), AllocError>
     ensures { OnOk result ((n : ℕ) → words_at said.new n
-        ≡ words_at said.old n ++ flat_map (said_by plan.now n) sentences.now) }
+        ≡ words_at said.old n ++ flat_map (T.words plan.now n) each.now) }
 {
-    for sentence in sentences {
-        add_sentence(alloc, said, plan, sentence)?;
+    for one in each {
+        one.add(alloc, said, plan)?;
     }
     Ok(())
 }
 
-fn add_arrows(
-    alloc: Global,
-    said: &mut Said,
-    plan: &Plan,
-    arrows: &[Arrow],
-) -> Result<(), AllocError>
-    ensures { OnOk result ((n : ℕ) → words_at said.new n
-        ≡ words_at said.old n ++ flat_map (told_by plan.now n) arrows.now) }
-{
-    for arrow in arrows {
-        add_arrow(alloc, said, plan, arrow)?;
+/// A sentence, without the name of its thread.
+impl Says for Sentence {
+    ghost words = { said_by };
+
+    fn add(&self, alloc: Global, said: &mut Said, plan: &Plan) -> Result<(), AllocError> {
+        let mut words = Vec::from_slice(alloc, b":")?;
+        push_saying(&mut words, plan, &self.saying)?;
+        add(alloc, said, self.turn, &words)
     }
-    Ok(())
 }
 
-// A sentence, without the name of its thread.
-fn add_sentence(
-    alloc: Global,
-    said: &mut Said,
-    plan: &Plan,
-    sentence: &Sentence,
-) -> Result<(), AllocError>
-    ensures { OnOk result ((n : ℕ) → words_at said.new n
-        ≡ words_at said.old n ++ said_by plan.now n sentence.now) }
-{
-    let mut words = Vec::from_slice(alloc, b":")?;
-    push_saying(&mut words, plan, &sentence.saying)?;
-    add(alloc, said, sentence.turn, &words)
-}
+/// Whom a turn woke, or to whom it lent where that changed nothing.
+impl Says for Arrow {
+    ghost words = { told_by };
 
-// Whom a turn woke, or to whom it lent where that changed nothing.
-fn add_arrow(alloc: Global, said: &mut Said, plan: &Plan, arrow: &Arrow) -> Result<(), AllocError>
-    ensures { OnOk result ((n : ℕ) → words_at said.new n
-        ≡ words_at said.old n ++ told_by plan.now n arrow.now) }
-{
-    let mut words = Vec::new(alloc);
-    push_told(&mut words, plan, arrow.kind, arrow.to)?;
-    add(alloc, said, arrow.turn, &words)
+    fn add(&self, alloc: Global, said: &mut Said, plan: &Plan) -> Result<(), AllocError> {
+        let mut words = Vec::new(alloc);
+        push_told(&mut words, plan, self.kind, self.to)?;
+        add(alloc, said, self.turn, &words)
+    }
 }
 
 fn push_told(

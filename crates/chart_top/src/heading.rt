@@ -53,14 +53,10 @@ fn comments(bytes: &[u8]) -> (Option<&str>, Option<&str>)
 fn up_to_stop(text: &[u8]) -> &[u8]
     ensures { result.now ≡ up_to_stop text.now }
 {
-    let mut n = 0;
-    let mut rest = text;
-    while let Some((byte, behind)) = rest.split_first() {
-        if is_at_stop(*byte, behind) {
+    for (n, byte) in text.iter().enumerate() {
+        if is_at_stop(*byte, &text[n + 1..]) {
             return &text[..n];
         }
-        n += 1;
-        rest = behind;
     }
     text
 }

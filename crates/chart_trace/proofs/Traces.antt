@@ -1,18 +1,18 @@
 -- What a trace is made of, and that it is JSON.
-use Rattle.std.proofs.Common.{ℕ, ◌+◌, ◌≡◌, ◌∙◌, ◌++◌, ap, refl, sym, false, List, [], ◌∷◌, append_assoc, codes, arith}
+use Rattle.std.proofs.Common.{ℕ, ◌+◌, ◌≡◌, ◌∙◌, ◌++◌, ap, refl, sym, true, false, List, [], ◌∷◌, append_assoc, codes, arith}
 use Rattle.std.proofs.lemmas.Grind.{flat_map-append}
 use Rattle.chart_escape.proofs.Written.{is_json, numbered_is_shallow, IsShallow}
 use Rattle.chart_escape.specs.Json.{json_string}
-use Rattle.chart_escape.specs.Values.{items_bytes, line_items, told_from, value_bytes, IsJson}
+use Rattle.chart_escape.specs.Values.{items, items_bytes, told_from, value_bytes, IsJson}
 use Rattle.chart_layout.specs.declared.layout.Chart.{Chart}
-use Rattle.chart_trace.specs.Events.{Event, Process, Order, Track, Slice, Counter, From, To, Said, Ended, beginning, end_event, event_value, next_line, next_lines, other_events, trace_bytes, trace_value}
+use Rattle.chart_trace.specs.Events.{Event, Process, Order, Track, Slice, Counter, From, To, Said, beginning, end_event, event_value, next_line, next_lines, other_events, trace_bytes, trace_value}
 use Rattle.lock_model.specs.declared.plan.Plan.{Plan}
 
 -- events that are pushed behind others
 pub lines_more : (o : List ℕ) (xs ys : List Event) → o ++ next_lines (xs ++ ys) ≡ o ++ next_lines xs ++ next_lines ys
 lines_more o xs ys = ap (λ w. o ++ w) (flat_map-append next_line xs ys) ∙ sym (append_assoc o (next_lines xs) (next_lines ys))
 
-lines_end : (i : ℕ) (es : List Event) → items_bytes false (line_items (told_from (λ n. event_value) i es)) ≡ next_lines es ++ codes "]"
+lines_end : (i : ℕ) (es : List Event) → items_bytes false (items true (told_from (λ n. event_value) i es)) ≡ next_lines es ++ codes "]"
 lines_end i [] = refl
 lines_end i (e ∷ es) = ap (λ w. next_line e ++ w) (lines_end (i + 1) es) ∙ sym (append_assoc (next_line e) (next_lines es) (codes "]"))
 
@@ -39,8 +39,7 @@ event_is_shallow (Slice at name lasts) = omega arith
 event_is_shallow (Counter pid time height) = omega arith
 event_is_shallow (From id name at) = omega arith
 event_is_shallow (To id name at) = omega arith
-event_is_shallow (Said name at) = omega arith
-event_is_shallow (Ended name time) = omega arith
+event_is_shallow (Said scope name at) = omega arith
 
 pub trace_is_json : (plan : Plan) (chart : Chart) (title : List ℕ) → IsJson (trace_bytes plan chart title)
 trace_is_json plan chart title =

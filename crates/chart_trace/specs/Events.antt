@@ -44,10 +44,8 @@ pub data Event : Type 0 where
   -- the two ends of an arrow
   From : (id : ℕ) (name : List ℕ) (at : Place) → Event
   To : (id : ℕ) (name : List ℕ) (at : Place) → Event
-  -- something that is said of a turn
-  Said : (name : List ℕ) (at : Place) → Event
-  -- something that is said of the whole run
-  Ended : (name : List ℕ) (time : ℕ) → Event
+  -- something that is said, of a turn by the scope `t`, and of the whole run by `g`
+  Said : (scope name : List ℕ) (at : Place) → Event
 
 -- an event of that phase and name
 abbrev pub named : List ℕ → List ℕ → List (List ℕ × Value) → Value
@@ -80,11 +78,8 @@ event_value (Counter pid time height) = named (codes "C") (codes "priority")
 event_value (From id name at) = named (codes "s") name (linked id at)
 event_value (To id name at) = object ((codes "ph", String (codes "f"))
     ∷ (codes "bp", String (codes "e")) ∷ (codes "name", String name) ∷ linked id at)
-event_value (Said name at) = object ((codes "ph", String (codes "i"))
-    ∷ (codes "s", String (codes "t")) ∷ (codes "name", String name) ∷ at_place at)
-event_value (Ended name time) = object ((codes "ph", String (codes "i"))
-    ∷ (codes "s", String (codes "g")) ∷ (codes "name", String name)
-    ∷ at_place (record { pid = 1; tid = 1; time = time }))
+event_value (Said scope name at) = object ((codes "ph", String (codes "i"))
+    ∷ (codes "s", String scope) ∷ (codes "name", String name) ∷ at_place at)
 
 -- an event behind others: a comma, and a line of its own
 abbrev pub next_line : Event → List ℕ
@@ -144,15 +139,11 @@ lane_events plan lane =
     ∷ Track (process_of lane.thread) waits_track (codes "waits")
     ∷ Track (process_of lane.thread) walks_track (codes "walks") ∷ []
 
--- whether two bars lie on different tracks
-abbrev pub is_other : Bar → Bar → Bool
-is_other before bar =
-    not (before.thread.0 == bar.thread.0 && track_of before.what == track_of bar.what)
-
--- whether a bar is the first on its track
+-- whether a bar is the first on its track: the one before it lies on another, or there is none
 abbrev pub is_first_there : Option Bar → Bar → Bool
 is_first_there None bar = true
-is_first_there (Some before) bar = is_other before bar
+is_first_there (Some before) bar =
+    not (before.thread.0 == bar.thread.0 && track_of before.what == track_of bar.what)
 
 -- the track of a lock that a thread holds
 abbrev pub hold_track : Plan → ThreadNo → BarKind → List Event
@@ -201,7 +192,7 @@ mark_events plan m = turn_events plan m m.what
 
 -- a sentence is said at its turn, of the thread whose turn it was
 abbrev pub sentence_events : Plan → Sentence → List Event
-sentence_events plan s = Said (sentence_words plan s) (at_turn s.thread s.turn) ∷ []
+sentence_events plan s = Said (codes "t") (sentence_words plan s) (at_turn s.thread s.turn) ∷ []
 
 -- A step of priorities is how important its thread is from then on: the smaller the priority by which it runs, the
 -- higher.
@@ -252,7 +243,8 @@ arrow_events sentences id (arrow ∷ arrows) =
 
 -- how the run ended is said at the time of the last row
 abbrev pub end_event : Chart → Event
-end_event chart = Ended (headline chart.end) (time_of chart.last)
+end_event chart =
+    Said (codes "g") (headline chart.end) (record { pid = 1; tid = 1; time = time_of chart.last })
 
 -- the others: names of processes and tracks, and then bars, turns, sentences, priorities and arrows
 unfoldable pub other_events : Plan → Chart → List Event

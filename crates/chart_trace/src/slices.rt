@@ -1,6 +1,6 @@
 //! Bars and turns as slices, what is said of turns as instants, and priorities as counters.
 
-ghost use Rattle.std.specs.Prelude.{◌≡◌, ◌++◌, OnOk};
+ghost use Rattle.std.specs.Prelude.{◌≡◌, ◌++◌, codes, OnOk};
 ghost use Rattle.chart_trace.specs.Events.{Counter, Said, Slice, bar_events, begin_of, mark_events, next_line, sentence_events, step_events};
 
 use crate::told::{Pushed, Told};
@@ -103,7 +103,8 @@ fn push_slice(out: &mut Vec<u8>, at: Place, name: &[u8], lasts: u64) -> Pushed
 
 #[tactic(auto, unfolding(crate::specs::Events::event_value))]
 fn push_said(out: &mut Vec<u8>, at: Place, words: &[u8]) -> Pushed
-    ensures { OnOk result (out.new.items ≡ out.old.items ++ next_line (Said words.now at)) }
+    ensures { OnOk result (out.new.items
+        ≡ out.old.items ++ next_line (Said (codes "t") words.now at)) }
 {
     let Place { pid, tid, time } = at;
     push_tokens(

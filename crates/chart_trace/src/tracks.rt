@@ -2,7 +2,7 @@
 //! one queue at most, it holds a lock in one mode at most, and it makes one turn at a time.
 
 ghost use Rattle.std.specs.Prelude.{◌≡◌, ◌++◌, None, OnOk};
-ghost use Rattle.chart_trace.specs.Events.{Order, Process, Track, holds_track, is_first_there, is_other, lane_events, lock_track, lock_tracks, next_line, next_lines, place, process_of, time_of, track_of};
+ghost use Rattle.chart_trace.specs.Events.{Order, Process, Track, holds_track, is_first_there, lane_events, lock_track, lock_tracks, next_line, next_lines, place, process_of, time_of, track_of};
 
 use crate::told::{Pushed, Told};
 use chart_escape::Piece::{Json, Number, Own};
@@ -122,15 +122,10 @@ fn is_first_there(before: Option<Bar>, bar: Bar) -> bool
 {
     match before {
         None => true,
-        Some(before) => is_other(before, bar),
+        Some(before) => {
+            before.thread != bar.thread || track_of(before.what) != track_of(bar.what)
+        }
     }
-}
-
-// Whether two bars lie on different tracks.
-fn is_other(before: Bar, bar: Bar) -> bool
-    ensures { result ≡ is_other before bar }
-{
-    before.thread != bar.thread || track_of(before.what) != track_of(bar.what)
 }
 
 #[tactic(auto, unfolding(crate::specs::Events::event_value))]

@@ -7,15 +7,17 @@ use std::alloc::{AllocError, Global};
 pub(crate) fn help_text(alloc: Global, synopsis: &Synopsis<'_>) -> Result<String, AllocError> {
     let mut text = String::new(alloc);
     if let Some(help) = synopsis.help {
-        text.push_str(help.about)?;
-        text.push_str("\n\nUsage: ")?;
-        text.push_str(help.usage)?;
-        text.push_str("\n\n")?;
+        push_all(&mut text, &[help.about, "\n\nUsage: ", help.usage, "\n\n"])?;
     }
     for line in synopsis.lines {
-        text.push_str("  ")?;
-        text.push_str(line)?;
-        text.push_str("\n")?;
+        push_all(&mut text, &["  ", line, "\n"])?;
     }
     Ok(text)
+}
+
+fn push_all(text: &mut String, pieces: &[&str]) -> Result<(), AllocError> {
+    for piece in pieces {
+        text.push_str(piece)?;
+    }
+    Ok(())
 }

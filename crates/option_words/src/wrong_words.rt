@@ -4,11 +4,11 @@
 
 use crate::synopsis::{LongOption, Synopsis, ValueKind};
 use std::alloc::{AllocError, Global};
+use std::fmt::Display;
 
 /// Of a word that isn't UTF-8.
 pub fn no_text(alloc: Global) -> Result<Option<String>, AllocError> {
-    let said = format!(in alloc; "a word is no text in UTF-8")?;
-    Ok(Some(said))
+    said(alloc, format_args!("a word is no text in UTF-8"))
 }
 
 /// The first word that is wrong, or what is lacking behind the last; `None` where the words are a form of the table.
@@ -97,8 +97,7 @@ impl<'w> Walk<'w> {
     ) -> Result<Option<String>, AllocError> {
         let name = option.name;
         if self.given.iter().any(|given| *given == name) {
-            let said = format!(in alloc; "`--{name}` stands twice")?;
-            return Ok(Some(said));
+            return said(alloc, format_args!("`--{name}` stands twice"));
         }
         self.given.push(name)?;
         misfit(alloc, option, text)
@@ -113,22 +112,23 @@ impl<'w> Walk<'w> {
     ) -> Result<Option<String>, AllocError> {
         let program = synopsis.program;
         if synopsis.operands.is_empty() {
-            let said = format!(in alloc; "`{word}` belongs to no option of {program}")?;
-            return Ok(Some(said));
+            return said(
+                alloc,
+                format_args!("`{word}` belongs to no option of {program}"),
+            );
         }
         if let Some(first) = self.operand {
-            let said = format!(in alloc;
-                "`{word}` stands behind `{first}`, and one of them is enough"
-            )?;
-            return Ok(Some(said));
+            return said(
+                alloc,
+                format_args!("`{word}` stands behind `{first}`, and one of them is enough"),
+            );
         }
         if synopsis.operands.iter().any(|name| *name == word) {
             self.operand = Some(word);
             return Ok(None);
         }
         let names = listed(alloc, synopsis.operands)?;
-        let said = format!(in alloc; "`{word}` is none of {names}")?;
-        Ok(Some(said))
+        said(alloc, format_args!("`{word}` is none of {names}"))
     }
 
     // What is lacking behind the last word.
@@ -142,8 +142,7 @@ impl<'w> Walk<'w> {
         }
         if self.operand.is_none() && !synopsis.operands.is_empty() {
             let names = listed(alloc, synopsis.operands)?;
-            let said = format!(in alloc; "one of {names} is lacking")?;
-            return Ok(Some(said));
+            return said(alloc, format_args!("one of {names} is lacking"));
         }
         Ok(None)
     }
@@ -151,7 +150,7 @@ impl<'w> Walk<'w> {
 
 // Whether a word begins with a hyphen, and isn't one alone.
 fn begins_option(word: &str) -> bool {
-    word.starts_with('-') && word.len() > 1
+    matches!(word.as_bytes(), [b'-', _, ..])
 }
 
 fn option_named<'w>(synopsis: &Synopsis<'w>, name: &str) -> Option<LongOption<'w>> {
@@ -168,8 +167,7 @@ fn unknown(
     word: &str,
 ) -> Result<Option<String>, AllocError> {
     let program = synopsis.program;
-    let said = format!(in alloc; "{program} has no option `{word}`")?;
-    Ok(Some(said))
+    said(alloc, format_args!("{program} has no option `{word}`"))
 }
 
 // No text stands behind an option, but a word that begins with a hyphen, or nothing.
@@ -179,24 +177,27 @@ fn behind_nothing(
     word: Option<&str>,
 ) -> Result<Option<String>, AllocError> {
     let (name, value) = (option.name, option.value_name);
-    let said = match (option.kind, word) {
-        (ValueKind::AnyText, Some(word)) => {
-            format!(in alloc;
+    match (option.kind, word) {
+        (ValueKind::AnyText, Some(word)) => said(
+            alloc,
+            format_args!(
                 "`{word}` begins with a hyphen; as the {value} of `--{name}` it is written `--{name}={word}`"
-            )?
-        }
+            ),
+        ),
         (ValueKind::AnyText | ValueKind::Number(_, _) | ValueKind::OneOf(_), _) => {
-            format!(in alloc; "behind `--{name}` its {value} is lacking")?
+            said(
+                alloc,
+                format_args!("behind `--{name}` its {value} is lacking"),
+            )
         }
-    };
-    Ok(Some(said))
+    }
 }
 
 // Why an option doesn't take a text.
 fn misfit(alloc: Global, option: LongOption<'_>, text: &str) -> Result<Option<String>, AllocError> {
     let name = option.name;
-    let said = match option.kind {
-        ValueKind::AnyText => return Ok(None),
+    match option.kind {
+        ValueKind::AnyText => Ok(None),
         ValueKind::Number(least, most) => {
             if let Ok(number) = text.parse::<u32>()
                 && least <= number
@@ -204,17 +205,28 @@ fn misfit(alloc: Global, option: LongOption<'_>, text: &str) -> Result<Option<St
             {
                 return Ok(None);
             }
-            format!(in alloc; "`{text}` isn't a number from {least} to {most}, behind `--{name}`")?
+            said(
+                alloc,
+                format_args!("`{text}` isn't a number from {least} to {most}, behind `--{name}`"),
+            )
         }
         ValueKind::OneOf(names) => {
             if names.iter().any(|known| *known == text) {
                 return Ok(None);
             }
             let names = listed(alloc, names)?;
-            format!(in alloc; "`{text}` is none of {names}, behind `--{name}`")?
+            said(
+                alloc,
+                format_args!("`{text}` is none of {names}, behind `--{name}`"),
+            )
         }
-    };
-    Ok(Some(said))
+    }
+}
+
+// A sentence, as a text.
+fn said<S: Display + Drop>(alloc: Global, sentence: S) -> Result<Option<String>, AllocError> {
+    let text = format!(in alloc; "{sentence}")?;
+    Ok(Some(text))
 }
 
 // Names, with a comma between them.

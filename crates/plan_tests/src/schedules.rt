@@ -121,24 +121,19 @@ const WRITTEN: &[(&str, &str, &str, &str)] = &[
 
 #[test]
 fn schedules_by_hand(rt: HostRuntime) -> Result<(), Fail> {
-    let alloc = rt.alloc();
     for &(line, head, read, written) in WRITTEN {
-        let bytes = bytes_of(alloc, head, read)?;
-        let (ended, sink) = call(alloc, line, bytes)?;
-        assert_eq!(rt; ended.status, Done, "{line:?} on {head:?}, {read:?}");
-        assert!(rt; ended.fault.is_empty(), "{line:?} on {head:?}, {read:?}");
-        let text = bytes_of(alloc, head, written)?;
-        assert_eq!(rt;
-            sink.bytes(),
-            text.as_slice(),
-            "{line:?} on {head:?}, {read:?}"
-        );
-        assert!(rt;
-            every_policy_leaves(alloc, text.as_slice())?,
-            "{line:?} on {head:?}, {read:?}"
-        );
+        let text = bytes_of(rt.alloc(), head, written)?;
+        let bytes = bytes_of(rt.alloc(), head, read)?;
+        assert!(rt; is_written(rt.alloc(), line, bytes, &text)?, "{line}");
+        assert!(rt; every_policy_leaves(rt.alloc(), &text)?, "{line}");
     }
     Ok(())
+}
+
+// Whether a call is done, and writes that.
+fn is_written(alloc: Global, line: &str, bytes: Vec<u8>, text: &[u8]) -> Result<bool, Fail> {
+    let (ended, sink) = call(alloc, line, bytes)?;
+    Ok(ended.status == Done && ended.fault.is_empty() && sink.bytes() == text)
 }
 
 // Whether each policy writes the script as it is: behind its schedule all threads have ended or are idle.
@@ -148,10 +143,8 @@ fn every_policy_leaves(alloc: Global, text: &[u8]) -> Result<bool, Fail> {
         "--by priority --without-loans",
         "--by chance 1",
     ] {
-        let mut bytes = Vec::new(alloc);
-        bytes.extend_from_slice(text)?;
-        let (ended, sink) = call(alloc, line, bytes)?;
-        if ended.status != Done || sink.bytes() != text {
+        let bytes = Vec::from_slice(alloc, text)?;
+        if !is_written(alloc, line, bytes, text)? {
             return Ok(false);
         }
     }
@@ -182,10 +175,10 @@ const ENDS: &[(&str, &str, Status)] = &[
 
 #[test]
 fn ends_of_calls(rt: HostRuntime) -> Result<(), Fail> {
-    let alloc = rt.alloc();
     for &(line, head, status) in ENDS {
-        let (ended, _) = call(alloc, line, bytes_of(alloc, head, "")?)?;
-        assert_eq!(rt; ended.status, status, "{line:?}");
+        let bytes = bytes_of(rt.alloc(), head, "")?;
+        let (ended, _) = call(rt.alloc(), line, bytes)?;
+        assert!(rt; ended.status == status, "{line}");
     }
     Ok(())
 }
@@ -221,19 +214,28 @@ const TOO_LONG: &str = "lockplan: the schedule would have more than 100,000 entr
 
 #[test]
 fn schedules_that_are_too_long(rt: HostRuntime) -> Result<(), Fail> {
-    let alloc = rt.alloc();
     for &(head, line, times, status) in LONG {
-        let mut script = String::from_str(alloc, head)?;
-        for _ in 0..times {
-            script.push_str(line)?;
-        }
-        let (ended, sink) = call(alloc, "--by priority", bytes_of(alloc, &script, "")?)?;
-        assert_eq!(rt; ended.status, status, "{head:?}");
-        assert_eq!(rt; sink.bytes().is_empty(), status == TooLong, "{head:?}");
+        let bytes = repeated(rt.alloc(), head, line, times)?;
+        assert!(rt; is_long_so(rt.alloc(), bytes, status)?, "{head}");
     }
-    let said = complaint(alloc, LOCKPLAN, TooLong, b"")?;
+    let said = complaint(rt.alloc(), LOCKPLAN, TooLong, b"")?;
     assert!(rt; said.as_slice() == TOO_LONG.as_bytes());
     Ok(())
+}
+
+// A script of these lines, of which the second stands so often.
+fn repeated(alloc: Global, head: &str, line: &str, times: u32) -> Result<Vec<u8>, Fail> {
+    let mut script = String::from_str(alloc, head)?;
+    for _ in 0..times {
+        script.push_str(line)?;
+    }
+    bytes_of(alloc, &script, "")
+}
+
+// Whether a call ends so, and writes nothing where the schedule is too long.
+fn is_long_so(alloc: Global, bytes: Vec<u8>, status: Status) -> Result<bool, Fail> {
+    let (ended, sink) = call(alloc, "--by priority", bytes)?;
+    Ok(ended.status == status && sink.bytes().is_empty() == (status == TooLong))
 }
 
 // A script of these lines, and `done`.

@@ -9,7 +9,7 @@ use lock_model::Plan;
 use lock_top::lockrun;
 use script_laws::scripts::scripts_have_proper_plans;
 use script_read::read_script;
-use std::alloc::Global;
+use std::alloc::{AllocError, Global};
 use std::sync::Wait;
 use std::test::Fail;
 use std::thread::Threads;
@@ -28,6 +28,27 @@ pub(crate) fn bytes_of(alloc: Global, script: &str, more: usize) -> Result<Vec<u
     let mut bytes = vec![in alloc; b'a'; more]?;
     bytes.extend_from_slice(script.replace(alloc, ";", "\n")?.as_bytes())?;
     Ok(bytes)
+}
+
+/// A form with these numbers at its signs `%`, in their order, behind a script.
+pub(crate) fn push_form(
+    alloc: Global,
+    script: &mut String,
+    form: &str,
+    numbers: &[u32],
+) -> Result<(), AllocError> {
+    for (i, piece) in form.split('%').enumerate() {
+        script.push_str(piece)?;
+        if let Some(number) = numbers.get(i) {
+            push_number(alloc, script, *number)?;
+        }
+    }
+    Ok(())
+}
+
+fn push_number(alloc: Global, script: &mut String, number: u32) -> Result<(), AllocError> {
+    let digits = format!(in alloc; "{number}")?;
+    script.push_str(&digits)
 }
 
 /// A call of a program: the words; the script, and how many bytes `a` stand before it; at which call, from 0, the

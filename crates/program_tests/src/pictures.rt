@@ -76,13 +76,9 @@ const GIVEN: &[(&str, &str, &str)] = &[
 
 #[test]
 fn what_a_renderer_is_given(rt: HostRuntime) -> Result<(), Fail> {
-    let alloc = rt.alloc();
     for &(line, script, text) in GIVEN {
-        let bytes = bytes_of(alloc, script, 0)?;
-        let (ended, sink) = call(alloc, line, bytes, NEVER, NEVER)?;
-        assert_eq!(rt; ended.status, Done, "{line:?} on {script:?}");
-        assert_eq!(rt; sink.bytes(), text.as_bytes(), "{line:?} on {script:?}");
-        assert!(rt; ended.fault.is_empty(), "{line:?} on {script:?}");
+        let case = (line, script, 0, NEVER, NEVER, Done, text);
+        assert!(rt; gives(rt.alloc(), &case)?, "{line}");
     }
     Ok(())
 }
@@ -148,32 +144,28 @@ const CASES: &[Case] = &[
 
 #[test]
 fn ends_in_memory(rt: HostRuntime) -> Result<(), Fail> {
-    let alloc = rt.alloc();
-    for &(line, script, more, source_fails, sink_fails, status, text) in CASES {
-        let bytes = bytes_of(alloc, script, more)?;
-        let (ended, sink) = call(alloc, line, bytes, source_fails, sink_fails)?;
-        let (held, fault) = if status == BadScript {
-            ("", text)
-        } else {
-            (text, "")
-        };
-        assert_eq!(rt;
-            ended.status,
-            status,
-            "{line:?}, {source_fails}, {sink_fails}"
-        );
-        assert_eq!(rt;
-            ended.fault.as_slice(),
-            fault.as_bytes(),
-            "{line:?}, {source_fails}, {sink_fails}"
-        );
-        assert_eq!(rt;
-            sink.bytes(),
-            held.as_bytes(),
-            "{line:?}, {source_fails}, {sink_fails}"
-        );
+    for case in CASES {
+        let line = case.0;
+        assert!(rt; gives(rt.alloc(), case)?, "{line}");
     }
     Ok(())
+}
+
+// Whether a call gives what its case says.
+fn gives(alloc: Global, case: &Case) -> Result<bool, Fail> {
+    let (line, script, more, source_fails, sink_fails, status, text) = *case;
+    let (held, fault) = if status == BadScript {
+        ("", text)
+    } else {
+        (text, "")
+    };
+    let bytes = bytes_of(alloc, script, more)?;
+    let (ended, sink) = call(alloc, line, bytes, source_fails, sink_fails)?;
+    Ok(
+        ended.status == status
+            && ended.fault.as_slice() == fault.as_bytes()
+            && sink.bytes() == held.as_bytes(),
+    )
 }
 
 // The end of a call with the renderer that spells, and its sink.
@@ -208,21 +200,31 @@ const WRITTEN: &[(&str, &str, &str, &str)] = &[
 
 #[test]
 fn forms(rt: HostRuntime) -> Result<(), Fail> {
-    let alloc = rt.alloc();
     for &(line, script, begins, ends) in WRITTEN {
-        let words = words_of(alloc, line)?;
-        let mut source = MemSource::new(bytes_of(alloc, script, 0)?, 4096, Vec::new(alloc));
-        let mut sink = MemSink::new(alloc, 1 << 20, 4096, Vec::new(alloc))?;
-        let ended = lockchart(alloc, &words, &mut source, &mut sink);
-        assert_eq!(rt; ended.status, Done, "{line:?} on {script:?}");
-        assert!(rt;
-            sink.bytes().starts_with(begins.as_bytes()),
-            "{line:?} on {script:?}"
-        );
-        assert!(rt;
-            sink.bytes().ends_with(ends.as_bytes()),
-            "{line:?} on {script:?}"
-        );
+        assert!(rt; is_drawn(rt.alloc(), line, script, begins, ends)?, "{line}");
     }
     Ok(())
+}
+
+// Whether a call is done, and what it writes begins and ends so.
+fn is_drawn(
+    alloc: Global,
+    line: &str,
+    script: &str,
+    begins: &str,
+    ends: &str,
+) -> Result<bool, Fail> {
+    let bytes = bytes_of(alloc, script, 0)?;
+    let (status, sink) = called(alloc, line, bytes)?;
+    let text = sink.bytes();
+    Ok(status == Done && text.starts_with(begins.as_bytes()) && text.ends_with(ends.as_bytes()))
+}
+
+// The status of a call with ample room, and its sink.
+fn called(alloc: Global, line: &str, bytes: Vec<u8>) -> Result<(Status, MemSink), Fail> {
+    let words = words_of(alloc, line)?;
+    let mut source = MemSource::new(bytes, 4096, Vec::new(alloc));
+    let mut sink = MemSink::new(alloc, 1 << 20, 4096, Vec::new(alloc))?;
+    let ended = lockchart(alloc, &words, &mut source, &mut sink);
+    Ok((ended.status, sink))
 }

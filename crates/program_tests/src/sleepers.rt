@@ -1,6 +1,6 @@
 //! Threads that sleep, under `run`: one that is woken goes on; and where each has ended or sleeps, those that sleep are
 //! halted, and the run is stuck. A gate holds one thread, where without it the order of the threads would be open.
-use crate::fixtures::{FIRST, NEVER, bytes_of, call, plan_of};
+use crate::fixtures::{FIRST, NEVER, bytes_of, call, plan_of, push_form};
 use crate::holding::Holding;
 use complaints::Status;
 use complaints::Status::{Done, Stuck};
@@ -29,28 +29,41 @@ const UNWOKEN: &str = "0 t signal c -\n1 t lock m\n2 t wait c\n3 t halted c\n4 t
 
 #[test]
 fn a_thread_alone_is_halted(rt: HostRuntime) -> Result<(), Fail> {
-    let alloc = rt.alloc();
     for &(script, text) in &[(NOBODY_SIGNALS, HALTED), (ITS_OWN_SIGNAL, UNWOKEN)] {
-        let (status, said) = run(&rt, alloc, script, &OpenGate)?;
-        assert_eq!(rt; status, Stuck);
-        assert_eq!(rt; status as u8, 5);
-        assert_eq!(rt; said.as_str(), text);
+        assert!(rt; is_stuck_so(&rt, rt.alloc(), script, text)?, "{script}");
     }
     Ok(())
+}
+
+fn is_stuck_so<R: Threads + Wait + Sync>(
+    rt: &R,
+    alloc: Global,
+    script: &str,
+    wanted: &str,
+) -> Result<bool, Fail> {
+    let (status, text) = run(rt, alloc, script, &OpenGate)?;
+    Ok(status == Stuck && status as u8 == 5 && text.as_str() == wanted)
 }
 
 // What is left of a floor tells that the halt word was set, and is the one that the run made.
 #[test]
 fn a_closing_tells_of_a_halt(rt: HostRuntime) -> Result<(), Fail> {
-    for &(script, last, is_halted) in &[
-        (NOBODY_SIGNALS, Last::Stuck, true),
-        (FIRST, Last::Done, false),
-    ] {
-        let plan = plan_of(rt.alloc(), script)?;
-        let (outcome, closing) = run_plan(&rt, rt.alloc(), &plan, 1, &OpenGate)?;
-        assert_eq!(rt; (outcome.last, closing.halted()), (last, is_halted));
-    }
+    let stuck = ending(&rt, rt.alloc(), NOBODY_SIGNALS)?;
+    assert!(rt; stuck == (Last::Stuck, true));
+    let done = ending(&rt, rt.alloc(), FIRST)?;
+    assert!(rt; done == (Last::Done, false));
     Ok(())
+}
+
+// How a run ends, and whether somebody was halted.
+fn ending<R: Threads + Wait + Sync>(
+    rt: &R,
+    alloc: Global,
+    script: &str,
+) -> Result<(Last, bool), Fail> {
+    let plan = plan_of(alloc, script)?;
+    let (outcome, closing) = run_plan(rt, alloc, &plan, 1, &OpenGate)?;
+    Ok((outcome.last, closing.halted()))
 }
 
 // A sleeps with s held. B waits for s, or had it before.
@@ -63,74 +76,133 @@ const A_HALTED: &str = "xlock s,lock m,wait c,halted c,unlock m,xunlock s,";
 // Whatever the order is, nobody wakes a; and where b comes while a has s, it is halted too.
 #[test]
 fn stuck_in_every_order(rt: HostRuntime) -> Result<(), Fail> {
-    let alloc = rt.alloc();
     // b begins once a has come to its wait; a begins once b has come to its release
     for &(held, until, of_b) in &[(1, 2, "halted s,"), (0, 1, "xlock s,xunlock s,")] {
         let gate = Holding::new(held, 1, until);
-        let (status, text) = run(&rt, alloc, TWO_QUEUES, &gate)?;
+        let wanted = [("a", A_HALTED), ("b", of_b)];
+        assert!(rt;
+            is_stuck(&rt, rt.alloc(), TWO_QUEUES, &gate, &wanted)?,
+            "{of_b}"
+        );
         assert!(rt; !gate.missed(), "{of_b}");
-        assert_eq!(rt; (status, text.lines().last()), (Stuck, Some("stuck")));
-        assert_eq!(rt; entries_of(alloc, &text, "a")?.as_str(), A_HALTED);
-        assert_eq!(rt; entries_of(alloc, &text, "b")?.as_str(), of_b);
-    }
-    for _ in 0..20 {
-        let (status, text) = run(&rt, alloc, TWO_QUEUES, &OpenGate)?;
-        assert_eq!(rt; (status, text.lines().last()), (Stuck, Some("stuck")));
-        assert_eq!(rt; entries_of(alloc, &text, "a")?.as_str(), A_HALTED);
     }
     Ok(())
 }
 
-// The script of so many threads that wait, and of one more behind them that makes these operations.
-fn waiting(alloc: Global, count: u32, waker: &str) -> Result<String, AllocError> {
-    let mut script = format!(in alloc; "lockrun 1;mutex m k;cond c m;")?;
-    for k in 0..count {
-        script.push_str(&format!(in alloc; "thread t{k} 100;lock m;wait c;unlock m;end;")?)?;
+#[test]
+fn stuck_in_any_order(rt: HostRuntime) -> Result<(), Fail> {
+    for _ in 0..20 {
+        let wanted = [("a", A_HALTED)];
+        assert!(rt; is_stuck(&rt, rt.alloc(), TWO_QUEUES, &OpenGate, &wanted)?);
     }
-    script.push_str(waker)?;
+    Ok(())
+}
+
+// Whether a run gets stuck, and these threads say that.
+fn is_stuck<R: Threads + Wait + Sync, G: Gate>(
+    rt: &R,
+    alloc: Global,
+    script: &str,
+    gate: &G,
+    threads: &[(&str, &str)],
+) -> Result<bool, Fail> {
+    let (status, text) = run(rt, alloc, script, gate)?;
+    Ok(status == Stuck && ends_with(&text, "stuck") && all_say(&text, threads))
+}
+
+fn ends_with(text: &str, last: &str) -> bool {
+    text.lines().last() == Some(last)
+}
+
+fn all_say(text: &str, threads: &[(&str, &str)]) -> bool {
+    for (name, words) in threads {
+        if !says(text, name, words) {
+            return false;
+        }
+    }
+    true
+}
+
+// The script of so many threads that wait, and of one more behind them that wakes so often.
+fn waiting(alloc: Global, count: u32, wakes: u32, wake: &str) -> Result<String, AllocError> {
+    let mut script = String::new(alloc);
+    push_waiting(alloc, &mut script, count)?;
+    if wakes > 0 {
+        push_waker(&mut script, wakes, wake)?;
+    }
     script.push_str("done;")?;
     Ok(script)
+}
+
+fn push_waiting(alloc: Global, script: &mut String, count: u32) -> Result<(), AllocError> {
+    script.push_str("lockrun 1;mutex m k;cond c m;")?;
+    for k in 0..count {
+        let form = "thread t% 100;lock m;wait c;unlock m;end;";
+        push_form(alloc, script, form, &[k])?;
+    }
+    Ok(())
+}
+
+fn push_waker(script: &mut String, wakes: u32, wake: &str) -> Result<(), AllocError> {
+    script.push_str("thread w 100;lock m;")?;
+    for _ in 0..wakes {
+        script.push_str(wake)?;
+    }
+    script.push_str("unlock m;end;")
 }
 
 // 32 threads wait, and nobody wakes them.
 #[test]
 fn all_are_halted(rt: HostRuntime) -> Result<(), Fail> {
-    let alloc = rt.alloc();
-    let script = waiting(alloc, 32, "")?;
-    let (status, text) = run(&rt, alloc, &script, &OpenGate)?;
-    assert_eq!(rt; (status, text.lines().last()), (Stuck, Some("stuck")));
-    assert_eq!(rt; count_entries(&text), 128);
-    for k in 0..32_u32 {
-        let name = format!(in alloc; "t{k}")?;
-        let said = entries_of(alloc, &text, &name)?;
-        assert_eq!(rt; said.as_str(), "lock m,wait c,halted c,unlock m,");
-    }
+    let script = waiting(rt.alloc(), 32, 0, "")?;
+    let (status, text) = run(&rt, rt.alloc(), &script, &OpenGate)?;
+    assert!(rt; is_halted(rt.alloc(), status, &text)?);
     Ok(())
+}
+
+fn is_halted(alloc: Global, status: Status, text: &str) -> Result<bool, AllocError> {
+    let is_stuck = status == Stuck && ends_with(text, "stuck") && count_entries(text) == 128;
+    let each = each_says(alloc, text, 32, "lock m,wait c,halted c,unlock m,")?;
+    Ok(is_stuck && each)
 }
 
 // 31 threads wait, and the last wakes them, by a broadcast or one by one. It begins once each of the others has come to
 // its wait: so they have given m back and sleep, or the last of them has m still, and the waker takes m behind it.
 #[test]
 fn one_wakes_all_others(rt: HostRuntime) -> Result<(), Fail> {
-    let alloc = rt.alloc();
-    let mut one_by_one = String::new(alloc);
-    for _ in 0..31 {
-        one_by_one.push_str("signal c;")?;
-    }
-    for wakes in ["broadcast c;", one_by_one.as_str()] {
-        let waker = format!(in alloc; "thread w 100;lock m;{wakes}unlock m;end;")?;
-        let script = waiting(alloc, 31, &waker)?;
+    for &(wakes, wake) in &[(1, "broadcast c;"), (31, "signal c;")] {
         let gate = Holding::new(31, 31, 1);
-        let (status, text) = run(&rt, alloc, &script, &gate)?;
-        assert!(rt; !gate.missed());
-        assert_eq!(rt; (status, text.lines().last()), (Done, Some("ok")));
-        for k in 0..31_u32 {
-            let name = format!(in alloc; "t{k}")?;
-            let said = entries_of(alloc, &text, &name)?;
-            assert_eq!(rt; said.as_str(), "lock m,wait c,woke c,unlock m,");
-        }
+        assert!(rt;
+            all_are_woken(&rt, rt.alloc(), wakes, wake, &gate)?,
+            "{wake}"
+        );
+        assert!(rt; !gate.missed(), "{wake}");
     }
     Ok(())
+}
+
+fn all_are_woken<R: Threads + Wait + Sync>(
+    rt: &R,
+    alloc: Global,
+    wakes: u32,
+    wake: &str,
+    gate: &Holding,
+) -> Result<bool, Fail> {
+    let script = waiting(alloc, 31, wakes, wake)?;
+    let (status, text) = run(rt, alloc, &script, gate)?;
+    let each = each_says(alloc, &text, 31, "lock m,wait c,woke c,unlock m,")?;
+    Ok(status == Done && ends_with(&text, "ok") && each)
+}
+
+// Whether so many threads, t0 and so on, say that.
+fn each_says(alloc: Global, text: &str, count: u32, words: &str) -> Result<bool, AllocError> {
+    for k in 0..count {
+        let name = format!(in alloc; "t{k}")?;
+        if !says(text, &name, words) {
+            return Ok(false);
+        }
+    }
+    Ok(true)
 }
 
 // The signal comes before the sleep: the consumer begins once the producer has come to what is behind it.
@@ -138,21 +210,19 @@ const LOST: &str = "lockrun 1;mutex m k;cond ready m;\
     thread producer 100;lock m;set m 1 7;unlock m;signal ready;show;end;\
     thread consumer 100;lock m;wait ready;get m 1;unlock m;end;done;";
 
+const LOST_SAYS: &[(&str, &str)] = &[
+    (
+        "producer",
+        "lock m,set m 1 7,unlock m,signal ready -,show 100 100,",
+    ),
+    ("consumer", "lock m,wait ready,halted ready,unlock m,"),
+];
+
 #[test]
 fn a_lost_signal_halts(rt: HostRuntime) -> Result<(), Fail> {
-    let alloc = rt.alloc();
     let gate = Holding::new(1, 1, 4);
-    let (status, text) = run(&rt, alloc, LOST, &gate)?;
+    assert!(rt; is_stuck(&rt, rt.alloc(), LOST, &gate, LOST_SAYS)?);
     assert!(rt; !gate.missed());
-    assert_eq!(rt; (status, text.lines().last()), (Stuck, Some("stuck")));
-    assert_eq!(rt;
-        entries_of(alloc, &text, "producer")?.as_str(),
-        "lock m,set m 1 7,unlock m,signal ready -,show 100 100,"
-    );
-    assert_eq!(rt;
-        entries_of(alloc, &text, "consumer")?.as_str(),
-        "lock m,wait ready,halted ready,unlock m,"
-    );
     Ok(())
 }
 
@@ -172,9 +242,8 @@ const CONSUMED: &str = "0 consumer xlock s\n1 consumer msleep items\n2 producer 
 fn a_producer_wakes_a_consumer(rt: HostRuntime) -> Result<(), Fail> {
     let gate = Holding::new(1, 1, 1);
     let (status, text) = run(&rt, rt.alloc(), PRODUCER, &gate)?;
+    assert!(rt; status == Done && text.as_str() == CONSUMED);
     assert!(rt; !gate.missed());
-    assert_eq!(rt; status, Done);
-    assert_eq!(rt; text.as_str(), CONSUMED);
     Ok(())
 }
 
@@ -191,24 +260,34 @@ fn run<R: Threads + Wait + Sync, G: Gate>(
     Ok((status, text))
 }
 
-// What a thread's entries say, in their order, a comma behind each.
-fn entries_of(alloc: Global, text: &str, name: &str) -> Result<String, AllocError> {
-    let mut said = String::new(alloc);
+// Whether that is what a thread's entries say, in their order, a comma behind each.
+fn says(text: &str, name: &str, words: &str) -> bool {
+    let mut left = words.as_bytes();
     for line in text.lines() {
-        let Some((ticket, behind)) = line.split_once(' ') else {
-            continue;
-        };
-        if !is_number(ticket) {
-            continue;
-        }
-        if let Some((who, words)) = behind.split_once(' ')
-            && who == name
-        {
-            said.push_str(words)?;
-            said.push_str(",")?;
+        if let Some(said) = said_by(line, name) {
+            match behind(left, said) {
+                Some(rest) => left = rest,
+                None => return false,
+            }
         }
     }
-    Ok(said)
+    left.is_empty()
+}
+
+// What an entry says, where it is that thread's.
+fn said_by<'a>(line: &'a str, name: &str) -> Option<&'a str> {
+    let (ticket, rest) = line.split_once(' ')?;
+    let (who, said) = rest.split_once(' ')?;
+    if is_number(ticket) && who == name {
+        Some(said)
+    } else {
+        None
+    }
+}
+
+// What stands behind those words and a comma.
+fn behind<'a>(left: &'a [u8], said: &str) -> Option<&'a [u8]> {
+    left.strip_prefix(said.as_bytes())?.strip_prefix(b",")
 }
 
 fn count_entries(text: &str) -> u32 {

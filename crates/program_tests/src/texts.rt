@@ -1,12 +1,14 @@
 //! Calls of `lockrun`: what no file of `example_rows` can say. Ends that fail, a source that is too big, words that are
 //! no form, for which nothing is read, and threads that meet at a gate. And a thread that runs and is refused a take.
-use crate::fixtures::{Case, FIRST, MEETINGS, NEVER, bytes_of, call};
+use crate::fixtures::{Case, FIRST, MEETINGS, NEVER, bytes_of, call, push_form};
 use complaints::Status;
 use complaints::Status::{BadScript, Done, ReadFault, Reversed, TooBig, Usage, WriteFault};
-use lock_io::{Meeting, OpenGate};
+use lock_io::{Gate, Meeting, MemSink, OpenGate};
 use std::alloc::{AllocError, Global};
 use std::str;
+use std::sync::Wait;
 use std::test::Fail;
+use std::thread::Threads;
 
 // FIRST has 68 bytes: seventeen calls of the source, and one that finds its end. Behind the pieces of a text the sink
 // is flushed: at `ok` that is call 1. The text of a case is what the sink holds in the end.
@@ -64,34 +66,56 @@ const CASES: &[Case] = &[
 
 #[test]
 fn ends_in_memory(rt: HostRuntime) -> Result<(), Fail> {
-    let alloc = rt.alloc();
-    for &(line, script, more, source_fails, sink_fails, status, text) in CASES {
-        let bytes = bytes_of(alloc, script, more)?;
-        let (answer, sink) = call(&rt, alloc, line, bytes, source_fails, sink_fails, &OpenGate)?;
-        assert_eq!(rt; answer, status, "{line:?}, {source_fails}, {sink_fails}");
-        assert_eq!(rt;
-            sink.bytes(),
-            text.as_bytes(),
-            "{line:?}, {source_fails}, {sink_fails}"
-        );
+    for case in CASES {
+        let line = case.0;
+        assert!(rt; ends_so(&rt, rt.alloc(), case)?, "{line}");
     }
     Ok(())
+}
+
+// Whether a call gives what its case says.
+fn ends_so<R: Threads + Wait + Sync>(rt: &R, alloc: Global, case: &Case) -> Result<bool, Fail> {
+    let (line, script, more, source_fails, sink_fails, status, text) = *case;
+    let bytes = bytes_of(alloc, script, more)?;
+    let (answer, sink) = call(rt, alloc, line, bytes, source_fails, sink_fails, &OpenGate)?;
+    Ok(answer == status && sink.bytes() == text.as_bytes())
 }
 
 // Threads run beside each other, and the text is that of their run.
 #[test]
 fn threads_meet(rt: HostRuntime) -> Result<(), Fail> {
-    let alloc = rt.alloc();
     for &(script, first, second, begins) in MEETINGS {
         let gate = Meeting::new(first, second);
-        let bytes = bytes_of(alloc, script, 0)?;
-        let (status, sink) = call(&rt, alloc, "run", bytes, NEVER, NEVER, &gate)?;
-        assert_eq!(rt; status, Done);
-        assert!(rt; !gate.missed(), "{begins}");
-        assert_eq!(rt; gate.came(), (2, 2));
-        assert!(rt; sink.bytes().starts_with(begins.as_bytes()), "{begins}");
+        assert!(rt;
+            begins_so(&rt, rt.alloc(), script, &gate, begins)?,
+            "{begins}"
+        );
+        assert!(rt; !gate.missed() && gate.came() == (2, 2), "{begins}");
     }
     Ok(())
+}
+
+// Whether a run is done, and its text begins so.
+fn begins_so<R: Threads + Wait + Sync>(
+    rt: &R,
+    alloc: Global,
+    script: &str,
+    gate: &Meeting,
+    begins: &str,
+) -> Result<bool, Fail> {
+    let (status, sink) = run(rt, alloc, script, gate)?;
+    Ok(status == Done && sink.bytes().starts_with(begins.as_bytes()))
+}
+
+// The status of a run, and its sink.
+fn run<R: Threads + Wait + Sync, G: Gate>(
+    rt: &R,
+    alloc: Global,
+    script: &str,
+    gate: &G,
+) -> Result<(Status, MemSink), Fail> {
+    let bytes = bytes_of(alloc, script, 0)?;
+    call(rt, alloc, "run", bytes, NEVER, NEVER, gate)
 }
 
 // A thread takes a and then b, gives both back, and then takes b: an order is known though nobody holds its locks. So
@@ -104,66 +128,97 @@ const REFUSED: &str = "0 t lock a\n1 t lock b\n2 t unlock b\n3 t unlock a\n4 t l
 
 #[test]
 fn a_thread_alone_in_both_orders(rt: HostRuntime) -> Result<(), Fail> {
-    let alloc = rt.alloc();
-    let bytes = bytes_of(alloc, BOTH_ORDERS, 0)?;
-    let (status, sink) = call(&rt, alloc, "run", bytes, NEVER, NEVER, &OpenGate)?;
-    assert_eq!(rt; status, Reversed);
-    assert_eq!(rt; status as u8, 6);
-    assert_eq!(rt; sink.bytes(), REFUSED.as_bytes());
+    let (status, sink) = run(&rt, rt.alloc(), BOTH_ORDERS, &OpenGate)?;
+    assert!(rt; is_refused(status, sink.bytes()));
     Ok(())
+}
+
+fn is_refused(status: Status, text: &[u8]) -> bool {
+    status == Reversed && status as u8 == 6 && text == REFUSED.as_bytes()
 }
 
 // The script of so many philosophers, who each take the fork of their own number and the next one, the last of them the
 // first, and eat once. Each takes the one of his own number first, or, in order, the lesser one.
 fn philosophers(alloc: Global, count: u32, in_order: bool) -> Result<String, AllocError> {
-    let mut script = format!(in alloc; "lockrun 1;")?;
-    for k in 0..count {
-        script.push_str(&format!(in alloc; "mutex f{k} c{k};")?)?;
-    }
-    for k in 0..count {
-        let next = if k + 1 < count { k + 1 } else { 0 };
-        let (first, second) = if in_order && next < k {
-            (next, k)
-        } else {
-            (k, next)
-        };
-        script.push_str(&format!(in alloc;
-            "thread p{k} 100;lock f{first};lock f{second};add f{k} 1 1;unlock f{second};unlock f{first};end;"
-        )?)?;
-    }
-    script.push_str("done;")?;
+    let mut script = String::new(alloc);
+    push_philosophers(alloc, &mut script, count, in_order)?;
     Ok(script)
 }
+
+fn push_philosophers(
+    alloc: Global,
+    script: &mut String,
+    count: u32,
+    in_order: bool,
+) -> Result<(), AllocError> {
+    script.push_str("lockrun 1;")?;
+    for k in 0..count {
+        push_form(alloc, script, "mutex f% c%;", &[k, k])?;
+    }
+    for k in 0..count {
+        let (first, second) = forks_of(count, k, in_order);
+        let form = "thread p% 100;lock f%;lock f%;add f% 1 1;unlock f%;unlock f%;end;";
+        push_form(alloc, script, form, &[k, first, second, k, second, first])?;
+    }
+    script.push_str("done;")
+}
+
+// Which fork a philosopher takes first, and which second.
+fn forks_of(count: u32, k: u32, in_order: bool) -> (u32, u32) {
+    let behind = k.saturating_add(1);
+    let next = if behind < count { behind } else { 0 };
+    if in_order && next < k {
+        (next, k)
+    } else {
+        (k, next)
+    }
+}
+
+// How many philosophers there are, and whether they take their forks in order; and how many are refused.
+const TABLES: &[(u32, bool, u32)] = &[(5, false, 1), (32, false, 1), (5, true, 0), (32, true, 0)];
 
 // Each asks once for a second fork while he holds his first, and what takes have taught stays. So where each takes his
 // own fork first, the last to ask would close the circle, whoever that is: he alone is refused, and the others eat. And
 // where all take them in order, nobody is.
 #[test]
 fn one_philosopher_is_refused(rt: HostRuntime) -> Result<(), Fail> {
-    let alloc = rt.alloc();
-    for &(count, in_order, status, refused, last) in &[
-        (5, false, Reversed, 1, "reversed"),
-        (32, false, Reversed, 1, "reversed"),
-        (5, true, Done, 0, "ok"),
-        (32, true, Done, 0, "ok"),
-    ] {
-        let script = philosophers(alloc, count, in_order)?;
-        let bytes = bytes_of(alloc, &script, 0)?;
-        let (answer, sink) = call(&rt, alloc, "run", bytes, NEVER, NEVER, &OpenGate)?;
-        assert_eq!(rt; answer, status);
-        let text = str::from_utf8(sink.bytes())?;
-        let (mut refusals, mut meals) = (0, 0);
-        for line in text.lines() {
-            if line.contains(" reversed ") {
-                refusals = u32::saturating_add(refusals, 1);
-            }
-            if line.starts_with("table ") {
-                meals = u32::saturating_add(meals, 1);
-            }
-        }
-        assert_eq!(rt; refusals, refused);
-        assert_eq!(rt; meals.saturating_add(refusals), count);
-        assert_eq!(rt; text.lines().last(), Some(last));
+    for &(count, in_order, refused) in TABLES {
+        assert!(rt; dine(&rt, rt.alloc(), count, in_order, refused)?, "{count}");
     }
     Ok(())
+}
+
+// Whether so many philosophers dine, and so many of them are refused.
+fn dine<R: Threads + Wait + Sync>(
+    rt: &R,
+    alloc: Global,
+    count: u32,
+    in_order: bool,
+    refused: u32,
+) -> Result<bool, Fail> {
+    let script = philosophers(alloc, count, in_order)?;
+    let (status, sink) = run(rt, alloc, &script, &OpenGate)?;
+    let (end, last) = if in_order {
+        (Done, "ok")
+    } else {
+        (Reversed, "reversed")
+    };
+    Ok(status == end && is_eaten(sink.bytes(), count, refused, last))
+}
+
+// Whether so many of all philosophers were refused, and the others ate.
+fn is_eaten(bytes: &[u8], count: u32, refused: u32, last: &str) -> bool {
+    let text = str::from_utf8(bytes).unwrap_or("");
+    let (mut refusals, mut meals): (u32, u32) = (0, 0);
+    for line in text.lines() {
+        if line.contains(" reversed ") {
+            refusals = refusals.saturating_add(1);
+        }
+        if line.starts_with("table ") {
+            meals = meals.saturating_add(1);
+        }
+    }
+    refusals == refused
+        && meals.saturating_add(refusals) == count
+        && text.lines().last() == Some(last)
 }

@@ -1,7 +1,7 @@
 //! Runs of plans on threads of the system: that these run beside each other, one for each thread of the plan, and ask
 //! the gate.
 use crate::barrier::Barrier;
-use crate::fixtures::{MEETINGS, plan_of};
+use crate::fixtures::{MEETINGS, plan_of, push_form};
 use floor_run::run_plan;
 use lock_history::print;
 use lock_io::{Gate, Meeting};
@@ -14,28 +14,44 @@ use std::thread::Threads;
 fn two_threads_meet(rt: HostRuntime) -> Result<(), Fail> {
     for &(script, first, second, begins) in MEETINGS {
         let gate = Meeting::new(first, second);
-        let (entries, text) = run(&rt, rt.alloc(), script, &gate)?;
-        assert_eq!(rt;
-            (gate.missed(), gate.came(), entries),
-            (false, (2, 2), 4),
+        assert!(rt;
+            begins_so(&rt, rt.alloc(), script, &gate, begins)?,
             "{begins}"
         );
-        assert!(rt; text.as_slice().starts_with(begins.as_bytes()), "{begins}");
+        assert!(rt; !gate.missed() && gate.came() == (2, 2), "{begins}");
     }
     Ok(())
 }
 
+// Whether a run has four entries, and its text begins so.
+fn begins_so<R: Threads + Wait + Sync>(
+    rt: &R,
+    alloc: Global,
+    script: &str,
+    gate: &Meeting,
+    begins: &str,
+) -> Result<bool, Fail> {
+    let (entries, text) = run(rt, alloc, script, gate)?;
+    Ok(entries == 4 && text.as_slice().starts_with(begins.as_bytes()))
+}
+
 // The script of so many threads, each of which locks and unlocks a mutex of its own.
 fn apart(alloc: Global, count: u32) -> Result<String, AllocError> {
-    let mut script = format!(in alloc; "lockrun 1;")?;
-    for k in 0..count {
-        script.push_str(&format!(in alloc; "mutex m{k} k;")?)?;
-    }
-    for k in 0..count {
-        script.push_str(&format!(in alloc; "thread t{k} 100;lock m{k};unlock m{k};end;")?)?;
-    }
-    script.push_str("done;")?;
+    let mut script = String::new(alloc);
+    push_apart(alloc, &mut script, count)?;
     Ok(script)
+}
+
+fn push_apart(alloc: Global, script: &mut String, count: u32) -> Result<(), AllocError> {
+    script.push_str("lockrun 1;")?;
+    for k in 0..count {
+        push_form(alloc, script, "mutex m% k;", &[k])?;
+    }
+    for k in 0..count {
+        let form = "thread t% 100;lock m%;unlock m%;end;";
+        push_form(alloc, script, form, &[k, k, k])?;
+    }
+    script.push_str("done;")
 }
 
 // Fewer threads of the system than the plan has would serve as many of these first, and they would miss the others at
@@ -44,14 +60,25 @@ fn apart(alloc: Global, count: u32) -> Result<String, AllocError> {
 fn a_thread_of_the_system_for_each(rt: HostRuntime) -> Result<(), Fail> {
     for count in [3, 4, 8, 32] {
         let gate = Barrier::new(u64::from(count));
-        let script = apart(rt.alloc(), count)?;
-        let (entries, _text) = run(&rt, rt.alloc(), &script, &gate)?;
-        assert_eq!(rt;
-            (gate.missed(), gate.came(), entries),
-            (false, u64::from(count), count.saturating_mul(2))
+        let entries = run_apart(&rt, rt.alloc(), count, &gate)?;
+        assert!(rt; entries == count.saturating_mul(2), "{count}");
+        assert!(rt;
+            !gate.missed() && gate.came() == u64::from(count),
+            "{count}"
         );
     }
     Ok(())
+}
+
+fn run_apart<R: Threads + Wait + Sync>(
+    rt: &R,
+    alloc: Global,
+    count: u32,
+    gate: &Barrier,
+) -> Result<u32, Fail> {
+    let script = apart(alloc, count)?;
+    let (entries, _text) = run(rt, alloc, &script, gate)?;
+    Ok(entries)
 }
 
 // How many entries the history of a script's run has, and the text of the run.

@@ -6,7 +6,7 @@ use crate::verbs::Role;
 use std::alloc::{AllocError, Global};
 
 /// An operation of a thread, with its line.
-#[derive(Clone, Copy, Debug)]
+#[derive(Clone, Copy)]
 pub struct Operation<'a> {
     pub line: u32,
     pub text: &'a str,
@@ -21,7 +21,7 @@ impl<'a> Operation<'a> {
 }
 
 /// A lock that a thread holds, and the ticket of the entry that says that it gained it.
-#[derive(Clone, Copy, Debug)]
+#[derive(Clone, Copy)]
 pub struct Hold<'a> {
     pub lock: &'a str,
     pub line: u32,
@@ -29,7 +29,7 @@ pub struct Hold<'a> {
 }
 
 /// A sleep that a halt ended.
-#[derive(Clone, Copy, Debug)]
+#[derive(Clone, Copy)]
 pub struct Halt<'a> {
     /// The wait, or the take of an sx lock.
     pub operation: Operation<'a>,
@@ -135,6 +135,18 @@ impl<'a> Actor<'a> {
                 return;
             }
         }
+    }
+
+    /// It was halted in its sleep, by the entry of that ticket, and is cut.
+    pub fn halt(&mut self, operation: Operation<'a>, ticket: u64) {
+        let since = self.last;
+        self.asleep = None;
+        self.is_cut = true;
+        self.halted = Some(Halt {
+            operation,
+            since,
+            ticket,
+        });
     }
 
     /// It has gained a lock.

@@ -1,12 +1,14 @@
 //! What the lines above a fault have made known. They have no fault, so they are read here without tests: a line is
 //! taken for what its first word says.
 
+use crate::places::word_at;
 use crate::verbs::{Role, Sort, verb_of};
 use lock_model::Mode;
 use std::alloc::{AllocError, Global};
+use std::fmt;
 
 /// A declared name.
-#[derive(Clone, Copy, Debug)]
+#[derive(Clone, Copy)]
 pub struct Named<'a> {
     pub name: &'a str,
     pub sort: Sort,
@@ -16,12 +18,31 @@ pub struct Named<'a> {
 }
 
 /// A lock that a thread holds.
-#[derive(Clone, Copy, Debug)]
+#[derive(Clone, Copy)]
 pub struct HeldSince<'a> {
     pub name: &'a str,
     pub mode: Mode,
     pub by_try: bool,
     pub line: u32,
+}
+
+/// The names of held locks, in order.
+#[derive(Clone, Copy)]
+pub struct Names<'a>(pub &'a [HeldSince<'a>]);
+
+impl fmt::Display for Names<'_> {
+    fn fmt<W: fmt::Write>(&self, f: &mut fmt::Formatter<W>) -> fmt::Result {
+        for (i, held) in self.0.iter().enumerate() {
+            f.write_str(if i > 0 { ", " } else { "" })?;
+            f.write_str(held.name)?;
+        }
+        Ok(())
+    }
+}
+
+/// How a lock is held, where these are held.
+pub fn held_in<'a>(held: &[HeldSince<'a>], lock: &str) -> Option<HeldSince<'a>> {
+    held.iter().find(|h| h.name == lock).copied()
 }
 
 /// A block that is open: where it began, and what was held before its try.
@@ -32,7 +53,7 @@ pub struct Block<'a> {
 }
 
 /// A name and a line.
-#[derive(Clone, Copy, Debug)]
+#[derive(Clone, Copy)]
 pub struct At<'a> {
     pub name: &'a str,
     pub line: u32,
@@ -106,7 +127,7 @@ impl<'a> Book<'a> {
 
     /// How the open thread holds a lock.
     pub fn held(&self, lock: &str) -> Option<HeldSince<'a>> {
-        self.held.iter().find(|h| h.name == lock).copied()
+        held_in(&self.held, lock)
     }
 
     /// The line in which the open thread released a lock last.
@@ -120,30 +141,30 @@ impl<'a> Book<'a> {
         last
     }
 
-    /// Learns a line behind the header.
+    /// Learns a line behind the header. What an empty line or a comment begins with is no first word.
     pub fn learn(&mut self, number: u32, line: &'a str) -> Result<(), AllocError> {
-        if line.is_empty() || line.starts_with('#') {
-            return Ok(());
-        }
-        let mut words = line.split(' ');
-        let first = words.next().unwrap_or("");
-        let name = words.next().unwrap_or("");
-        let goes_with = words.next().unwrap_or("");
-        let Some(verb) = verb_of(self.ticks, first) else {
-            return Ok(());
+        let at = At {
+            name: word_at(line, 1),
+            line: number,
         };
-        if verb.role.is_operation() || verb.role.is_event() {
+        match verb_of(self.ticks, word_at(line, 0)) {
+            Some(verb) => self.learn_role(verb.role(), at, line),
+            None => Ok(()),
+        }
+    }
+
+    fn learn_role(&mut self, role: Role, at: At<'a>, line: &'a str) -> Result<(), AllocError> {
+        if role.is_operation() || role.is_event() {
             self.operations = self.operations.saturating_add(1);
         }
-        let at = At { name, line: number };
-        match verb.role {
-            Role::Declares(sort) => self.name(at, sort, goes_with),
-            Role::Begins => {
-                self.open = Some(at);
-                self.name(at, Sort::Thread, "")
-            }
+        match role {
+            Role::Declares(sort) => self.name(at, sort, word_at(line, 2)),
+            Role::Begins => self.begin(at),
+            Role::Takes(_, mode) => self.gain(at, mode, false),
+            Role::Tries(_, mode) => self.try_gain(at, mode),
+            Role::Releases(_, _) => self.release(at),
             Role::Ends => {
-                self.end(number);
+                self.end(at.line);
                 Ok(())
             }
             Role::Schedules => {
@@ -152,20 +173,15 @@ impl<'a> Book<'a> {
                 Ok(())
             }
             Role::Finishes => {
-                self.done = Some(number);
+                self.done = Some(at.line);
                 Ok(())
             }
-            Role::Takes(_, mode) => self.gain(at, mode, false),
-            Role::Tries(_, mode) => self.try_gain(at, mode),
-            Role::Releases(_, _) => self.release(at),
             Role::EndsTry => {
                 let _ = self.blocks.pop();
                 Ok(())
             }
             Role::Sleeps | Role::WakesKey | Role::Posts | Role::Passes => {
-                if self.first_event.is_none() {
-                    self.first_event = Some(number);
-                }
+                self.first_event = Some(self.first_event.unwrap_or(at.line));
                 Ok(())
             }
             Role::Edits
@@ -175,6 +191,12 @@ impl<'a> Book<'a> {
             | Role::Waits(_)
             | Role::Wakes(_) => Ok(()),
         }
+    }
+
+    // A thread begins, and is open.
+    fn begin(&mut self, at: At<'a>) -> Result<(), AllocError> {
+        self.open = Some(at);
+        self.name(at, Sort::Thread, "")
     }
 
     fn name(&mut self, at: At<'a>, sort: Sort, goes_with: &'a str) -> Result<(), AllocError> {

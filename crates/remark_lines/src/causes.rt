@@ -1,7 +1,6 @@
 //! The causes of each code. One row a cause: what has to be so, and the sentence.
 
-use crate::finding::{Fault, Finding};
-use std::alloc::AllocError;
+use crate::finding::{Fault, Found};
 
 mod bytes;
 mod header;
@@ -13,7 +12,7 @@ mod positions;
 mod words;
 
 /// The cause of a fault with that code, where it is found.
-pub fn cause(fault: &Fault<'_>, code: u64) -> Result<Option<Finding>, AllocError> {
+pub fn cause(fault: &Fault<'_>, code: u64) -> Found {
     match code {
         1 => header::cause(fault),
         2 => words::cause(fault),

@@ -37,13 +37,13 @@ pub fn excerpt_of(
         text.push_str("..")?;
         mark.push_str("  ")?;
     }
-    push_line(alloc, &mut text, line, from)?;
+    push_shown(&mut text, line, from)?;
     push_mark(&mut mark, line, from, place)?;
     Ok(Excerpt { text, mark })
 }
 
 // The line from a byte on, up to its end or to the most columns.
-fn push_line(alloc: Global, text: &mut String, line: &[u8], from: usize) -> Result<(), AllocError> {
+fn push_shown(text: &mut String, line: &[u8], from: usize) -> Result<(), AllocError> {
     let mut shown: usize = 0;
     for (i, b) in line.iter().enumerate() {
         if i < from {
@@ -56,8 +56,7 @@ fn push_line(alloc: Global, text: &mut String, line: &[u8], from: usize) -> Resu
         if is_printable(*b) {
             text.push(char::from(*b))?;
         } else {
-            let escaped = format!(in alloc; "\\x{:02X}", *b)?;
-            text.push_str(escaped.as_str())?;
+            write!(text, "\\x{:02X}", *b)?;
         }
     }
     Ok(())

@@ -5,6 +5,7 @@ use crate::causes::cause;
 use crate::excerpt::excerpt_of;
 use crate::finding::{Fault, Finding};
 use crate::places::{line_at, place_of, text_of, word_at};
+use crate::push_line;
 use crate::verbs::verb_of;
 use script_read::{number_of, split_line};
 use std::alloc::{AllocError, Global};
@@ -71,7 +72,7 @@ fn lines_of(fault: &Fault<'_>, found: Finding) -> Result<Vec<String>, AllocError
         other,
     } = found;
     let mut lines = Vec::new(alloc);
-    lines.push(format!(in alloc; "    {sentence}")?)?;
+    push_line(alloc, &mut lines, format_args!("    {sentence}"))?;
     if fault.source.is_empty() {
         return Ok(lines);
     }

@@ -4,7 +4,8 @@
 use crate::book::Book;
 use crate::places::{Span, place_of, word_at};
 use crate::verbs::{Role, Verb};
-use std::alloc::Global;
+use std::alloc::{AllocError, Global};
+use std::fmt::Display;
 
 /// The faulty line, and what the lines above it have made known.
 #[derive(Drop)]
@@ -34,7 +35,7 @@ impl<'a> Fault<'a> {
     /// What the line does, where its first word is known.
     pub fn role(&self) -> Option<Role> {
         let verb = self.verb?;
-        Some(verb.role)
+        Some(verb.role())
     }
 
     /// The name of the open thread.
@@ -43,6 +44,19 @@ impl<'a> Fault<'a> {
             Some(thread) => thread.name,
             None => "",
         }
+    }
+
+    /// The mark below that place.
+    pub fn mark(&self, place: Span) -> Mark {
+        Mark {
+            alloc: self.alloc,
+            place,
+        }
+    }
+
+    /// The mark below a word of the line.
+    pub fn at(&self, n: usize) -> Mark {
+        self.mark(self.place(n))
     }
 }
 
@@ -54,20 +68,40 @@ pub struct Finding {
     pub other: Option<u32>,
 }
 
-/// A cause that no other line has to do with.
-pub fn alone(sentence: String, place: Span) -> Option<Finding> {
-    Some(Finding {
-        sentence,
-        place,
-        other: None,
-    })
+/// A cause, where one is found.
+pub type Found = Result<Option<Finding>, AllocError>;
+
+/// A place of a faulty line, for which a cause is told.
+#[derive(Clone, Copy)]
+pub struct Mark {
+    alloc: Global,
+    place: Span,
 }
 
-/// A cause, and the line that it speaks of.
-pub fn with_line(sentence: String, place: Span, line: u32) -> Option<Finding> {
-    Some(Finding {
-        sentence,
-        place,
-        other: Some(line),
-    })
+impl Mark {
+    /// The mark below one byte, so many behind the first.
+    pub fn byte(self, i: usize) -> Mark {
+        Mark {
+            alloc: self.alloc,
+            place: Span::at(self.place.start.saturating_add(i)),
+        }
+    }
+
+    /// A cause that no other line has to do with, by its sentence.
+    pub fn alone<S: Display + Drop>(self, sentence: S) -> Found {
+        self.found(None, sentence)
+    }
+
+    /// A cause, and the line that it speaks of.
+    pub fn with_line<S: Display + Drop>(self, line: u32, sentence: S) -> Found {
+        self.found(Some(line), sentence)
+    }
+
+    fn found<S: Display + Drop>(self, other: Option<u32>, sentence: S) -> Found {
+        Ok(Some(Finding {
+            sentence: sentence.to_string(self.alloc)?,
+            place: self.place,
+            other,
+        }))
+    }
 }

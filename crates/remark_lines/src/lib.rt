@@ -24,6 +24,18 @@ mod verbs;
 pub use faults::of_fault;
 pub use refusals::of_refusal;
 pub use sleepers::of_stuck;
+use std::alloc::{AllocError, Global};
+use std::fmt::Display;
 
 /// The most lines that are said below a sentence.
 pub const LINES: usize = 8;
+
+// A line more.
+fn push_line<S: Display + Drop>(
+    alloc: Global,
+    lines: &mut Vec<String>,
+    line: S,
+) -> Result<(), AllocError> {
+    lines.push(line.to_string(alloc)?)?;
+    Ok(())
+}

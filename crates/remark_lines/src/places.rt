@@ -4,7 +4,7 @@ use script_read::split_line;
 use std::str;
 
 /// Some bytes of a line that stand in a row.
-#[derive(Clone, Copy, Debug, PartialEq, Eq)]
+#[derive(Clone, Copy, PartialEq, Eq)]
 pub struct Span {
     pub start: usize,
     pub len: usize,

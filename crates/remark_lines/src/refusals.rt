@@ -1,8 +1,8 @@
 //! What is said of a take that was refused for its order: both locks with their classes, and the takes that put the
 //! class of the wanted one before that of the held one.
 
-use crate::LINES;
 use crate::replay::{Order, Refusal, Replay, class_of, replay_of};
+use crate::{LINES, push_line};
 use lock_model::limits;
 use std::alloc::{AllocError, Global};
 
@@ -19,50 +19,124 @@ pub fn of_refusal(alloc: Global, source: &[u8], text: &[u8]) -> Result<Vec<Strin
 }
 
 /// What is said of that refusal.
-pub fn told(
+pub fn told<'a>(
     alloc: Global,
-    run: &Replay<'_>,
-    refusal: Refusal<'_>,
+    run: &Replay<'a>,
+    refusal: Refusal<'a>,
 ) -> Result<Vec<String>, AllocError> {
     let mut lines = Vec::new(alloc);
+    push_told(alloc, &mut lines, run, refusal)?;
+    Ok(lines)
+}
+
+fn push_told<'a>(
+    alloc: Global,
+    lines: &mut Vec<String>,
+    run: &Replay<'a>,
+    refusal: Refusal<'a>,
+) -> Result<(), AllocError> {
+    let (of, under) = (
+        class_of(&run.book, refusal.wanted),
+        class_of(&run.book, refusal.held.lock),
+    );
+    push_locks(alloc, lines, refusal, of, under)?;
+    if of == under {
+        return push_line(
+            alloc,
+            lines,
+            "    nobody takes a lock under another of its class",
+        );
+    }
+    if !push_way(
+        alloc,
+        lines,
+        &run.orders,
+        of,
+        under,
+        Until::Gained(refusal.ticket),
+    )? {
+        push_way(
+            alloc,
+            lines,
+            &run.orders,
+            of,
+            under,
+            Until::Asked(refusal.ticket),
+        )?;
+    }
+    Ok(())
+}
+
+// Both locks with their classes.
+fn push_locks(
+    alloc: Global,
+    lines: &mut Vec<String>,
+    refusal: Refusal<'_>,
+    of: &str,
+    under: &str,
+) -> Result<(), AllocError> {
     let Refusal {
         thread,
         wanted,
         line,
-        ticket,
+        ticket: _,
         held,
     } = refusal;
     let (first, since, entry) = (held.lock, held.line, held.ticket);
-    let (of, under) = (class_of(&run.book, wanted), class_of(&run.book, first));
-    lines.push(format!(in alloc;
-        "    {thread} asks for {wanted}, of class {of}, in line {line}, and holds {first}, of class {under}, since line {since} (entry {entry})"
-    )?)?;
-    if of == under {
-        lines.push(format!(in alloc; "    nobody takes a lock under another of its class")?)?;
-        return Ok(lines);
-    }
-    let mut path = path_of(alloc, &run.orders, of, under, Until::Gained(ticket))?;
-    if path.is_empty() {
-        path = path_of(alloc, &run.orders, of, under, Until::Asked(ticket))?;
-    }
-    push_path(alloc, &mut lines, path.as_slice())?;
-    Ok(lines)
+    push_line(
+        alloc,
+        lines,
+        format_args!(
+            "    {thread} asks for {wanted}, of class {of}, in line {line}, and holds {first}, of class {under}, since line {since} (entry {entry})"
+        ),
+    )
+}
+
+// The takes that lead from the one class to the other, and whether there are some.
+fn push_way<'a>(
+    alloc: Global,
+    lines: &mut Vec<String>,
+    orders: &[Order<'a>],
+    of: &'a str,
+    under: &str,
+    until: Until,
+) -> Result<bool, AllocError> {
+    let path = path_of(alloc, orders, of, under, until)?;
+    push_path(alloc, lines, path.as_slice())?;
+    Ok(!path.is_empty())
 }
 
 // The takes of a path, a line each; where there are more than fit, how many are left.
 fn push_path(alloc: Global, lines: &mut Vec<String>, path: &[Order<'_>]) -> Result<(), AllocError> {
     let fits = path.len() < LINES;
     for order in path.iter().take(if fits { path.len() } else { TAKES }) {
-        lines.push(order_told(alloc, *order)?)?;
+        push_order(alloc, lines, *order)?;
     }
-    if !fits && let Some(last) = path.last() {
-        let (more, behind) = (path.len().saturating_sub(TAKES), last.behind);
-        lines.push(format!(in alloc; "    and so on, by {more} takes more, to {behind}")?)?;
+    match path.last() {
+        Some(last) if !fits => push_rest(
+            alloc,
+            lines,
+            path.len().saturating_sub(TAKES),
+            last.behind,
+        ),
+        Some(_) | None => Ok(()),
     }
-    Ok(())
 }
 
-fn order_told(alloc: Global, order: Order<'_>) -> Result<String, AllocError> {
+fn push_rest(
+    alloc: Global,
+    lines: &mut Vec<String>,
+    more: usize,
+    behind: &str,
+) -> Result<(), AllocError> {
+    push_line(
+        alloc,
+        lines,
+        format_args!("    and so on, by {more} takes more, to {behind}"),
+    )
+}
+
+fn push_order(alloc: Global, lines: &mut Vec<String>, order: Order<'_>) -> Result<(), AllocError> {
     let Order {
         before,
         behind,
@@ -74,16 +148,20 @@ fn order_told(alloc: Global, order: Order<'_>) -> Result<String, AllocError> {
         after: _,
     } = order;
     match ticket {
-        Some(ticket) => {
-            format!(in alloc;
+        Some(ticket) => push_line(
+            alloc,
+            lines,
+            format_args!(
                 "    {before} goes before {behind}: {thread} asked for {wanted} in line {line}, holding {held} (entry {ticket})"
-            )
-        }
-        None => {
-            format!(in alloc;
+            ),
+        ),
+        None => push_line(
+            alloc,
+            lines,
+            format_args!(
                 "    {before} goes before {behind}: {thread} asked for {wanted} in line {line}, holding {held} (no entry: it waits still)"
-            )
-        }
+            ),
+        ),
     }
 }
 
@@ -121,29 +199,51 @@ fn path_of<'a>(
     until: Until,
 ) -> Result<Vec<Order<'a>>, AllocError> {
     let mut reached = Vec::new(alloc);
+    reach(&mut reached, orders, from, until)?;
+    let mut path = Vec::new(alloc);
+    push_back(&mut path, &reached, to)?;
+    path.reverse();
+    Ok(path)
+}
+
+// All classes to which these orders lead from one, each by the fewest.
+fn reach<'a>(
+    reached: &mut Vec<Reached<'a>>,
+    orders: &[Order<'a>],
+    from: &'a str,
+    until: Until,
+) -> Result<(), AllocError> {
     reached.push(Reached {
         class: from,
         by: None,
         from: 0,
     })?;
     for place in 0..limits::CLASSES {
-        let Some(class) = class_at(&reached, place) else {
-            break;
-        };
-        for order in orders {
-            if order.before != class || !until.has(order) {
-                continue;
-            }
-            if !reached.iter().any(|r| r.class == order.behind) {
-                reached.push(Reached {
-                    class: order.behind,
-                    by: Some(*order),
-                    from: place,
-                })?;
-            }
+        if let Some(class) = class_at(reached, place) {
+            reach_from(reached, orders, class, place, until)?;
         }
     }
-    back_from(alloc, &reached, to)
+    Ok(())
+}
+
+// The classes to which one order more leads, from the one at that place.
+fn reach_from<'a>(
+    reached: &mut Vec<Reached<'a>>,
+    orders: &[Order<'a>],
+    class: &str,
+    place: usize,
+    until: Until,
+) -> Result<(), AllocError> {
+    for order in orders {
+        if order.before == class && until.has(order) && place_in(reached, order.behind).is_none() {
+            reached.push(Reached {
+                class: order.behind,
+                by: Some(*order),
+                from: place,
+            })?;
+        }
+    }
+    Ok(())
 }
 
 fn class_at<'a>(reached: &[Reached<'a>], place: usize) -> Option<&'a str> {
@@ -151,26 +251,25 @@ fn class_at<'a>(reached: &[Reached<'a>], place: usize) -> Option<&'a str> {
     Some(r.class)
 }
 
-// The orders by which a class was reached, first to last.
-fn back_from<'a>(
-    alloc: Global,
+fn place_in(reached: &[Reached<'_>], class: &str) -> Option<usize> {
+    reached.iter().position(|r| r.class == class)
+}
+
+// The orders by which a class was reached, last to first.
+fn push_back<'a>(
+    path: &mut Vec<Order<'a>>,
     reached: &[Reached<'a>],
     class: &str,
-) -> Result<Vec<Order<'a>>, AllocError> {
-    let mut path = Vec::new(alloc);
-    let Some(mut place) = reached.iter().position(|r| r.class == class) else {
-        return Ok(path);
-    };
+) -> Result<(), AllocError> {
+    let mut next = place_in(reached, class);
     for _ in 0..limits::CLASSES {
-        let Some(r) = reached.get(place) else {
-            break;
-        };
-        let Some(order) = r.by else {
-            break;
-        };
-        path.push(order)?;
-        place = r.from;
+        if let Some(place) = next
+            && let Some(r) = reached.get(place)
+            && let Some(order) = r.by
+        {
+            path.push(order)?;
+            next = Some(r.from);
+        }
     }
-    path.reverse();
-    Ok(path)
+    Ok(())
 }

@@ -2,7 +2,7 @@
 //! class of locks before another. The history is that of the printed text, and the lines are found by reading the
 //! script again: a thread's entries follow its operations, one by one.
 
-use crate::actor::{Actor, Halt, Hold, Operation};
+use crate::actor::{Actor, Hold, Operation};
 use crate::book::Book;
 use crate::places::{text_of, word_at};
 use crate::verbs::{Role, verb_of};
@@ -10,7 +10,7 @@ use script_read::number_of;
 use std::alloc::{AllocError, Global};
 
 /// A take that put the class of a lock that was held before that of the wanted one.
-#[derive(Clone, Copy, Debug)]
+#[derive(Clone, Copy)]
 pub struct Order<'a> {
     pub before: &'a str,
     pub behind: &'a str,
@@ -25,7 +25,7 @@ pub struct Order<'a> {
 }
 
 /// A take that was refused for its order.
-#[derive(Clone, Copy, Debug)]
+#[derive(Clone, Copy)]
 pub struct Refusal<'a> {
     pub thread: &'a str,
     pub wanted: &'a str,
@@ -36,7 +36,7 @@ pub struct Refusal<'a> {
 }
 
 /// A wake of a condition or a channel on which nobody slept.
-#[derive(Clone, Copy, Debug)]
+#[derive(Clone, Copy)]
 pub struct EmptyWake<'a> {
     pub thread: &'a str,
     pub operation: Operation<'a>,
@@ -87,56 +87,71 @@ pub fn replay_of<'a>(
         refusal: None,
         is_run: false,
     };
-    let mut number: u32 = 1;
-    for line in text_of(source).lines() {
-        if number > 1 {
-            run.book.learn(number, line)?;
-            run.learn_operation(alloc, number, line)?;
-        }
-        number = number.saturating_add(1);
-    }
-    for actor in &mut run.actors {
-        actor.begin();
-    }
-    for line in text_of(text).lines() {
-        match number_of(word_at(line, 0).as_bytes()) {
-            Some(ticket) => run.make(Entry { ticket, line })?,
-            None => run.is_run = run.is_run || word_at(line, 0) == "thread",
-        }
-    }
-    run.ask()?;
+    run.read(alloc, text_of(source), text_of(text))?;
     Ok(run)
 }
 
 impl<'a> Replay<'a> {
-    // A line of the script that begins a thread, or is an operation of the last one.
-    fn learn_operation(
-        &mut self,
-        alloc: Global,
-        number: u32,
-        line: &'a str,
-    ) -> Result<(), AllocError> {
-        let Some(verb) = verb_of(false, word_at(line, 0)) else {
-            return Ok(());
-        };
-        if verb.role == Role::Begins {
-            self.actors.push(Actor::new(alloc, word_at(line, 1)))?;
-            return Ok(());
+    // The script, and then the text.
+    fn read(&mut self, alloc: Global, script: &'a str, text: &'a str) -> Result<(), AllocError> {
+        self.learn_all(alloc, script)?;
+        for actor in &mut self.actors {
+            actor.begin();
         }
-        if !verb.role.is_operation() {
-            return Ok(());
+        for line in text.lines() {
+            self.make_line(line)?;
         }
-        let operation = Operation {
-            line: number,
-            text: line,
-            role: verb.role,
-        };
-        if matches!(verb.role, Role::Wakes(_)) {
+        self.ask()
+    }
+
+    // The lines of the script behind its header.
+    fn learn_all(&mut self, alloc: Global, script: &'a str) -> Result<(), AllocError> {
+        let mut number: u32 = 1;
+        for line in script.lines() {
+            if number > 1 {
+                self.learn(alloc, number, line)?;
+            }
+            number = number.saturating_add(1);
+        }
+        Ok(())
+    }
+
+    fn learn(&mut self, alloc: Global, number: u32, line: &'a str) -> Result<(), AllocError> {
+        self.book.learn(number, line)?;
+        match verb_of(false, word_at(line, 0)) {
+            Some(verb) if verb.role().is_operation() => self.learn_operation(Operation {
+                line: number,
+                text: line,
+                role: verb.role(),
+            }),
+            Some(verb) if matches!(verb.role(), Role::Begins) => {
+                self.actors.push(Actor::new(alloc, word_at(line, 1)))?;
+                Ok(())
+            }
+            Some(_) | None => Ok(()),
+        }
+    }
+
+    // An operation of the thread that began last.
+    fn learn_operation(&mut self, operation: Operation<'a>) -> Result<(), AllocError> {
+        if matches!(operation.role, Role::Wakes(_)) {
             self.woken.push(operation.name())?;
         }
         match self.actors.as_mut_slice().last_mut() {
             Some(actor) => actor.add(operation),
             None => Ok(()),
+        }
+    }
+
+    // A line of the text: an entry, or what stands behind the history.
+    fn make_line(&mut self, line: &'a str) -> Result<(), AllocError> {
+        let first = word_at(line, 0);
+        match number_of(first.as_bytes()) {
+            Some(ticket) => self.make(Entry { ticket, line }),
+            None => {
+                self.is_run = self.is_run || first == "thread";
+                Ok(())
+            }
         }
     }
 
@@ -155,9 +170,7 @@ impl<'a> Replay<'a> {
                 actor.last = Some(entry.ticket);
             }
         }
-        if let Some(verb) = verb_of(false, entry.word(2))
-            && matches!(verb.role, Role::Wakes(_))
-        {
+        if wakes(entry.word(2)) {
             self.wake(entry.line);
         }
         Ok(())
@@ -166,11 +179,13 @@ impl<'a> Replay<'a> {
     // `TICKET THREAD signal C NAME` and its like: those threads were woken.
     fn wake(&mut self, line: &str) {
         for name in line.split(' ').skip(4) {
-            for actor in &mut self.actors {
-                if actor.name == name {
-                    actor.is_woken = true;
-                }
-            }
+            self.wake_thread(name);
+        }
+    }
+
+    fn wake_thread(&mut self, name: &str) {
+        for actor in &mut self.actors {
+            actor.is_woken = actor.is_woken || actor.name == name;
         }
     }
 
@@ -189,6 +204,14 @@ impl<'a> Replay<'a> {
             }
         }
         Ok(())
+    }
+}
+
+// Whether an operation with that first word wakes sleepers.
+fn wakes(word: &str) -> bool {
+    match verb_of(false, word) {
+        Some(verb) => matches!(verb.role(), Role::Wakes(_)),
+        None => false,
     }
 }
 
@@ -212,10 +235,7 @@ fn make_in<'a>(
         }
         "halted" => halt(actor, entry, book, orders),
         "reversed" => {
-            let refused = refuse(actor, entry, book);
-            if refusal.is_none() {
-                *refusal = refused;
-            }
+            refuse(actor, entry, book, refusal);
             Ok(())
         }
         _ if actor.is_cut => {
@@ -234,45 +254,46 @@ fn halt<'a>(
     book: &Book<'a>,
     orders: &mut Vec<Order<'a>>,
 ) -> Result<(), AllocError> {
-    let (since, ticket) = (actor.last, entry.ticket);
-    let operation = match actor.asleep {
-        Some(operation) => operation,
-        None => {
-            let Some(operation) = actor.go_on() else {
-                return Ok(());
-            };
-            let (lock, line) = (operation.name(), operation.line);
-            teach(actor, book, orders, lock, line, Some(ticket))?;
-            operation
-        }
-    };
-    actor.asleep = None;
-    actor.is_cut = true;
-    actor.halted = Some(Halt {
-        operation,
-        since,
-        ticket,
-    });
+    if let Some(operation) = actor.asleep {
+        actor.halt(operation, entry.ticket);
+    } else if let Some(operation) = actor.go_on() {
+        let (lock, line) = (operation.name(), operation.line);
+        teach(actor, book, orders, lock, line, Some(entry.ticket))?;
+        actor.halt(operation, entry.ticket);
+    }
     Ok(())
 }
 
-// A take is refused, and its thread is cut.
-fn refuse<'a>(actor: &mut Actor<'a>, entry: Entry<'a>, book: &Book<'a>) -> Option<Refusal<'a>> {
+// A take is refused, and its thread is cut. The first refusal of a run is kept.
+fn refuse<'a>(
+    actor: &mut Actor<'a>,
+    entry: Entry<'a>,
+    book: &Book<'a>,
+    refusal: &mut Option<Refusal<'a>>,
+) {
     actor.is_cut = true;
-    let operation = actor.go_on()?;
-    let class = entry.word(4);
-    let held = actor
-        .holds
-        .iter()
-        .find(|h| class_of(book, h.lock) == class)
-        .copied()?;
-    Some(Refusal {
-        thread: actor.name,
-        wanted: entry.word(3),
-        line: operation.line,
-        ticket: entry.ticket,
-        held,
-    })
+    if let Some(operation) = actor.go_on()
+        && let Some(held) = held_of_class(actor, book, entry.word(4))
+        && refusal.is_none()
+    {
+        *refusal = Some(Refusal {
+            thread: actor.name,
+            wanted: entry.word(3),
+            line: operation.line,
+            ticket: entry.ticket,
+            held,
+        });
+    }
+}
+
+// The first lock of a class that a thread holds.
+fn held_of_class<'a>(actor: &Actor<'a>, book: &Book<'a>, class: &str) -> Option<Hold<'a>> {
+    for hold in &actor.holds {
+        if class_of(book, hold.lock) == class {
+            return Some(*hold);
+        }
+    }
+    None
 }
 
 // An entry that is the operation's own words.
@@ -283,9 +304,40 @@ fn go_on<'a>(
     orders: &mut Vec<Order<'a>>,
     empty_wakes: &mut Vec<EmptyWake<'a>>,
 ) -> Result<(), AllocError> {
-    let Some(operation) = actor.go_on() else {
-        return Ok(());
-    };
+    match actor.go_on() {
+        Some(operation) if matches!(operation.role, Role::Wakes(_)) => {
+            wake_from(actor, entry, operation, empty_wakes)
+        }
+        Some(operation) => operate(actor, entry, operation, book, orders),
+        None => Ok(()),
+    }
+}
+
+// A wake of what an operation names. Where it woke nobody, its entry says so by a sign.
+fn wake_from<'a>(
+    actor: &Actor<'a>,
+    entry: Entry<'a>,
+    operation: Operation<'a>,
+    empty_wakes: &mut Vec<EmptyWake<'a>>,
+) -> Result<(), AllocError> {
+    if entry.word(4) == "-" {
+        empty_wakes.push(EmptyWake {
+            thread: actor.name,
+            operation,
+            ticket: entry.ticket,
+        })?;
+    }
+    Ok(())
+}
+
+// Any other operation.
+fn operate<'a>(
+    actor: &mut Actor<'a>,
+    entry: Entry<'a>,
+    operation: Operation<'a>,
+    book: &Book<'a>,
+    orders: &mut Vec<Order<'a>>,
+) -> Result<(), AllocError> {
     let (lock, line, ticket) = (entry.word(3), operation.line, entry.ticket);
     match operation.role {
         Role::Takes(_, _) => {
@@ -302,20 +354,11 @@ fn go_on<'a>(
             actor.is_woken = false;
             Ok(())
         }
-        Role::Wakes(_) => {
-            if entry.word(4) == "-" {
-                empty_wakes.push(EmptyWake {
-                    thread: actor.name,
-                    operation,
-                    ticket,
-                })?;
-            }
-            Ok(())
-        }
         Role::Edits
         | Role::Reads
         | Role::SetsPriority
         | Role::Shows
+        | Role::Wakes(_)
         | Role::EndsTry
         | Role::Declares(_)
         | Role::Begins
@@ -340,24 +383,31 @@ fn teach<'a>(
 ) -> Result<(), AllocError> {
     let behind = class_of(book, wanted);
     for hold in &actor.holds {
-        let before = class_of(book, hold.lock);
-        let is_known = orders.iter().any(|o| o.before == before
-            && o.behind == behind
-            && !is_less(actor.last, o.after));
-        if !is_known {
-            orders.push(Order {
-                before,
-                behind,
-                thread: actor.name,
-                wanted,
-                held: hold.lock,
-                line,
-                ticket,
-                after: actor.last,
-            })?;
+        let order = Order {
+            before: class_of(book, hold.lock),
+            behind,
+            thread: actor.name,
+            wanted,
+            held: hold.lock,
+            line,
+            ticket,
+            after: actor.last,
+        };
+        if !is_known(orders, order) {
+            orders.push(order)?;
         }
     }
     Ok(())
+}
+
+// Whether one of the orders is of the same classes, and was asked for no later.
+fn is_known(orders: &[Order<'_>], order: Order<'_>) -> bool {
+    for o in orders {
+        if o.before == order.before && o.behind == order.behind && !is_less(order.after, o.after) {
+            return true;
+        }
+    }
+    false
 }
 
 // Whether the one ticket is less than the other; none is less than any.

@@ -1,10 +1,11 @@
 //! The first words of lines: what a line does that begins with one, and its form. There is a table for each sort of
 //! script. What a word says for a run is the business of the readers of scripts; here it is looked up for a sentence.
 
+use crate::places::word_at;
 use lock_model::{Kind, Mode};
 
 /// What is declared under a name.
-#[derive(Clone, Copy, Debug, PartialEq, Eq)]
+#[derive(Clone, Copy, PartialEq, Eq)]
 pub enum Sort {
     Lock(Kind),
     Condition,
@@ -58,7 +59,7 @@ impl Sort {
 }
 
 /// What a line does.
-#[derive(Clone, Copy, Debug, PartialEq, Eq)]
+#[derive(Clone, Copy, PartialEq, Eq)]
 pub enum Role {
     Declares(Sort),
     Begins,
@@ -131,241 +132,75 @@ impl Role {
     }
 }
 
-/// A first word.
-#[derive(Clone, Copy, Debug)]
-pub struct Verb {
-    pub word: &'static str,
-    /// The whole line; words in square brackets may be left out, and `..` stands for more words like the last.
-    pub form: &'static str,
-    pub role: Role,
+/// The form of a line, which begins with its first word, and what the line does. In a form words in square brackets may
+/// be left out, and `..` stands for more words like the last.
+#[derive(Clone, Copy)]
+pub struct Verb(&'static str, Role);
+
+impl Verb {
+    pub fn form(self) -> &'static str {
+        self.0
+    }
+
+    pub fn word(self) -> &'static str {
+        word_at(self.0, 0)
+    }
+
+    pub fn role(self) -> Role {
+        self.1
+    }
 }
 
 /// The first words of a script of threads and locks.
 pub const LOCK_VERBS: [Verb; 36] = [
-    Verb {
-        word: "mutex",
-        form: "mutex NAME CLASS",
-        role: Role::Declares(Sort::Lock(Kind::Mtx)),
-    },
-    Verb {
-        word: "rw",
-        form: "rw NAME CLASS",
-        role: Role::Declares(Sort::Lock(Kind::Rw)),
-    },
-    Verb {
-        word: "sx",
-        form: "sx NAME CLASS",
-        role: Role::Declares(Sort::Lock(Kind::Sx)),
-    },
-    Verb {
-        word: "cond",
-        form: "cond NAME LOCK",
-        role: Role::Declares(Sort::Condition),
-    },
-    Verb {
-        word: "chan",
-        form: "chan NAME LOCK",
-        role: Role::Declares(Sort::Channel),
-    },
-    Verb {
-        word: "thread",
-        form: "thread NAME PRIO",
-        role: Role::Begins,
-    },
-    Verb {
-        word: "end",
-        form: "end",
-        role: Role::Ends,
-    },
-    Verb {
-        word: "schedule",
-        form: "schedule NAME ..",
-        role: Role::Schedules,
-    },
-    Verb {
-        word: "done",
-        form: "done",
-        role: Role::Finishes,
-    },
-    Verb {
-        word: "lock",
-        form: "lock L",
-        role: Role::Takes(Kind::Mtx, Mode::Excl),
-    },
-    Verb {
-        word: "unlock",
-        form: "unlock L",
-        role: Role::Releases(Kind::Mtx, Mode::Excl),
-    },
-    Verb {
-        word: "rlock",
-        form: "rlock L",
-        role: Role::Takes(Kind::Rw, Mode::Shared),
-    },
-    Verb {
-        word: "wlock",
-        form: "wlock L",
-        role: Role::Takes(Kind::Rw, Mode::Excl),
-    },
-    Verb {
-        word: "runlock",
-        form: "runlock L",
-        role: Role::Releases(Kind::Rw, Mode::Shared),
-    },
-    Verb {
-        word: "wunlock",
-        form: "wunlock L",
-        role: Role::Releases(Kind::Rw, Mode::Excl),
-    },
-    Verb {
-        word: "slock",
-        form: "slock L",
-        role: Role::Takes(Kind::Sx, Mode::Shared),
-    },
-    Verb {
-        word: "xlock",
-        form: "xlock L",
-        role: Role::Takes(Kind::Sx, Mode::Excl),
-    },
-    Verb {
-        word: "sunlock",
-        form: "sunlock L",
-        role: Role::Releases(Kind::Sx, Mode::Shared),
-    },
-    Verb {
-        word: "xunlock",
-        form: "xunlock L",
-        role: Role::Releases(Kind::Sx, Mode::Excl),
-    },
-    Verb {
-        word: "trylock",
-        form: "trylock L",
-        role: Role::Tries(Kind::Mtx, Mode::Excl),
-    },
-    Verb {
-        word: "tryrlock",
-        form: "tryrlock L",
-        role: Role::Tries(Kind::Rw, Mode::Shared),
-    },
-    Verb {
-        word: "trywlock",
-        form: "trywlock L",
-        role: Role::Tries(Kind::Rw, Mode::Excl),
-    },
-    Verb {
-        word: "tryslock",
-        form: "tryslock L",
-        role: Role::Tries(Kind::Sx, Mode::Shared),
-    },
-    Verb {
-        word: "tryxlock",
-        form: "tryxlock L",
-        role: Role::Tries(Kind::Sx, Mode::Excl),
-    },
-    Verb {
-        word: "endtry",
-        form: "endtry",
-        role: Role::EndsTry,
-    },
-    Verb {
-        word: "set",
-        form: "set L KEY VALUE",
-        role: Role::Edits,
-    },
-    Verb {
-        word: "add",
-        form: "add L KEY AMOUNT",
-        role: Role::Edits,
-    },
-    Verb {
-        word: "get",
-        form: "get L KEY",
-        role: Role::Reads,
-    },
-    Verb {
-        word: "prio",
-        form: "prio PRIO",
-        role: Role::SetsPriority,
-    },
-    Verb {
-        word: "show",
-        form: "show",
-        role: Role::Shows,
-    },
-    Verb {
-        word: "wait",
-        form: "wait C",
-        role: Role::Waits(Sort::Condition),
-    },
-    Verb {
-        word: "signal",
-        form: "signal C",
-        role: Role::Wakes(Sort::Condition),
-    },
-    Verb {
-        word: "broadcast",
-        form: "broadcast C",
-        role: Role::Wakes(Sort::Condition),
-    },
-    Verb {
-        word: "msleep",
-        form: "msleep C",
-        role: Role::Waits(Sort::Channel),
-    },
-    Verb {
-        word: "wakeup_one",
-        form: "wakeup_one C",
-        role: Role::Wakes(Sort::Channel),
-    },
-    Verb {
-        word: "wakeup",
-        form: "wakeup C",
-        role: Role::Wakes(Sort::Channel),
-    },
+    Verb("mutex NAME CLASS", Role::Declares(Sort::Lock(Kind::Mtx))),
+    Verb("rw NAME CLASS", Role::Declares(Sort::Lock(Kind::Rw))),
+    Verb("sx NAME CLASS", Role::Declares(Sort::Lock(Kind::Sx))),
+    Verb("cond NAME LOCK", Role::Declares(Sort::Condition)),
+    Verb("chan NAME LOCK", Role::Declares(Sort::Channel)),
+    Verb("thread NAME PRIO", Role::Begins),
+    Verb("end", Role::Ends),
+    Verb("schedule NAME ..", Role::Schedules),
+    Verb("done", Role::Finishes),
+    Verb("lock L", Role::Takes(Kind::Mtx, Mode::Excl)),
+    Verb("unlock L", Role::Releases(Kind::Mtx, Mode::Excl)),
+    Verb("rlock L", Role::Takes(Kind::Rw, Mode::Shared)),
+    Verb("wlock L", Role::Takes(Kind::Rw, Mode::Excl)),
+    Verb("runlock L", Role::Releases(Kind::Rw, Mode::Shared)),
+    Verb("wunlock L", Role::Releases(Kind::Rw, Mode::Excl)),
+    Verb("slock L", Role::Takes(Kind::Sx, Mode::Shared)),
+    Verb("xlock L", Role::Takes(Kind::Sx, Mode::Excl)),
+    Verb("sunlock L", Role::Releases(Kind::Sx, Mode::Shared)),
+    Verb("xunlock L", Role::Releases(Kind::Sx, Mode::Excl)),
+    Verb("trylock L", Role::Tries(Kind::Mtx, Mode::Excl)),
+    Verb("tryrlock L", Role::Tries(Kind::Rw, Mode::Shared)),
+    Verb("trywlock L", Role::Tries(Kind::Rw, Mode::Excl)),
+    Verb("tryslock L", Role::Tries(Kind::Sx, Mode::Shared)),
+    Verb("tryxlock L", Role::Tries(Kind::Sx, Mode::Excl)),
+    Verb("endtry", Role::EndsTry),
+    Verb("set L KEY VALUE", Role::Edits),
+    Verb("add L KEY AMOUNT", Role::Edits),
+    Verb("get L KEY", Role::Reads),
+    Verb("prio PRIO", Role::SetsPriority),
+    Verb("show", Role::Shows),
+    Verb("wait C", Role::Waits(Sort::Condition)),
+    Verb("signal C", Role::Wakes(Sort::Condition)),
+    Verb("broadcast C", Role::Wakes(Sort::Condition)),
+    Verb("msleep C", Role::Waits(Sort::Channel)),
+    Verb("wakeup_one C", Role::Wakes(Sort::Channel)),
+    Verb("wakeup C", Role::Wakes(Sort::Channel)),
 ];
 
 /// The first words of a script of ticks.
 pub const TICK_VERBS: [Verb; 8] = [
-    Verb {
-        word: "sleeper",
-        form: "sleeper NAME PRIO",
-        role: Role::Declares(Sort::Sleeper),
-    },
-    Verb {
-        word: "sleep",
-        form: "sleep NAME KEY [TICKS]",
-        role: Role::Sleeps,
-    },
-    Verb {
-        word: "sleepsig",
-        form: "sleepsig NAME KEY [TICKS]",
-        role: Role::Sleeps,
-    },
-    Verb {
-        word: "wakeone",
-        form: "wakeone KEY",
-        role: Role::WakesKey,
-    },
-    Verb {
-        word: "wakeup",
-        form: "wakeup KEY",
-        role: Role::WakesKey,
-    },
-    Verb {
-        word: "signal",
-        form: "signal NAME",
-        role: Role::Posts,
-    },
-    Verb {
-        word: "tick",
-        form: "tick TICKS",
-        role: Role::Passes,
-    },
-    Verb {
-        word: "done",
-        form: "done",
-        role: Role::Finishes,
-    },
+    Verb("sleeper NAME PRIO", Role::Declares(Sort::Sleeper)),
+    Verb("sleep NAME KEY [TICKS]", Role::Sleeps),
+    Verb("sleepsig NAME KEY [TICKS]", Role::Sleeps),
+    Verb("wakeone KEY", Role::WakesKey),
+    Verb("wakeup KEY", Role::WakesKey),
+    Verb("signal NAME", Role::Posts),
+    Verb("tick TICKS", Role::Passes),
+    Verb("done", Role::Finishes),
 ];
 
 /// Those of scripts of ticks, or of threads and locks.
@@ -375,13 +210,16 @@ pub fn verbs(ticks: bool) -> &'static [Verb] {
 
 /// The first word that is this one.
 pub fn verb_of(ticks: bool, word: &str) -> Option<Verb> {
-    verbs(ticks).iter().find(|verb| verb.word == word).copied()
+    verbs(ticks)
+        .iter()
+        .find(|verb| verb.word() == word)
+        .copied()
 }
 
 /// The first word of lines that do this.
 pub fn word_for(role: Role) -> Option<&'static str> {
-    let verb = LOCK_VERBS.iter().find(|verb| verb.role == role)?;
-    Some(verb.word)
+    let verb = LOCK_VERBS.iter().find(|verb| verb.role() == role)?;
+    Some(verb.word())
 }
 
 /// How a lock is held.

@@ -1,68 +1,53 @@
--- What the rows of a run tell of its states.
-use Rattle.std.proofs.Common.{◌≡◌, ℕ, ◌+◌, ◌<◌, ◌≤◌, true, false, not, ◌==◌, List, length, Option, Some, None, IfSome, refl, sym, ap, subst, inl, inr, arith, ◌∙◌}
-use Rattle.std.specs.Prelude.{option_map, slice_get, IsSomeAnd}
-use Rattle.std.proofs.lemmas.Bool.{eq-eqb}
-use Rattle.std.proofs.lemmas.Option.{slice_get_cases, slice_get_within}
+-- What the rows of a run tell of its states: of its threads and turns, of its locks, and how it ended.
+use Rattle.std.proofs.Common.{◌≡◌, ℕ, ◌+◌, ◌<◌, ◌≤◌, false, cond, ltb, not, List, length, Option, Some, None, IfSome, refl, sym, ap, subst, inl, inr, arith, ◌∙◌}
+use Rattle.std.specs.Prelude.{find, option_map, slice_get, IsSomeAnd}
+use Rattle.std.proofs.lemmas.Bool.{cases_lt, lt-ltb, ltb-true}
+use Rattle.std.proofs.lemmas.Option.{cond_some, slice_get_cases, slice_get_within}
+use Rattle.lock_history.specs.Endings as seen
 use Rattle.lock_laws.proofs.AtTurn.{well_formed}
-use Rattle.run_laws.proofs.Turning.{behind_course}
-use Rattle.run_laws.specs.OnTrack.{IsOnTrack}
-use Rattle.lock_model.specs.Holds.{Hold, Holds, NotHeld, is_exclusive, is_unheld}
+use Rattle.lock_laws.proofs.Shown.{exclusive_is, owner-owns}
+use Rattle.lock_laws.proofs.Standing.{standing_named}
+use Rattle.lock_model.specs.Holds.{Hold, Holds, NotHeld, is_unheld}
 use Rattle.lock_model.specs.Operations.{IsProper}
 use Rattle.lock_model.specs.Plans.{config_of}
-use Rattle.lock_model.specs.Words.{Holder, Free, HeldBy, SharedBy, IsWellFormed, owner_of, word_of}
+use Rattle.lock_model.specs.Queues.{stands}
+use Rattle.lock_model.specs.Text as text
+use Rattle.lock_model.specs.Words.{IsWellFormed, owner_of, word_of}
 use Rattle.lock_model.specs.declared.numbers.ThreadNo.{ThreadNo}
-use Rattle.lock_model.specs.declared.plan.Mode.TheVariants.{Excl, Shared}
-use Rattle.lock_model.specs.declared.plan.QueueName.{QueueName}
+use Rattle.lock_model.specs.declared.plan.Mode.TheVariants.{Excl}
 use Rattle.lock_model.specs.declared.plan.Plan.{Plan}
+use Rattle.lock_model.specs.declared.plan.QueueName.{QueueName}
+use Rattle.lock_objects.specs.Represents.{wait_of}
 use Rattle.lock_state.specs.Facts.{OnlyLocksAreHeld, OnlyThreadsHold, OnlyThreadsStand, WordsMatchHolders}
-use Rattle.lock_state.specs.Facts.Words.{owns}
+use Rattle.lock_state.specs.Run.{course_after, ending_of, has_ended, scheduled_run}
+use Rattle.lock_state.specs.State.{State}
+use Rattle.run_chart.specs.Bars.{standing, standing_at, woken_kind}
+use Rattle.run_chart.specs.Charts.{ended_in}
 use Rattle.run_chart.specs.Runs.{IsRunOf, IsTurnOf}
 use Rattle.run_chart.specs.Turns.{holds, owner_in}
-use Rattle.run_tracks.specs.Rows.{IsThread, TellsRun, TellsThread, run_in}
-use Rattle.run_tracks.specs.Tracks.{value_in, Tells}
-use Rattle.run_tracks.specs.declared.threads.ThreadRow.{ThreadRow}
-use Rattle.run_tracks.specs.declared.threads.ThreadRows.{ThreadRows}
+use Rattle.run_chart.proofs.Values.{first_so, so_of}
+use Rattle.run_laws.proofs.Turning.{behind_course}
+use Rattle.run_laws.proofs.TurnsOfCourses.{stays_over}
+use Rattle.run_laws.specs.OnTrack.{IsOnTrack}
+use Rattle.run_tracks.specs.Rows.{run_in, IsThread, IsWhereItStands, TellsRun, TellsThread}
+use Rattle.run_tracks.specs.Tracks.{value_in, IsTrack, Tells}
 use Rattle.run_tracks.specs.declared.rows.Rows.{Rows}
 use Rattle.run_tracks.specs.declared.rows.TurnRow.{TurnRow}
+use Rattle.run_tracks.specs.declared.threads.ThreadRow.{ThreadRow}
+use Rattle.run_tracks.specs.declared.threads.ThreadRows.{ThreadRows}
 
 -- 1. Tracks
 
 pub so_at : {T : Type 0} (track : List (ℕ × T)) (rows : ℕ) (IsSo : ℕ → T → Type 0) → Tells track rows IsSo → (n : ℕ) → n < rows → (v : T) → value_in n track ≡ Some v → IsSo n v
 so_at track rows IsSo h n l v e = subst (λ o. IsSomeAnd o (IsSo n)) e (h.value n l)
 
--- a value that is there
-pub record Known {T : Type 0} (o : Option T) (P : T → Type 0) : Type 0 where
-  pub value : T
-  pub is : o ≡ Some value
-  pub so : P value
-
-known : {T : Type 0} (o : Option T) (P : T → Type 0) → IsSomeAnd o P → Known o P
-known None P h = absurd h
-known (Some v) P h = record { value = v; is = refl; so = h }
-
-pub value_at : {T : Type 0} (track : List (ℕ × T)) (rows : ℕ) (IsSo : ℕ → T → Type 0) → Tells track rows IsSo → (n : ℕ) → n < rows → Known (value_in n track) (IsSo n)
-value_at track rows IsSo h n l = known (value_in n track) (IsSo n) (h.value n l)
-
-pub element_at : {X : Type 0} (xs : List X) (i : ℕ) → i < length xs → (x : X) × (slice_get xs i ≡ Some x)
-element_at xs i l = elim ((slice_get_cases xs i).1) [
-  | inl found ↦ (found.0, found.2)
-  | inr past ↦ let less : length xs ≤ i = past.0 in absurd (omega arith)
+pub beyond : {X : Type 0} (xs : List X) (i : ℕ) → None ≡ slice_get xs i → length xs ≤ i
+beyond xs i none = elim ((slice_get_cases xs i).1) [
+  | inl found ↦ let both : None ≡ Some found.0 = none ∙ found.2 in absurd cc
+  | inr past ↦ past.0
 ]
 
-pub no_element : {X : Type 0} (xs : List X) (i : ℕ) → i < length xs → None ≡ slice_get xs i → ⊥
-no_element xs i l none = let it = element_at xs i l in let both : None ≡ Some it.0 = none ∙ it.1 in cc
-
 -- 2. Who holds a lock
-
-held_by : (o : ℕ) (x : Holder) → owner_of x ≡ Some o → owns o x ≡ true
-held_by o Free e = absurd cc
-held_by o (HeldBy t) e = let same : t ≡ o = cc in ap (λ u. o == u) same ∙ eq-eqb o o refl
-held_by o (SharedBy n) e = absurd cc
-
-holds_it : (h : Hold) → is_exclusive h ≡ true → h ≡ Holds Excl
-holds_it NotHeld e = absurd cc
-holds_it (Holds Excl) e = refl
-holds_it (Holds Shared) e = absurd cc
 
 module _ (plan : Plan) (proper : IsProper plan) (n : ℕ) where
   abbrev on_track : IsOnTrack plan (run_in plan n)
@@ -71,7 +56,8 @@ module _ (plan : Plan) (proper : IsProper plan) (n : ℕ) where
   owner_holds : (l o : ℕ) → owner_of ((run_in plan n).state.word l).holder ≡ Some o → (run_in plan n).state.held o l ≡ Holds Excl
   unfolding WordsMatchHolders
   owner_holds l o e =
-      holds_it ((run_in plan n).state.held o l) ((on_track.lawful.lawful.words.words_match_holders l).owner o ∙ held_by o ((run_in plan n).state.word l).holder e)
+      exclusive_is ((run_in plan n).state.held o l) ((on_track.lawful.lawful.words.words_match_holders l).owner o
+      ∙ owner-owns o ((run_in plan n).state.word l).holder e)
 
   -- the owner of a lock is a thread,
   pub owner_is_thread : (l o : ℕ) → owner_of ((run_in plan n).state.word l).holder ≡ Some o → o < length plan.threads
@@ -109,15 +95,16 @@ module _ (plan : Plan) (rows : Rows) (h : IsRunOf plan rows) where
 
   -- 4. What a thread doesn't hold, and where what is none stands
 
-  pub holds_nothing : (n l t : ℕ) (thread : ThreadRows) → slice_get rows.threads t ≡ Some thread → None ≡ slice_get thread.held l → false ≡ holds plan n l t
+  pub holds_nothing : (n l t : ℕ) (thread : ThreadRows) → slice_get rows.threads t ≡ Some thread
+      → length thread.held ≤ l → false ≡ holds plan n l t
   unfolding OnlyLocksAreHeld
-  holds_nothing n l t thread at none = go ((run_in plan n).state.held t l) refl
+  holds_nothing n l t thread at past = go ((run_in plan n).state.held t l) refl
     where
       go : (x : Hold) → (run_in plan n).state.held t l ≡ x → false ≡ not (is_unheld x)
       go NotHeld e = refl
       go (Holds mode) e =
           let lock = (behind_course plan n h.proper).taken.only_locks_are_held t l mode e in
-          absurd (no_element thread.held l (omega (arith, lock, (thread_at t thread at).locks)) none)
+          absurd (omega (arith, lock, past, (thread_at t thread at).locks))
 
   -- what is no thread has a record that names nothing
   pub named_nowhere : (n t : ℕ) → length rows.threads ≤ t → None ≡ (run_in plan n).state.blocked_on t
@@ -143,10 +130,84 @@ module _ (plan : Plan) (rows : Rows) (h : IsRunOf plan rows) where
       go : (o : Option ℕ) → owner_in plan n k ≡ o → None ≡ o
       go None e = refl
       go (Some u) e =
-          absurd (no_element rows.words k (let lock = owned_is_lock plan h.proper n k u e in omega (arith, lock, h.told.columns.word_each)) at)
+          let lock = owned_is_lock plan h.proper n k u e in
+          absurd (omega (arith, lock, beyond rows.words k at, h.told.columns.word_each))
 
   -- an owner is a thread
   pub owner_named : (n k : ℕ) (o : Option ThreadNo) → option_map (λ t. t.0) o ≡ owner_in plan n k → IfSome o (λ t. t.0 < length rows.threads)
   owner_named n k None e = tt
   owner_named n k (Some t) e =
       let thread = owner_is_thread plan h.proper n k t.0 (sym e) in omega (arith, thread, h.told.columns.thread_each)
+
+  -- 6. How the run ended, and where threads come to their end
+
+  abbrev last : ℕ
+  last = length rows.turns
+
+  -- the run stays where its last turn left it
+  ended : course_after plan h.most ≡ course_after plan last
+  ended = elim (cases_lt last h.most) [
+    | inl l ↦ stays_over plan last h.most h.told.few (h.told.ends l)
+    | inr l ↦ ap (course_after plan) (let e : h.most ≡ last = omega (arith, h.told.few, l) in e)
+  ]
+
+  pub ending_is : seen.ending_of rows.outcome.last ≡ ending_of plan (course_after plan last)
+  unfolding scheduled_run
+  ending_is = ap (λ (o : text.Outcome). o.ending) h.told.outcome ∙ ap (ending_of plan) ended
+
+  -- where a thread comes to its end, by the first change to that
+  pub ended_told : (t : ℕ) (thread : ThreadRows) → slice_get rows.threads t ≡ Some thread → IsTrack thread.row
+      → option_map (λ change. change.0) (find (λ change. change.1.ended) thread.row) ≡ ended_in plan last t
+  ended_told t thread e track =
+      first_so (λ row. row.ended) (λ n. has_ended plan (run_in plan n) t) (last + 1) (λ n. None) thread.row (λ n. refl)
+      track.ascends told.within (λ n l. go n (value_in n thread.row) (told.value n l))
+    where
+      told : Tells thread.row (last + 1) (λ n row. IsThread plan (run_in plan n) t row)
+      told = (thread_at t thread e).row
+
+      go : (n : ℕ) (o : Option ThreadRow) → IsSomeAnd o (IsThread plan (run_in plan n) t)
+          → has_ended plan (run_in plan n) t ≡ so_of (λ row. row.ended) o
+      go n None none = absurd none
+      go n (Some row) is = sym is.ended
+
+-- 7. Where a thread stands
+
+-- the queue that its record names, where it is in the lists of that, is the one in whose lists it is
+stands_there : (s : State) (t : ℕ) → ((q : QueueName) → 0 < stands t (s.lists q) → s.blocked_on t ≡ Some q)
+    → IsWhereItStands s t (standing s t)
+stands_there s t named q = (
+  there (s.blocked_on t),
+  λ some. ap (standing_at s t) (named q some)
+      ∙ ap (λ b. cond b (Some q) None) (lt-ltb 0 (stands t (s.lists q)) some),
+)
+  where
+    there : (o : Option QueueName) → standing_at s t o ≡ Some q → 0 < stands t (s.lists q)
+    there None e = absurd cc
+    there (Some r) e =
+        let both = cond_some (ltb 0 (stands t (s.lists r))) r q e in
+        subst (λ (k : QueueName). 0 < stands t (s.lists k)) both.1 (ltb-true 0 (stands t (s.lists r)) both.0)
+
+pub stands_law : (plan : Plan) (n t : ℕ) → IsProper plan
+    → IsWhereItStands (run_in plan n).state t (standing (run_in plan n).state t)
+stands_law plan n t proper =
+    let s = (run_in plan n).state in
+    stands_there s t (λ q some. standing_named (config_of plan) s t q (behind_course plan n proper).lawful.lawful some)
+
+-- it stands on one queue at most
+one_place : (s : State) (t : ℕ) (a b : Option QueueName) → IsWhereItStands s t a → IsWhereItStands s t b → a ≡ b
+one_place s t (Some q) b at there = sym ((there q).1 ((at q).0 refl))
+one_place s t None (Some q) at there = (at q).1 ((there q).0 refl)
+one_place s t None None at there = refl
+
+module _ (plan : Plan) (proper : IsProper plan) (n t : ℕ) (row : ThreadRow) (is : IsThread plan (run_in plan n) t row)
+  where
+    pub stands_told : row.stands_on ≡ standing (run_in plan n).state t
+    stands_told = sym (one_place (run_in plan n).state t (standing (run_in plan n).state t) row.stands_on
+        (stands_law plan n t proper) is.stands_on)
+
+    pub woken_told : woken_kind (wait_of row.wait) row.blocked_on row.stands_on ≡ woken_kind
+        ((run_in plan n).state.wait t) ((run_in plan n).state.blocked_on t) (standing (run_in plan n).state t)
+    woken_told =
+        ap (λ w. woken_kind w row.blocked_on row.stands_on) is.wait
+        ∙ ap (λ o. woken_kind ((run_in plan n).state.wait t) o row.stands_on) is.blocked_on
+        ∙ ap (woken_kind ((run_in plan n).state.wait t) ((run_in plan n).state.blocked_on t)) stands_told

@@ -1,5 +1,5 @@
 -- The spans of a track: the rows over which its value stays the same; and what bars and steps make of them.
-use Rattle.std.specs.Prelude.{◌≡◌, ℕ, ◌<◌, ◌≤◌, ◌==◌, nat_le, nat_lt, Bool, ◌&&◌, if◌then◌else◌, List, [], ◌++◌, filter, map, Some}
+use Rattle.std.specs.Prelude.{◌≡◌, ℕ, ◌<◌, ◌≤◌, ◌==◌, nat_le, Bool, ◌&&◌, if◌then◌else◌, List, [], ◌++◌, filter, map, Some}
 use Rattle.std.specs.List.{All}
 use Rattle.run_chart.specs.declared.spans.Span.{Span}
 use Rattle.run_tracks.specs.Tracks.{value_in}
@@ -66,6 +66,6 @@ pub record Adds {X V : Type 0} (drawn : X → Drawn V) (thread from to : ℕ) (o
 -- so what is drawn of the first threads, each of which is one of so many
 pub record Draws {X V : Type 0} (drawn : X → Drawn V) (threads from to : ℕ) (is : ℕ → ℕ → List V)
     (count : ℕ) (xs : List X) : Type 0 where
-  pub says : (t n : ℕ) → from ≤ n → n ≤ to
-      → drawn_at drawn t n xs ≡ (if nat_lt t count then is t n else [])
+  pub says : (t n : ℕ) → from ≤ n → n ≤ to → t < count → drawn_at drawn t n xs ≡ is t n
+  pub none : (t n : ℕ) → from ≤ n → n ≤ to → count ≤ t → drawn_at drawn t n xs ≡ []
   pub within : All (λ x. IsDrawnIn threads from to (drawn x)) xs

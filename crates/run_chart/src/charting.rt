@@ -51,13 +51,14 @@ pub fn chart(
         arrows: Sequence::from_vec(shown.arrows),
         marks: Sequence::from_vec(shown.marks),
         sentences: Sequence::from_vec(shown.sentences),
-        end: end(alloc, rows)?,
+        end: end(alloc, plan, rows)?,
         printed: Sequence::from_vec(printed_end(alloc, plan, &rows.outcome)?),
     })
 }
 
 /// Where bars and the end show that a thread waits is where it stands: in each row of a run `standing` names the queue
 /// in whose lists the thread is, and none where it is in no lists.
+#[tactic(auto, using(crate::proofs::Told::stands_law))]
 pub fn threads_wait_where_they_stand()
     ensures { (plan : plans.Plan) (n t : ℕ) → IsProper plan
         → IsWhereItStands (run_in plan n).state t (standing (run_in plan n).state t) }

@@ -1,9 +1,9 @@
 //! How the run of a chart ended, and the lines that are printed of it.
 ghost use Rattle.std.specs.Prelude.{◌≡◌, ◌++◌, length, option_map, option_to_list, IfOk, OnOk};
-ghost use Rattle.lock_model.specs.declared.plan.Plan as plans;
 ghost use Rattle.run_chart.specs.Charts.{waits_in, IsEnd};
 ghost use Rattle.run_chart.specs.Runs.{IsRunOf};
 
+use crate::rows::thread_rows;
 use chart_layout::End;
 use lock_history::{Last, Outcome, print};
 use lock_model::{Plan, QueueName, Sequence, ThreadNo};
@@ -11,15 +11,15 @@ use run_tracks::Rows;
 use std::alloc::{AllocError, Global};
 
 /// How the run ended, and who stands on which queue where it is stuck.
-pub fn end(alloc: Global, rows: &Rows) -> Result<End, AllocError>
-    requires { (plan : plans.Plan) × IsRunOf plan rows.now }
-    ensures { IfOk result (λ end. (plan : plans.Plan) → IsRunOf plan rows.now
-        → IsEnd plan (length rows.now.turns) end) }
+#[tactic(auto, using(crate::proofs::Told::ending_is))]
+pub fn end(alloc: Global, plan: &Plan, rows: &Rows) -> Result<End, AllocError>
+    requires { IsRunOf plan.now rows.now }
+    ensures { IfOk result (IsEnd plan.now (length rows.now.turns)) }
 {
     match rows.outcome.last {
         Last::Done => Ok(End::Done),
         Last::Stuck => Ok(End::Stuck {
-            waits: Sequence::from_vec(waits(alloc, rows)?),
+            waits: Sequence::from_vec(waits(alloc, plan, rows)?),
         }),
         Last::Reversed => Ok(End::Reversed),
         Last::TooLong => Ok(End::TooLong),
@@ -27,15 +27,16 @@ pub fn end(alloc: Global, rows: &Rows) -> Result<End, AllocError>
 }
 
 // Who stands on which queue in the last row.
-fn waits(alloc: Global, rows: &Rows) -> Result<Vec<(ThreadNo, QueueName)>, AllocError>
-    requires { (plan : plans.Plan) × IsRunOf plan rows.now }
-    ensures { IfOk result (λ waits. (plan : plans.Plan) → IsRunOf plan rows.now
-        → waits.items ≡ waits_in plan (length rows.now.turns)) }
+fn waits(alloc: Global, plan: &Plan, rows: &Rows) -> Result<Vec<(ThreadNo, QueueName)>, AllocError>
+    requires { IsRunOf plan.now rows.now }
+    ensures { IfOk result (λ waits. waits.items ≡ waits_in plan.now (length rows.now.turns)) }
 {
     let last = rows.turns.as_slice().len() as u32;
     let mut waits = Vec::new(alloc);
-    for (t, thread) in rows.threads.as_slice().iter().enumerate() {
-        push_wait(&mut waits, ThreadNo(t as u8), thread.row.at(last).stands_on)?;
+    for t in 0..plan.threads.as_slice().len() {
+        let thread = ThreadNo(t as u8);
+        let row = thread_rows(rows, thread).row.at(last);
+        push_wait(&mut waits, thread, row.stands_on)?;
     }
     Ok(waits)
 }

@@ -61,6 +61,7 @@ pub fn lock_named(q: Option<QueueName>) -> Option<LockNo>
 }
 
 /// The writer that waits for a lock and came first, where a thread blocked on it to share it with others that share it.
+#[tactic(auto, using(crate::proofs::Turns::unowned))]
 pub fn went_behind(at: &TurnOf<'_>, l: LockNo) -> Option<ThreadNo>
     requires { IsTurnOf at.now.plan.now at.now.rows.now at.now.turn at.now.who.0 }
     ensures { result ≡ went_behind at.now.plan.now at.now.turn l.0 at.now.who.0 }

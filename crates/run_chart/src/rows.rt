@@ -4,7 +4,7 @@ ghost use Rattle.run_chart.specs.Runs.{IsTurnOf};
 ghost use Rattle.run_chart.specs.Turns.{holds, owner_in, stands_on, state_in};
 ghost use Rattle.run_tracks.specs.Rows.{run_in, IsThread};
 
-use lock_model::{LockNo, Mode, Plan, QueueName, ThreadNo};
+use lock_model::{LockNo, Plan, QueueName, ThreadNo};
 use lock_words::owner_of;
 use run_tracks::{Rows, ThreadRow, ThreadRows, Track, TurnRow};
 
@@ -86,16 +86,11 @@ pub fn holds(at: &TurnOf<'_>, row: u32, l: LockNo, t: ThreadNo) -> bool
     requires thread { t.0 < length at.now.rows.now.threads }
     ensures { result ≡ holds at.now.plan.now row l.0 t.0 }
 {
-    match track_of(thread_rows(at.rows, t), l) {
+    let held = thread_rows(at.rows, t).held.as_slice();
+    match held.get(usize::from(l.0)) {
         Some(track) => track.at(row).is_some(),
         None => false,
     }
-}
-
-fn track_of(thread: &ThreadRows, l: LockNo) -> Option<&Track<Option<Mode>>>
-    ensures { option_map (λ track. track.now) result ≡ slice_get thread.now.held l.0 }
-{
-    thread.held.as_slice().get(usize::from(l.0))
 }
 
 /// The thread that held it alone.

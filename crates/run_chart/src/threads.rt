@@ -1,15 +1,14 @@
 //! What the threads of a run show in a window, one behind the other: the lane of each, its bars, and the strip of its
 //! priorities.
-ghost use Rattle.std.specs.Prelude.{◌≡◌, ◌≤◌, ℕ, ◌+◌, length, map, IfOk, OnOk};
-ghost use Rattle.lock_model.specs.declared.plan.Plan as plans;
+ghost use Rattle.std.specs.Prelude.{◌≡◌, ◌≤◌, length, map, option_map, IfOk, OnOk};
+ghost use Rattle.std.specs.List.{find};
 ghost use Rattle.lock_state.specs.Run.{threads_of};
 ghost use Rattle.run_chart.specs.Bars.{bar_drawn, kinds_in};
-ghost use Rattle.run_chart.specs.Charts.{ended_in, lane_in};
+ghost use Rattle.run_chart.specs.Charts.{lane_in};
 ghost use Rattle.run_chart.specs.Runs.{IsRunOf, IsThreadOf};
 ghost use Rattle.run_chart.specs.Spans.{Adds, Draws};
 ghost use Rattle.run_chart.specs.Steps.{prios_in, step_drawn};
-ghost use Rattle.run_tracks.specs.Rows.{run_in, IsThread};
-ghost use Rattle.run_tracks.specs.Tracks.{Ascend, Tells};
+ghost use Rattle.run_tracks.specs.Rows.{run_in};
 
 use crate::bars::push_bars;
 use crate::rows::{ThreadOf, thread_rows};
@@ -78,17 +77,10 @@ fn lane(at: &ThreadOf<'_>) -> Lane
 
 // The first row in which a thread has come to its end.
 fn first_ended(changes: &[(u32, ThreadRow)]) -> Option<u32>
-    requires { Ascend changes.now }
-    ensures { (plan : plans.Plan) (turns t : ℕ)
-        → Tells changes.now (turns + 1) (λ n row. IsThread plan (run_in plan n) t row)
-        → result ≡ ended_in plan turns t }
+    ensures { result ≡ option_map (λ change. change.0) (find (λ change. change.1.ended) changes.now) }
 {
-    for change in changes {
-        if change.1.ended {
-            return Some(change.0);
-        }
-    }
-    None
+    let (row, _) = changes.iter().find(|change| change.1.ended)?;
+    Some(*row)
 }
 
 // Adds the steps of a thread in its window, which follow upon each other.

@@ -21,7 +21,7 @@ pub struct TurnsShown {
 }
 
 /// What the turns between the rows `from..=to` show.
-#[tactic(auto, using(crate::proofs::Told::turn_of))]
+#[tactic(auto, using(crate::proofs::Told::turn_of, crate::proofs::Turns::no_turns))]
 pub fn turns(
     alloc: Global,
     plan: &Plan,

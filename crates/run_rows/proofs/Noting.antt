@@ -1,45 +1,38 @@
 -- What tracks tell, where one row more is noted or nothing changed.
-use Rattle.std.proofs.Common.{◌≡◌, ◌⊎◌, ℕ, suc, ◌+◌, ◌<◌, ◌≤◌, Bool, cond, leb, List, [], ◌∷◌, ◌++◌, length, slice_get, slice_set, Option, Some, None, IsSomeAnd, refl, sym, ap, subst, inl, inr, arith, ◌∙◌}
-use Rattle.std.specs.Prelude.{fold}
+use Rattle.std.proofs.Common.{◌≡◌, ◌⊎◌, ℕ, ◌+◌, ◌<◌, ◌≤◌, Bool, cond, List, [], ◌∷◌, ◌++◌, length, slice_get, slice_set, Option, Some, None, IsSomeAnd, refl, sym, ap, subst, inl, inr, arith, ◌∙◌}
 use Rattle.std.specs.List.{All}
-use Rattle.std.proofs.lemmas.Bool.{cases_eq, cases_lt, le-leb, leb-true, cases_Bool}
+use Rattle.std.proofs.lemmas.Bool.{cases_eq, cases_lt, le-leb, lt-leb}
 use Rattle.std.proofs.lemmas.List.{length-set}
 use Rattle.std.proofs.lemmas.List.Elements.{All-push}
-use Rattle.std.proofs.lemmas.List.Sums.{fold-append}
+use Rattle.std.proofs.lemmas.List.Sums.{fold_push}
 use Rattle.std.proofs.lemmas.Option.{same_Some, slice_get_within}
 use Rattle.script_laws.proofs.AcceptedLists.{get_push, get_push_other, get_set, get_set_other}
 use Rattle.run_tracks.specs.Tracks.{EachAt, Tells, value_in}
-use Rattle.run_tracks.proofs.Changes.{replaced}
+use Rattle.run_tracks.proofs.Changes.{replaced, same_behind}
 
 module _ {T : Type 0} where
-  -- 1. One change more
+  -- 1. One change more, which is that of its row on
 
-  -- which is that of its row on
-  value_with : (xs : List (ℕ × T)) (row : ℕ) (v : T) (n : ℕ) → value_in n (xs ++ (row, v) ∷ []) ≡ cond (leb row n) (Some v) (value_in n xs)
-  value_with xs row v n = fold-append (replaced n) None xs ((row, v) ∷ [])
-
-  value_before : (xs : List (ℕ × T)) (row : ℕ) (v : T) (n : ℕ) → n < row → value_in n (xs ++ (row, v) ∷ []) ≡ value_in n xs
-  value_before xs row v n l = value_with xs row v n ∙ elim (cases_Bool (leb row n)) [
-    | inl e ↦ let no = leb-true row n e in absurd (omega arith)
-    | inr e ↦ rw e refl
-  ]
+  value_before : (xs : List (ℕ × T)) (row : ℕ) (v : T) (n : ℕ) → n < row
+      → value_in n (xs ++ (row, v) ∷ []) ≡ value_in n xs
+  value_before xs row v n l = fold_push (replaced n) None xs (row, v)
+      ∙ ap (λ (b : Bool). cond b (Some v) (value_in n xs)) (lt-leb row n l)
 
   value_there : (xs : List (ℕ × T)) (row : ℕ) (v : T) → value_in row (xs ++ (row, v) ∷ []) ≡ Some v
-  value_there xs row v = value_with xs row v row ∙ ap (λ (b : Bool). cond b (Some v) (value_in row xs)) (le-leb row row (omega arith))
+  value_there xs row v = fold_push (replaced row) None xs (row, v)
+      ∙ ap (λ (b : Bool). cond b (Some v) (value_in row xs)) (le-leb row row (omega arith))
 
   -- 2. What is told of one row more
 
   module _ (IsSo : ℕ → T → Type 0) where
-    below_or_there : (n row : ℕ) → n < row + 1 → (n < row) ⊎ (n ≡ row)
-    below_or_there n row l = elim (cases_lt n row) [ inl i ↦ inl i | inr i ↦ inr (omega arith) ]
-
     -- by a change that was noted, or by none where the value is the same
-    pub noted : (old new : List (ℕ × T)) (row : ℕ) (v : T) → Tells old row IsSo → value_in row new ≡ Some v → IsSo row v → (new ≡ old) ⊎ (new ≡ old ++ (row, v) ∷ []) → Tells new (row + 1) IsSo
+    pub noted : (old new : List (ℕ × T)) (row : ℕ) (v : T) → Tells old row IsSo → value_in row new ≡ Some v
+        → IsSo row v → (new ≡ old) ⊎ (new ≡ old ++ (row, v) ∷ []) → Tells new (row + 1) IsSo
     noted old new row v h is so kept = record {
       within = within kept;
-      value = λ n l. elim (below_or_there n row l) [
+      value = λ n l. elim (cases_lt n row) [
         | inl i ↦ subst (λ (o : Option T). IsSomeAnd o (IsSo n)) (sym (before n i kept)) (h.value n i)
-        | inr e ↦ rw (e, is) so
+        | inr i ↦ let e : n ≡ row = omega (arith, l, i) in rw (e, is) so
       ];
     }
       where
@@ -71,22 +64,17 @@ module _ {T : Type 0} where
     pub stays : (xs : List (ℕ × T)) (n : ℕ) → Tells xs (n + 1) IsSo → ((v : T) → IsSo n v → IsSo (n + 1) v) → Tells xs (n + 1 + 1) IsSo
     stays xs n h same = record {
       within = λ k d l. omega (arith, h.within k d l);
-      value = λ m l. elim (below_or_there m (n + 1) l) [
+      value = λ m l. elim (cases_lt m (n + 1)) [
         | inl i ↦ h.value m i
-        | inr e ↦ rw (e, same_value xs None h.within) (weaker (value_in n xs) (h.value n (omega arith)))
+        | inr i ↦ let e : m ≡ n + 1 = omega (arith, l, i) in
+            rw (e, same_behind n (n + 1) None xs (omega arith) (λ k d j. omega (arith, h.within k d j)))
+            (go (value_in n xs) (h.value n (omega arith)))
       ];
     }
       where
-        weaker : (o : Option T) → IsSomeAnd o (IsSo n) → IsSomeAnd o (IsSo (n + 1))
-        weaker None so = so
-        weaker (Some v) so = same v so
-
-        same_value : (ys : List (ℕ × T)) (before : Option T) → All (λ x. x.0 < n + 1) ys → fold (replaced (n + 1)) before ys ≡ fold (replaced n) before ys
-        same_value [] before l = refl
-        same_value (y ∷ ys) before l =
-            let here = l 0 y (omega arith) in
-            let both : leb y.0 (n + 1) ≡ leb y.0 n = le-leb y.0 (n + 1) (omega arith) ∙ sym (le-leb y.0 n (omega arith)) in
-            ap (λ (b : Bool). fold (replaced (n + 1)) (cond b (Some y.1) before) ys) both ∙ same_value ys (replaced n before y) (λ k d j. l (suc k) d (omega arith))
+        go : (o : Option T) → IsSomeAnd o (IsSo n) → IsSomeAnd o (IsSo (n + 1))
+        go None so = so
+        go (Some v) so = same v so
 
 -- 3. Things of which something holds by their number
 

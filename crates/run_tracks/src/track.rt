@@ -66,11 +66,13 @@ impl<T> Track<T> {
     }
 
     /// The value in a row, found in time in the logarithm of the changes.
+    #[tactic(auto, using(crate::proofs::Changes::some_up_to))]
     pub fn get(&self, row: u32) -> &T
         ensures { value_in row self.now ≡ Some result.now }
     {
-        let behind = count_up_to(&self.changes, row);
-        &self.changes[behind - 1].1
+        let changes = self.changes();
+        let behind = count_up_to(changes, row);
+        &changes[behind - 1].1
     }
 }
 

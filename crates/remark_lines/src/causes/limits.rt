@@ -1,15 +1,18 @@
 //! Code 7: limits. Each is told with what was found.
 
-use crate::book::HeldSince;
-use crate::finding::{Fault, Finding, alone};
+use crate::book::Names;
+use crate::finding::{Fault, Found};
 use crate::verbs::{Role, Sort};
 use lock_model::limits;
-use std::alloc::AllocError;
 
-pub fn cause(fault: &Fault<'_>) -> Result<Option<Finding>, AllocError> {
-    let Some(role) = fault.role() else {
-        return Ok(None);
-    };
+pub fn cause(fault: &Fault<'_>) -> Found {
+    match fault.role() {
+        Some(role) => of_role(fault, role),
+        None => Ok(None),
+    }
+}
+
+fn of_role(fault: &Fault<'_>, role: Role) -> Found {
     let book = &fault.book;
     match role {
         Role::Declares(Sort::Lock(_)) => {
@@ -54,18 +57,12 @@ pub fn cause(fault: &Fault<'_>) -> Result<Option<Finding>, AllocError> {
 }
 
 // A limit, and what there is of it above the line, which has one more.
-fn passed(
-    fault: &Fault<'_>,
-    what: &str,
-    most: usize,
-    above: usize,
-) -> Result<Option<Finding>, AllocError> {
+fn passed(fault: &Fault<'_>, what: &str, most: usize, above: usize) -> Found {
     let found = above.saturating_add(1);
-    let sentence = format!(in fault.alloc; "{what}: at most {most}, and {found} with this line")?;
-    Ok(alone(sentence, fault.place(0)))
+    fault.at(0).alone(format_args!("{what}: at most {most}, and {found} with this line"))
 }
 
-fn operations(fault: &Fault<'_>) -> Result<Option<Finding>, AllocError> {
+fn operations(fault: &Fault<'_>) -> Found {
     passed(
         fault,
         "operations of all threads",
@@ -75,7 +72,7 @@ fn operations(fault: &Fault<'_>) -> Result<Option<Finding>, AllocError> {
 }
 
 // The turns of a schedule line.
-fn turns(fault: &Fault<'_>) -> Result<Option<Finding>, AllocError> {
+fn turns(fault: &Fault<'_>) -> Found {
     let turns = fault.line.split(' ').count().saturating_sub(2);
     passed(
         fault,
@@ -86,36 +83,27 @@ fn turns(fault: &Fault<'_>) -> Result<Option<Finding>, AllocError> {
 }
 
 // A take or a try.
-fn gain(fault: &Fault<'_>, role: Role) -> Result<Option<Finding>, AllocError> {
-    let book = &fault.book;
-    if book.operations >= limits::OPERATIONS {
-        return operations(fault);
-    }
-    if matches!(role, Role::Tries(_, _)) && book.blocks.len() >= limits::OPEN_TRIES {
-        return passed(
+fn gain(fault: &Fault<'_>, role: Role) -> Found {
+    let blocks = fault.book.blocks.len();
+    if fault.book.operations >= limits::OPERATIONS {
+        operations(fault)
+    } else if matches!(role, Role::Tries(_, _)) && blocks >= limits::OPEN_TRIES {
+        passed(
             fault,
             "blocks that a thread has open at once",
             limits::OPEN_TRIES,
-            book.blocks.len(),
-        );
+            blocks,
+        )
+    } else {
+        holds(fault)
     }
-    let (thread, most) = (fault.thread(), limits::HELD);
-    let found = book.held.len().saturating_add(1);
-    let names = names_of(fault, &book.held)?;
-    let sentence = format!(in fault.alloc;
-        "locks that a thread holds at once: at most {most}, and {found} with this line; {thread} holds {names}"
-    )?;
-    Ok(alone(sentence, fault.place(0)))
 }
 
-/// The names of held locks, in order.
-pub fn names_of(fault: &Fault<'_>, held: &[HeldSince<'_>]) -> Result<String, AllocError> {
-    let mut names = String::new(fault.alloc);
-    for (i, h) in held.iter().enumerate() {
-        if i > 0 {
-            names.push_str(", ")?;
-        }
-        names.push_str(h.name)?;
-    }
-    Ok(names)
+// The locks that a thread holds.
+fn holds(fault: &Fault<'_>) -> Found {
+    let (thread, most, names) = (fault.thread(), limits::HELD, Names(&fault.book.held));
+    let found = fault.book.held.len().saturating_add(1);
+    fault.at(0).alone(format_args!(
+        "locks that a thread holds at once: at most {most}, and {found} with this line; {thread} holds {names}"
+    ))
 }

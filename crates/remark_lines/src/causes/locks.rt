@@ -1,28 +1,28 @@
 //! Codes 8 to 14 and 20: how a lock is used against what it is, and against what the thread holds.
 
-use crate::book::{Block, HeldSince, Named};
-use crate::causes::limits::names_of;
-use crate::finding::{Fault, Finding, alone, with_line};
+use crate::book::{Block, HeldSince, Named, Names, held_in};
+use crate::finding::{Fault, Found};
 use crate::verbs::{Role, Sort, told_mode, word_for};
 use lock_model::{Kind, Mode};
-use std::alloc::{AllocError, Global};
 
 /// Code 8: a lock of another kind, or a channel for a condition or the reverse.
-pub fn of_other_kind(fault: &Fault<'_>) -> Result<Option<Finding>, AllocError> {
-    let Some(role) = fault.role() else {
-        return Ok(None);
-    };
-    let Some(named) = fault.book.declared(fault.word(1)) else {
-        return Ok(None);
-    };
+pub fn of_other_kind(fault: &Fault<'_>) -> Found {
+    match (fault.role(), fault.book.declared(fault.word(1))) {
+        (Some(role), Some(named)) => used_otherwise(fault, role, named),
+        (None, _) | (Some(_), None) => Ok(None),
+    }
+}
+
+fn used_otherwise(fault: &Fault<'_>, role: Role, named: Named<'_>) -> Found {
     let (word, name, line) = (fault.word(0), named.name, named.line);
-    let sort = named.sort.told();
-    let (own, others) = (named.sort.plural(), sort_of(role));
+    let (sort, own, others) = (named.sort.told(), named.sort.plural(), sort_of(role));
     let fitting = word_instead(fault, role, named).unwrap_or("");
-    let sentence = format!(in fault.alloc;
-        "{name} is {sort}, declared in line {line}; `{word}` is for {others}, and `{fitting}` for {own}"
-    )?;
-    Ok(with_line(sentence, fault.place(0), line))
+    fault.at(0).with_line(
+        line,
+        format_args!(
+            "{name} is {sort}, declared in line {line}; `{word}` is for {others}, and `{fitting}` for {own}"
+        ),
+    )
 }
 
 // Of which sort is what such a line names.
@@ -106,16 +106,16 @@ fn of_kind(kind: Kind, mode: Mode) -> Mode {
 }
 
 /// Code 9: the lock is held already.
-pub fn held(fault: &Fault<'_>) -> Result<Option<Finding>, AllocError> {
+pub fn held(fault: &Fault<'_>) -> Found {
     let (name, thread) = (fault.word(1), fault.thread());
     let Some(held) = fault.book.held(name) else {
         return Ok(None);
     };
     let (line, how) = (held.line, gained(held));
-    let sentence = format!(in fault.alloc;
-        "thread {thread} holds {name}, which it {how} in line {line}"
-    )?;
-    Ok(with_line(sentence, fault.place(1), line))
+    fault.at(1).with_line(
+        line,
+        format_args!("thread {thread} holds {name}, which it {how} in line {line}"),
+    )
 }
 
 // How a held lock was gained.
@@ -128,43 +128,33 @@ fn gained(held: HeldSince<'_>) -> &'static str {
 }
 
 /// Code 10: the lock is held in the other mode.
-pub fn held_otherwise(fault: &Fault<'_>) -> Result<Option<Finding>, AllocError> {
-    let (name, thread) = (fault.word(1), fault.thread());
-    let Some(held) = fault.book.held(name) else {
-        return Ok(None);
-    };
+pub fn held_otherwise(fault: &Fault<'_>) -> Found {
     let Some(Role::Releases(kind, _)) = fault.role() else {
         return Ok(None);
     };
+    match fault.book.held(fault.word(1)) {
+        Some(held) => released_otherwise(fault, kind, held),
+        None => Ok(None),
+    }
+}
+
+fn released_otherwise(fault: &Fault<'_>, kind: Kind, held: HeldSince<'_>) -> Found {
+    let (name, thread) = (held.name, fault.thread());
     let (line, mode) = (held.line, told_mode(held.mode));
     let fitting = word_for(Role::Releases(kind, held.mode)).unwrap_or("");
-    let sentence = format!(in fault.alloc;
-        "thread {thread} holds {name} {mode} since line {line}; `{fitting}` releases it so"
-    )?;
-    Ok(with_line(sentence, fault.place(0), line))
+    fault.at(0).with_line(
+        line,
+        format_args!(
+            "thread {thread} holds {name} {mode} since line {line}; `{fitting}` releases it so"
+        ),
+    )
 }
 
 /// Code 11: the lock isn't held.
-pub fn unheld(fault: &Fault<'_>) -> Result<Option<Finding>, AllocError> {
-    let (alloc, name, thread) = (fault.alloc, fault.word(1), fault.thread());
-    let (lock, goes) = match waits_with(fault) {
-        Some(lock) => (
-            lock,
-            format!(in alloc; "{name} goes with the lock {lock}, and ")?,
-        ),
-        None => (name, String::new(alloc)),
-    };
-    match fault.book.released(lock) {
-        Some(line) => {
-            let sentence = format!(in alloc;
-                "{goes}thread {thread} released {lock} in line {line}"
-            )?;
-            Ok(with_line(sentence, fault.place(1), line))
-        }
-        None => {
-            let sentence = format!(in alloc; "{goes}thread {thread} hasn't taken {lock} so far")?;
-            Ok(alone(sentence, fault.place(1)))
-        }
+pub fn unheld(fault: &Fault<'_>) -> Found {
+    match waits_with(fault) {
+        Some(lock) => wait_unheld(fault, lock),
+        None => use_unheld(fault, fault.word(1)),
     }
 }
 
@@ -177,149 +167,200 @@ fn waits_with<'a>(fault: &Fault<'a>) -> Option<&'a str> {
     Some(named.goes_with)
 }
 
+fn wait_unheld(fault: &Fault<'_>, lock: &str) -> Found {
+    let (name, thread, mark) = (fault.word(1), fault.thread(), fault.at(1));
+    match fault.book.released(lock) {
+        Some(line) => mark.with_line(
+            line,
+            format_args!(
+                "{name} goes with the lock {lock}, and thread {thread} released {lock} in line {line}"
+            ),
+        ),
+        None => mark.alone(format_args!(
+            "{name} goes with the lock {lock}, and thread {thread} hasn't taken {lock} so far"
+        )),
+    }
+}
+
+fn use_unheld(fault: &Fault<'_>, lock: &str) -> Found {
+    let (thread, mark) = (fault.thread(), fault.at(1));
+    match fault.book.released(lock) {
+        Some(line) => mark.with_line(
+            line,
+            format_args!("thread {thread} released {lock} in line {line}"),
+        ),
+        None => mark.alone(format_args!("thread {thread} hasn't taken {lock} so far")),
+    }
+}
+
 /// Code 12: a mutex or an rw lock is held under which the line may not stand.
-pub fn under_others(fault: &Fault<'_>) -> Result<Option<Finding>, AllocError> {
-    let alloc = fault.alloc;
+pub fn under_others(fault: &Fault<'_>) -> Found {
     let own = waits_with(fault);
     for held in &fault.book.held {
-        let Some(named) = fault.book.declared(held.name) else {
-            continue;
-        };
-        if named.sort == Sort::Lock(Kind::Sx) || own == Some(held.name) {
-            continue;
+        if let Some(named) = fault.book.declared(held.name)
+            && named.sort != Sort::Lock(Kind::Sx)
+            && own != Some(held.name)
+        {
+            return under(fault, own, *held, named.sort.told());
         }
-        let (name, line, sort) = (held.name, held.line, named.sort.told());
-        let sentence = match own {
-            Some(lock) => {
-                format!(in alloc;
-                    "{name}, {sort}, is held since line {line}; beside {lock}, the wait's lock, only sx locks may be held in a wait"
-                )?
-            }
-            None => {
-                format!(in alloc;
-                    "{name}, {sort}, is held since line {line}; an sx lock isn't taken or tried under mutexes and rw locks"
-                )?
-            }
-        };
-        return Ok(with_line(sentence, fault.place(1), line));
     }
     Ok(None)
 }
 
+fn under(fault: &Fault<'_>, own: Option<&str>, held: HeldSince<'_>, sort: &str) -> Found {
+    let (name, line, mark) = (held.name, held.line, fault.at(1));
+    match own {
+        Some(lock) => mark.with_line(
+            line,
+            format_args!(
+                "{name}, {sort}, is held since line {line}; beside {lock}, the wait's lock, only sx locks may be held in a wait"
+            ),
+        ),
+        None => mark.with_line(
+            line,
+            format_args!(
+                "{name}, {sort}, is held since line {line}; an sx lock isn't taken or tried under mutexes and rw locks"
+            ),
+        ),
+    }
+}
+
 /// Code 13: the wait's lock wasn't gained last, or was gained by a try.
-pub fn not_last(fault: &Fault<'_>) -> Result<Option<Finding>, AllocError> {
-    let Some(lock) = waits_with(fault) else {
-        return Ok(None);
-    };
-    let Some(last) = fault.book.held.last() else {
-        return Ok(None);
-    };
-    let (name, line) = (last.name, last.line);
-    let sentence = if name == lock {
-        tried(fault.alloc, lock, line)?
+pub fn not_last(fault: &Fault<'_>) -> Found {
+    match (waits_with(fault), fault.book.held.last()) {
+        (Some(lock), Some(last)) => gained_last(fault, lock, last.name, last.line),
+        (None, _) | (Some(_), None) => Ok(None),
+    }
+}
+
+fn gained_last(fault: &Fault<'_>, lock: &str, name: &str, line: u32) -> Found {
+    let mark = fault.at(1);
+    if name == lock {
+        mark.with_line(
+            line,
+            format_args!(
+                "{lock}, the wait's lock, was gained by the try in line {line}; it is to be taken"
+            ),
+        )
     } else {
-        gained_before(fault.alloc, lock, name, line)?
-    };
-    Ok(with_line(sentence, fault.place(1), line))
-}
-
-fn tried(alloc: Global, lock: &str, line: u32) -> Result<String, AllocError> {
-    format!(in alloc;
-        "{lock}, the wait's lock, was gained by the try in line {line}; it is to be taken"
-    )
-}
-
-fn gained_before(alloc: Global, lock: &str, name: &str, line: u32) -> Result<String, AllocError> {
-    format!(in alloc;
-        "{name} was gained in line {line}, behind {lock}, the wait's lock, which is to be the last"
-    )
+        mark.with_line(
+            line,
+            format_args!(
+                "{name} was gained in line {line}, behind {lock}, the wait's lock, which is to be the last"
+            ),
+        )
+    }
 }
 
 /// Code 14: a thread ends with a lock held, or a block with other locks than it began with.
-pub fn still_held(fault: &Fault<'_>) -> Result<Option<Finding>, AllocError> {
-    let (alloc, thread, place) = (fault.alloc, fault.thread(), fault.place(0));
-    if let Some(Role::EndsTry) = fault.role() {
-        return match fault.book.blocks.last() {
+pub fn still_held(fault: &Fault<'_>) -> Found {
+    match fault.role() {
+        Some(Role::EndsTry) => match fault.book.blocks.last() {
             Some(block) => changed(fault, block),
             None => Ok(None),
-        };
+        },
+        Some(_) | None => match fault.book.held.first() {
+            Some(held) => held_in_the_end(fault, *held),
+            None => Ok(None),
+        },
     }
-    let Some(held) = fault.book.held.first() else {
-        return Ok(None);
-    };
-    let (name, line, how) = (held.name, held.line, gained(*held));
-    let sentence = format!(in alloc;
-        "thread {thread} still holds {name}, which it {how} in line {line}"
-    )?;
-    Ok(with_line(sentence, place, line))
 }
 
-// What a block has changed in what is held.
-fn changed(fault: &Fault<'_>, block: &Block<'_>) -> Result<Option<Finding>, AllocError> {
-    let (alloc, place, begun) = (fault.alloc, fault.place(0), block.line);
+fn held_in_the_end(fault: &Fault<'_>, held: HeldSince<'_>) -> Found {
+    let (thread, name, line, how) = (fault.thread(), held.name, held.line, gained(held));
+    fault.at(0).with_line(
+        line,
+        format_args!("thread {thread} still holds {name}, which it {how} in line {line}"),
+    )
+}
+
+// What a block has changed in what is held: first what it has gained.
+fn changed(fault: &Fault<'_>, block: &Block<'_>) -> Found {
     for now in &fault.book.held {
-        if lock_in(&block.before, now.name).is_none() {
-            let (name, line) = (now.name, now.line);
-            let how = if line == begun { "tried" } else { "gained" };
-            let sentence = format!(in alloc;
-                "{name}, {how} in line {line}, is held still; the block began without it in line {begun}"
-            )?;
-            return Ok(with_line(sentence, place, line));
+        if held_in(&block.before, now.name).is_none() {
+            return held_still(fault, *now, block.line);
         }
     }
+    lost(fault, block)
+}
+
+fn held_still(fault: &Fault<'_>, now: HeldSince<'_>, begun: u32) -> Found {
+    let (name, line) = (now.name, now.line);
+    let how = if line == begun { "tried" } else { "gained" };
+    fault.at(0).with_line(
+        line,
+        format_args!(
+            "{name}, {how} in line {line}, is held still; the block began without it in line {begun}"
+        ),
+    )
+}
+
+// What a block that has gained nothing has lost, or holds in another way or order.
+fn lost(fault: &Fault<'_>, block: &Block<'_>) -> Found {
     for before in &block.before {
-        let name = before.name;
-        match lock_in(&fault.book.held, name) {
-            None => {
-                let sentence = format!(in alloc;
-                    "{name} was held when the block began in line {begun}, and isn't any more"
-                )?;
-                return Ok(with_line(sentence, place, begun));
-            }
-            Some(now) if now.mode != before.mode => {
-                let (then, since) = (told_mode(before.mode), told_mode(now.mode));
-                let sentence = format!(in alloc;
-                    "{name} was held {then} when the block began in line {begun}, and is held {since} now"
-                )?;
-                return Ok(with_line(sentence, place, begun));
-            }
-            Some(now) if now.by_try != before.by_try => {
-                let (then, since) = (by_what(*before), by_what(now));
-                let sentence = format!(in alloc;
-                    "{name} was held by {then} when the block began in line {begun}, and is held by {since} now"
-                )?;
-                return Ok(with_line(sentence, place, begun));
+        match held_in(&fault.book.held, before.name) {
+            None => return held_no_more(fault, before.name, block.line),
+            Some(now) if now.mode != before.mode || now.by_try != before.by_try => {
+                return held_in_another_way(fault, *before, now, block.line);
             }
             Some(_) => {}
         }
     }
-    let (then, since) = (
-        names_of(fault, &block.before)?,
-        names_of(fault, &fault.book.held)?,
-    );
-    let sentence = format!(in alloc;
-        "held in another order: when the block began in line {begun} it was {then}, and now {since}"
-    )?;
-    Ok(with_line(sentence, place, begun))
+    reordered(fault, block)
 }
 
-fn lock_in<'a>(held: &[HeldSince<'a>], name: &str) -> Option<HeldSince<'a>> {
-    held.iter().find(|h| h.name == name).copied()
+fn held_no_more(fault: &Fault<'_>, name: &str, begun: u32) -> Found {
+    fault.at(0).with_line(
+        begun,
+        format_args!("{name} was held when the block began in line {begun}, and isn't any more"),
+    )
+}
+
+fn held_in_another_way(
+    fault: &Fault<'_>,
+    before: HeldSince<'_>,
+    now: HeldSince<'_>,
+    begun: u32,
+) -> Found {
+    let name = before.name;
+    let (by, then, since) = if now.mode != before.mode {
+        ("", told_mode(before.mode), told_mode(now.mode))
+    } else {
+        ("by ", by_what(before), by_what(now))
+    };
+    fault.at(0).with_line(
+        begun,
+        format_args!(
+            "{name} was held {by}{then} when the block began in line {begun}, and is held {by}{since} now"
+        ),
+    )
 }
 
 fn by_what(held: HeldSince<'_>) -> &'static str {
     if held.by_try { "a try" } else { "a take" }
 }
 
+fn reordered(fault: &Fault<'_>, block: &Block<'_>) -> Found {
+    let (begun, then, now) = (block.line, Names(&block.before), Names(&fault.book.held));
+    fault.at(0).with_line(
+        begun,
+        format_args!(
+            "held in another order: when the block began in line {begun} it was {then}, and now {now}"
+        ),
+    )
+}
+
 /// Code 20: the lock is held shared.
-pub fn shared(fault: &Fault<'_>) -> Result<Option<Finding>, AllocError> {
-    let (alloc, name, thread) = (fault.alloc, fault.word(1), fault.thread());
+pub fn shared(fault: &Fault<'_>) -> Found {
+    let (name, thread) = (fault.word(1), fault.thread());
     let Some(held) = fault.book.held(name) else {
         return Ok(None);
     };
     let line = held.line;
-    let sentence = format!(in alloc;
-        "thread {thread} holds {name} shared since line {line}; a table is changed under an exclusive hold alone"
-    )?;
-    Ok(with_line(sentence, fault.place(1), line))
+    fault.at(1).with_line(
+        line,
+        format_args!(
+            "thread {thread} holds {name} shared since line {line}; a table is changed under an exclusive hold alone"
+        ),
+    )
 }

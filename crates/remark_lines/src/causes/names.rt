@@ -1,22 +1,20 @@
 //! Codes 3 to 5: names.
 
-use crate::finding::{Fault, Finding, alone, with_line};
-use crate::places::{Span, from_line, text_of, word_at};
+use crate::book::Named;
+use crate::finding::{Fault, Found, Mark};
+use crate::places::{from_line, text_of, word_at};
 use crate::verbs::{Role, Sort, verb_of};
 use lock_model::limits;
 use script_read::split_line;
-use std::alloc::AllocError;
 
 /// Code 3: a name or a class that isn't spelled as one.
-pub fn misspelled(fault: &Fault<'_>) -> Result<Option<Finding>, AllocError> {
+pub fn misspelled(fault: &Fault<'_>) -> Found {
     let Some(role) = fault.role() else {
         return Ok(None);
     };
     for (n, word) in fault.line.split(' ').enumerate() {
-        if is_name_at(role, n)
-            && let Some(found) = misspelling(fault, word, fault.place(n))?
-        {
-            return Ok(Some(found));
+        if is_name_at(role, n) && !is_name(word) {
+            return misspelling(word, fault.at(n));
         }
     }
     Ok(None)
@@ -48,46 +46,51 @@ fn is_name_at(role: Role, n: usize) -> bool {
     }
 }
 
-// Why a word is no name.
-fn misspelling(fault: &Fault<'_>, word: &str, place: Span) -> Result<Option<Finding>, AllocError> {
-    let alloc = fault.alloc;
+// Whether a word is spelled as a name.
+fn is_name(word: &str) -> bool {
+    strange_letter(word).is_none() && word.len() <= limits::NAME_BYTES
+}
+
+// The first letter of a word that may not stand there in a name, and its place in the word.
+fn strange_letter(word: &str) -> Option<(usize, char)> {
     for (i, b) in word.as_bytes().iter().enumerate() {
-        let at = Span::at(place.start.saturating_add(i));
-        let letter = char::from(*b);
-        if i == 0 && !b.is_ascii_lowercase() {
-            let sentence = format!(in alloc;
-                "a name begins with a letter from a to z, and `{word}` with `{letter}`"
-            )?;
-            return Ok(alone(sentence, at));
-        }
-        if !(b.is_ascii_lowercase() || b.is_ascii_digit() || *b == b'_') {
-            let sentence = format!(in alloc;
-                "a name has only a to z, 0 to 9 and _ in it, and `{word}` has `{letter}`"
-            )?;
-            return Ok(alone(sentence, at));
+        if !b.is_ascii_lowercase() && (i == 0 || !(b.is_ascii_digit() || *b == b'_')) {
+            return Some((i, char::from(*b)));
         }
     }
+    None
+}
+
+// Why a word is no name.
+fn misspelling(word: &str, mark: Mark) -> Found {
     let (len, most) = (word.len(), limits::NAME_BYTES);
-    if len > most {
-        let at = Span::at(place.start.saturating_add(most));
-        let sentence = format!(in alloc; "bytes of a name: at most {most}, and {len} in `{word}`")?;
-        return Ok(alone(sentence, at));
+    match strange_letter(word) {
+        Some((0, letter)) => mark.byte(0).alone(format_args!(
+            "a name begins with a letter from a to z, and `{word}` with `{letter}`"
+        )),
+        Some((i, letter)) => mark.byte(i).alone(format_args!(
+            "a name has only a to z, 0 to 9 and _ in it, and `{word}` has `{letter}`"
+        )),
+        None => mark.byte(most).alone(format_args!(
+            "bytes of a name: at most {most}, and {len} in `{word}`"
+        )),
     }
-    Ok(None)
 }
 
 /// Code 4: a name that is declared already.
-pub fn declared(fault: &Fault<'_>) -> Result<Option<Finding>, AllocError> {
+pub fn declared(fault: &Fault<'_>) -> Found {
     let Some(named) = fault.book.declared(fault.word(1)) else {
         return Ok(None);
     };
     let (name, line, sort) = (named.name, named.line, named.sort.told());
-    let sentence = format!(in fault.alloc; "{name} is declared in line {line} already, as {sort}")?;
-    Ok(with_line(sentence, fault.place(1), line))
+    fault.at(1).with_line(
+        line,
+        format_args!("{name} is declared in line {line} already, as {sort}"),
+    )
 }
 
 // What the word of a used name is to name.
-#[derive(Clone, Copy, Debug, PartialEq, Eq)]
+#[derive(Clone, Copy)]
 enum Wanted {
     Lock,
     Condition,
@@ -153,47 +156,55 @@ fn wanted_at(role: Role, n: usize) -> Option<Wanted> {
 }
 
 /// Code 5: a name that isn't declared, or as another sort.
-pub fn undeclared(fault: &Fault<'_>) -> Result<Option<Finding>, AllocError> {
+pub fn undeclared(fault: &Fault<'_>) -> Found {
     let Some(role) = fault.role() else {
         return Ok(None);
     };
     for (n, word) in fault.line.split(' ').enumerate() {
         if let Some(wanted) = wanted_at(role, n)
-            && let Some(found) = misused(fault, word, wanted, fault.place(n))?
+            && !is_declared(fault, word, wanted)
         {
-            return Ok(Some(found));
+            return misused(fault, word, wanted, fault.at(n));
         }
     }
     Ok(None)
 }
 
+// Whether a name is declared as what is wanted.
+fn is_declared(fault: &Fault<'_>, word: &str, wanted: Wanted) -> bool {
+    match fault.book.declared(word) {
+        Some(named) => wanted.is_met_by(named.sort),
+        None => false,
+    }
+}
+
 // Why a used name isn't declared as it should be.
-fn misused(
-    fault: &Fault<'_>,
-    word: &str,
-    wanted: Wanted,
-    place: Span,
-) -> Result<Option<Finding>, AllocError> {
-    let (alloc, verb) = (fault.alloc, fault.word(0));
-    let told = wanted.told();
-    if let Some(named) = fault.book.declared(word) {
-        if wanted.is_met_by(named.sort) {
-            return Ok(None);
-        }
-        let (line, sort) = (named.line, named.sort.told());
-        let sentence = format!(in alloc;
-            "{word} is {sort}, declared in line {line}, and `{verb}` takes {told}"
-        )?;
-        return Ok(with_line(sentence, place, line));
+fn misused(fault: &Fault<'_>, word: &str, wanted: Wanted, mark: Mark) -> Found {
+    match fault.book.declared(word) {
+        Some(named) => of_another_sort(fault, named, wanted, mark),
+        None => not_above(fault, word, wanted, mark),
     }
-    if let Some(line) = declared_below(fault, word) {
-        let sentence = format!(in alloc;
-            "{word} is declared in line {line}, and only lines below that may use it"
-        )?;
-        return Ok(with_line(sentence, place, line));
+}
+
+fn of_another_sort(fault: &Fault<'_>, named: Named<'_>, wanted: Wanted, mark: Mark) -> Found {
+    let (word, verb, told) = (named.name, fault.word(0), wanted.told());
+    let (line, sort) = (named.line, named.sort.told());
+    mark.with_line(
+        line,
+        format_args!("{word} is {sort}, declared in line {line}, and `{verb}` takes {told}"),
+    )
+}
+
+// No line above declares it.
+fn not_above(fault: &Fault<'_>, word: &str, wanted: Wanted, mark: Mark) -> Found {
+    let (verb, told) = (fault.word(0), wanted.told());
+    match declared_below(fault, word) {
+        Some(line) => mark.with_line(
+            line,
+            format_args!("{word} is declared in line {line}, and only lines below that may use it"),
+        ),
+        None => mark.alone(format_args!("no {word} is declared, and `{verb}` takes {told}")),
     }
-    let sentence = format!(in alloc; "no {word} is declared, and `{verb}` takes {told}")?;
-    Ok(alone(sentence, place))
 }
 
 // The line below the fault that declares the name.
@@ -215,7 +226,7 @@ fn declares(fault: &Fault<'_>, line: &str, name: &str) -> bool {
         return false;
     }
     match verb_of(fault.book.ticks, word_at(line, 0)) {
-        Some(verb) => matches!(verb.role, Role::Declares(_) | Role::Begins),
+        Some(verb) => matches!(verb.role(), Role::Declares(_) | Role::Begins),
         None => false,
     }
 }

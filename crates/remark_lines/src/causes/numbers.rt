@@ -1,14 +1,12 @@
 //! Code 6: numbers.
 
-use crate::finding::{Fault, Finding, alone};
-use crate::places::Span;
+use crate::finding::{Fault, Found, Mark};
 use crate::verbs::{Role, Sort};
 use script_read::number_of;
-use std::alloc::AllocError;
 use tick_sleep::limits;
 
 // What a word has to be: a number between two, and what it is called.
-#[derive(Clone, Copy, Debug)]
+#[derive(Clone, Copy)]
 struct Bounds {
     least: u64,
     greatest: u64,
@@ -80,61 +78,74 @@ fn bounds_at(role: Role, n: usize) -> Option<Bounds> {
     }
 }
 
-pub fn cause(fault: &Fault<'_>) -> Result<Option<Finding>, AllocError> {
+pub fn cause(fault: &Fault<'_>) -> Found {
     let Some(role) = fault.role() else {
         return Ok(None);
     };
     for (n, word) in fault.line.split(' ').enumerate() {
         if let Some(bounds) = bounds_at(role, n)
-            && let Some(found) = misread(fault, word, bounds, fault.place(n))?
+            && !bounds.has(word)
         {
-            return Ok(Some(found));
+            return misread(word, bounds, fault.at(n));
         }
     }
     Ok(None)
 }
 
+impl Bounds {
+    // Whether a word is a number of these.
+    fn has(self, word: &str) -> bool {
+        match number_of(word.as_bytes()) {
+            Some(number) => self.least <= number && number <= self.greatest,
+            None => false,
+        }
+    }
+}
+
 // Why a word is no number of these.
-fn misread(
-    fault: &Fault<'_>,
-    word: &str,
-    bounds: Bounds,
-    place: Span,
-) -> Result<Option<Finding>, AllocError> {
-    let alloc = fault.alloc;
+fn misread(word: &str, bounds: Bounds, mark: Mark) -> Found {
     let Bounds {
         least,
-        greatest,
+        greatest: _,
         told,
     } = bounds;
-    if let Some(number) = number_of(word.as_bytes()) {
-        if number < least {
-            let sentence = format!(in alloc; "{number} is below {least}, the least {told}")?;
-            return Ok(alone(sentence, place));
+    match number_of(word.as_bytes()) {
+        Some(number) if number < least => {
+            mark.alone(format_args!("{number} is below {least}, the least {told}"))
         }
-        if number <= greatest {
-            return Ok(None);
-        }
+        Some(_) => too_great(word, bounds, mark),
+        None => miswritten(word, bounds, mark),
     }
+}
+
+fn too_great(word: &str, bounds: Bounds, mark: Mark) -> Found {
+    let (greatest, told) = (bounds.greatest, bounds.told);
+    mark.alone(format_args!("{word} is above {greatest}, the greatest {told}"))
+}
+
+// A word that isn't written as a number, or as one that is too great by far.
+fn miswritten(word: &str, bounds: Bounds, mark: Mark) -> Found {
+    match no_digit(word) {
+        Some((0, '-' | '+')) => {
+            mark.byte(0).alone("a number has no sign; it is written in decimal digits alone")
+        }
+        Some((i, letter)) => mark.byte(i).alone(format_args!(
+            "a number is written in decimal digits alone, and `{word}` has `{letter}`"
+        )),
+        None if word.len() > 1 && word.starts_with('0') => {
+            mark.byte(0)
+                .alone("a number of several digits doesn't begin with a 0")
+        }
+        None => too_great(word, bounds, mark),
+    }
+}
+
+// The first letter of a word that is no digit, and its place in the word.
+fn no_digit(word: &str) -> Option<(usize, char)> {
     for (i, b) in word.as_bytes().iter().enumerate() {
-        if b.is_ascii_digit() {
-            continue;
+        if !b.is_ascii_digit() {
+            return Some((i, char::from(*b)));
         }
-        let at = Span::at(place.start.saturating_add(i));
-        let letter = char::from(*b);
-        let sentence = if i == 0 && (*b == b'-' || *b == b'+') {
-            format!(in alloc; "a number has no sign; it is written in decimal digits alone")?
-        } else {
-            format!(in alloc;
-                "a number is written in decimal digits alone, and `{word}` has `{letter}`"
-            )?
-        };
-        return Ok(alone(sentence, at));
     }
-    if word.len() > 1 && word.starts_with('0') {
-        let sentence = format!(in alloc; "a number of several digits doesn't begin with a 0")?;
-        return Ok(alone(sentence, Span::at(place.start)));
-    }
-    let sentence = format!(in alloc; "{word} is above {greatest}, the greatest {told}")?;
-    Ok(alone(sentence, place))
+    None
 }

@@ -1,77 +1,97 @@
 //! Code 2: the words of a line.
 
-use crate::finding::{Fault, Finding, alone, with_line};
+use crate::finding::{Fault, Found};
 use crate::places::{Span, place_of};
-use crate::verbs::{Verb, verb_of, verbs};
+use crate::verbs::{verb_of, verbs};
 use std::alloc::AllocError;
 use strsim::osa_distance;
 
-pub fn cause(fault: &Fault<'_>) -> Result<Option<Finding>, AllocError> {
-    let alloc = fault.alloc;
+pub fn cause(fault: &Fault<'_>) -> Found {
     if let Some(done) = fault.book.done {
-        let sentence = format!(in alloc;
-            "`done` in line {done} ended the script; only comments and empty lines may follow"
-        )?;
-        return Ok(with_line(sentence, fault.place(0), done));
+        return behind_done(fault, done);
     }
     if fault.line.starts_with(' ') {
-        let sentence = format!(in alloc; "the line begins with a space")?;
-        return Ok(alone(sentence, Span::at(0)));
+        return fault
+            .mark(Span::at(0))
+            .alone("the line begins with a space");
     }
-    let Some(verb) = fault.verb else {
-        return unknown(fault);
-    };
-    if let Some(place) = empty_word(fault.line) {
-        let sentence = if place.start.saturating_add(1) >= fault.line.len() {
-            format!(in alloc; "the line ends with a space")?
-        } else {
-            format!(in alloc; "two spaces stand in a row; words have one between them")?
-        };
-        return Ok(alone(sentence, place));
+    match fault.verb {
+        Some(verb) => of_form(fault, verb.form()),
+        None => unknown(fault, fault.word(0)),
     }
-    miscounted(fault, verb)
+}
+
+fn behind_done(fault: &Fault<'_>, done: u32) -> Found {
+    fault.at(0).with_line(
+        done,
+        format_args!(
+            "`done` in line {done} ended the script; only comments and empty lines may follow"
+        ),
+    )
+}
+
+// A line whose first word is known, which has that form.
+fn of_form(fault: &Fault<'_>, form: &str) -> Found {
+    match empty_word(fault.line) {
+        Some(place) if place.start.saturating_add(1) >= fault.line.len() => {
+            fault.mark(place).alone("the line ends with a space")
+        }
+        Some(place) => fault
+            .mark(place)
+            .alone("two spaces stand in a row; words have one between them"),
+        None => miscounted(fault, form),
+    }
 }
 
 // No line begins with its first word.
-fn unknown(fault: &Fault<'_>) -> Result<Option<Finding>, AllocError> {
-    let alloc = fault.alloc;
-    let (word, place) = (fault.word(0), fault.place(0));
+fn unknown(fault: &Fault<'_>, word: &str) -> Found {
     if word == "lockrun" || word == "ticks" {
-        let sentence = format!(in alloc; "`{word}` stands in the first line alone")?;
-        return Ok(alone(sentence, place));
+        fault
+            .at(0)
+            .alone(format_args!("`{word}` stands in the first line alone"))
+    } else if verb_of(!fault.book.ticks, word).is_some() {
+        of_the_other_sort(fault, word)
+    } else {
+        misspelled(fault, word)
     }
-    if verb_of(!fault.book.ticks, word).is_some() {
-        let sentence = if fault.book.ticks {
-            format!(in alloc;
-                "`{word}` is a word of scripts of threads and locks, which begin with `lockrun 1`"
-            )?
-        } else {
-            format!(in alloc; "`{word}` is a word of scripts of ticks, which begin with `ticks 1`")?
-        };
-        return Ok(alone(sentence, place));
-    }
-    let sentence = match near(fault, word)? {
-        Some(meant) => {
-            format!(in alloc; "no line begins with `{word}`; did you mean `{meant}`?")?
-        }
-        None => format!(in alloc; "no line begins with `{word}`")?,
+}
+
+// A word of the other sort of script.
+fn of_the_other_sort(fault: &Fault<'_>, word: &str) -> Found {
+    let (other, header) = if fault.book.ticks {
+        ("threads and locks", "lockrun 1")
+    } else {
+        ("ticks", "ticks 1")
     };
-    Ok(alone(sentence, place))
+    fault.at(0).alone(format_args!(
+        "`{word}` is a word of scripts of {other}, which begin with `{header}`"
+    ))
+}
+
+// A word of no script.
+fn misspelled(fault: &Fault<'_>, word: &str) -> Found {
+    let mark = fault.at(0);
+    match near(fault, word)? {
+        Some(meant) => mark.alone(format_args!(
+            "no line begins with `{word}`; did you mean `{meant}`?"
+        )),
+        None => mark.alone(format_args!("no line begins with `{word}`")),
+    }
 }
 
 // A first word that is the same but for one letter, or in small letters.
 fn near(fault: &Fault<'_>, word: &str) -> Result<Option<&'static str>, AllocError> {
     for verb in verbs(fault.book.ticks) {
-        if verb.word.eq_ignore_ascii_case(word) {
-            return Ok(Some(verb.word));
+        if verb.word().eq_ignore_ascii_case(word) {
+            return Ok(Some(verb.word()));
         }
     }
     if word.len() > 16 {
         return Ok(None);
     }
     for verb in verbs(fault.book.ticks) {
-        if osa_distance(fault.alloc, verb.word, word)? == 1 {
-            return Ok(Some(verb.word));
+        if osa_distance(fault.alloc, verb.word(), word)? == 1 {
+            return Ok(Some(verb.word()));
         }
     }
     Ok(None)
@@ -92,15 +112,16 @@ fn empty_word(line: &str) -> Option<Span> {
     None
 }
 
-// There are too few words or too many.
-fn miscounted(fault: &Fault<'_>, verb: Verb) -> Result<Option<Finding>, AllocError> {
-    let (alloc, form) = (fault.alloc, verb.form);
-    let words = fault.line.split(' ').count();
+// There are too few words or too many for the form.
+fn miscounted(fault: &Fault<'_>, form: &str) -> Found {
     let most = form.split(' ').count();
-    if words > most {
-        let sentence = format!(in alloc; "there are words too many; the form is `{form}`")?;
-        return Ok(alone(sentence, place_of(fault.line, most)));
+    if fault.line.split(' ').count() > most {
+        fault.mark(place_of(fault.line, most)).alone(format_args!(
+            "there are words too many; the form is `{form}`"
+        ))
+    } else {
+        fault
+            .mark(Span::at(fault.line.len()))
+            .alone(format_args!("words are lacking; the form is `{form}`"))
     }
-    let sentence = format!(in alloc; "words are lacking; the form is `{form}`")?;
-    Ok(alone(sentence, Span::at(fault.line.len())))
 }

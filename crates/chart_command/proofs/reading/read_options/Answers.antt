@@ -1,29 +1,23 @@
-use Rattle.std.proofs.Common.{◌≡◌, ◌∙◌, map, ap, cond, subst, sym, Some, None, true}
-use Rattle.std.specs.Prelude.{option_and_then}
-use Rattle.std.specs.String.{string_bytes}
+use Rattle.std.proofs.Common.{◌≡◌, ◌∙◌, ap, cond, subst, sym, Some, None, true}
 use Rattle.std.proofs.lemmas.Bool.{le-leb, lt-leb}
-use Rattle.option_words.specs.Forms.{Text, Gives, is_taken_by, meaning_of}
-use Rattle.option_words.specs.Words.{AreTaken, meaning, text_in}
-use Rattle.chart_command.specs.Forms.{AsksPicture, asking_in, in_order, table}
+use Rattle.option_words.specs.Forms.{Text, is_taken_by}
+use Rattle.option_words.specs.Words.{AreTaken, text_in}
+use Rattle.chart_command.specs.Forms.{AsksPicture, in_order, table}
 use Rattle.chart_command.specs.Args.{wanted}
 use Rattle.chart_command.proofs.Read.{ranges}
 use Rattle.chart_command.proofs.reading.read_options.Goals as goal
 
 pub returns-then-said-clause-usage : goal.returns-then-said-clause-usage
 returns-then-said-clause-usage c = λ is.
-    let words = map string_bytes c.args.words.now in
-    let asked : meaning_of table words ≡ Some (Gives (text_in c.in-Texts.given)) =
-    c.in_ok-given.ensures.asked ∙ ap (λ a. Some (meaning a)) c.in-Texts.is in
-    ap (option_and_then asking_in) asked ∙ ap in_order (sym c.said_by-said.ensures)
-    ∙ ap (λ b. cond b (Some (AsksPicture (wanted c.said_by-said.result))) None) (lt-leb _ _ c.if-said.true)
+    rw (c.in_ok-given.ensures.asked, c.in-Texts.is)
+    (ap in_order (sym c.said_by-said.ensures)
+    ∙ ap (λ b. cond b (Some (AsksPicture (wanted c.said_by-said.result))) None) (lt-leb _ _ c.if-said.true))
 
 pub returns-else-said-clause-asked : goal.returns-else-said-clause-asked
 returns-else-said-clause-asked c =
-    let words = map string_bytes c.args.words.now in
-    let asked : meaning_of table words ≡ Some (Gives (text_in c.in-Texts.given)) =
-    c.in_ok-given.ensures.asked ∙ ap (λ a. Some (meaning a)) c.in-Texts.is in
-    ap (option_and_then asking_in) asked ∙ ap in_order (sym c.said_by-said.ensures)
-    ∙ ap (λ b. cond b (Some (AsksPicture (wanted c.said_by-said.result))) None) (le-leb _ _ c.if-said.false)
+    rw (c.in_ok-given.ensures.asked, c.in-Texts.is)
+    (ap in_order (sym c.said_by-said.ensures)
+    ∙ ap (λ b. cond b (Some (AsksPicture (wanted c.said_by-said.result))) None) (le-leb _ _ c.if-said.false))
 
 pub returns-else-said-clause-ranges : goal.returns-else-said-clause-ranges
 returns-else-said-clause-ranges c =

@@ -1,16 +1,13 @@
-use Rattle.chart_svg.proofs.Standing.{all_in_all, arrows_more}
+use Rattle.chart_svg.proofs.Standing.{all_drawn, arrows_more}
 use Rattle.chart_svg.specs.Pages.{ArrowIsOn}
 use Rattle.chart_svg.specs.Shapes.{shapes_bytes}
 use Rattle.chart_svg.proofs.arrows.arrows.Goals as goal
 
 pub loop-arrow-preserved : goal.loop-arrow-preserved
-loop-arrow-preserved c =
-    arrows_more c.args.page.now _ _ _ _ _ _ c.in_ok-append.ensures.items c.in_ok-append-2.ensures.items
-    c.args.page.now.chart.now.arrows c.as_slice-arrow-items.result.now c.loop-arrow.arrow-index _
-    c.as_slice-arrow-items.ensures c.loop-arrow-test.true c.loop-arrow.invariant c.in_ok-one.ensures
+loop-arrow-preserved c = arrows_more c.args.page.now _ _ _ _ _ _ c.in_ok-append.ensures.items
+    c.in_ok-append-2.ensures.items _ _ _ c.loop-arrow-test.true c.loop-arrow.invariant c.in_ok-one.ensures
 
 pub returns : goal.returns
-returns c = all_in_all (ArrowIsOn c.args.page.now (shapes_bytes c.loop-arrow.arrows.lines.items)
-    (shapes_bytes c.loop-arrow.arrows.heads.items))
-    c.args.page.now.chart.now.arrows c.as_slice-arrow-items.result.now
-    c.loop-arrow.arrow-index c.as_slice-arrow-items.ensures c.loop-arrow-test.false c.loop-arrow.invariant
+returns c = all_drawn (ArrowIsOn c.args.page.now (shapes_bytes c.loop-arrow.arrows.lines.items)
+    (shapes_bytes c.loop-arrow.arrows.heads.items)) _ _ _ c.loop-arrow-test.false c.as_slice-arrow-items.ensures
+    c.loop-arrow.invariant

@@ -6,4 +6,4 @@ use Rattle.chart_svg.proofs.arrows.arrows.Given as goal
 abbrev pub invariant-loop-arrow : goal.invariant-loop-arrow
 invariant-loop-arrow l =
     All (ArrowIsOn l.page (shapes_bytes l.arrows.lines.items) (shapes_bytes l.arrows.heads.items))
-    (take l.arrow-index l.page.chart.now.arrows)
+    (take l.arrow-index l.arrow-items)

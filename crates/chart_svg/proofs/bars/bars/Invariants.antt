@@ -4,4 +4,4 @@ use Rattle.chart_svg.specs.Shapes.{shapes_bytes}
 use Rattle.chart_svg.proofs.bars.bars.Given as goal
 
 abbrev pub invariant-loop-lane : goal.invariant-loop-lane
-invariant-loop-lane l = All (BarsAreDrawn l.page (shapes_bytes l.shapes.items)) (take l.lane-index l.page.lanes.items)
+invariant-loop-lane l = All (BarsAreDrawn l.page (shapes_bytes l.shapes.items)) (take l.lane-index l.lane-items)

@@ -5,4 +5,4 @@ use Rattle.chart_svg.proofs.bars.bars_of.Given as goal
 
 abbrev pub invariant-loop-bar : goal.invariant-loop-bar
 invariant-loop-bar l =
-    All (BarIsOn l.page l.lane (shapes_bytes l.shapes.items)) (take l.bar-index l.lane.bars.laid.items)
+    All (BarIsOn l.page l.lane (shapes_bytes l.shapes.items)) (take l.bar-index l.bar-items)

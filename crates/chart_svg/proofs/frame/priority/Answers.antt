@@ -1,6 +1,5 @@
-use Rattle.std.proofs.Common.{◌≡◌, ◌+◌, ◌∙◌, ap, codes, List, Some}
+use Rattle.std.proofs.Common.{◌+◌, ◌∙◌, ap, codes}
 use Rattle.std.proofs.lemmas.Option.{same_Some}
-use Rattle.std.specs.Prelude.{slice_get}
 use Rattle.chart_layout.specs.declared.layout.PrioSpan.{PrioSpan}
 use Rattle.chart_svg.proofs.Standing.{last}
 use Rattle.chart_svg.specs.Drawn.{pixels, words_bytes}
@@ -8,12 +7,10 @@ use Rattle.chart_svg.specs.Pages.{shown_words}
 use Rattle.chart_svg.proofs.frame.priority.Goals as goal
 
 pub returns : goal.returns
-returns c =
-    let lane = c.args.lane.now in
-    let at : Some c.in-Some.step.now ≡ slice_get lane.steps.items 0 =
-    c.in-Some.ensures.value ∙ ap (λ (xs : List PrioSpan). slice_get xs 0) c.deref.ensures.value in
-    λ step is. last _ _ _ _ c.in_ok-push.ensures.items
+returns c = λ step is.
+    let at = rw c.deref.ensures.value at c.in-Some.ensures.value in
+    last _ _ _ _ c.in_ok-push.ensures.items
     (ap (λ y. words_bytes (codes "gray") 24 y c.in_ok-words.words.items)
     (c.plus.ensures ∙ ap (λ y. pixels (y + 20)) c.line.ensures)
     ∙ ap (words_bytes (codes "gray") 24 _) (c.in_ok-words.ensures ∙ c.shown_prio.ensures
-    ∙ ap (λ (s : PrioSpan). shown_words lane.strip s) (same_Some c.in-Some.step.now step (at ∙ is))))
+    ∙ ap (λ (s : PrioSpan). shown_words c.args.lane.now.strip s) (same_Some c.in-Some.step.now step (at ∙ is))))

@@ -1,4 +1,4 @@
-use Rattle.std.proofs.Common.{ℕ, ◌≡◌, ◌∙◌, ap, refl, List, [], ◌∷◌, codes}
+use Rattle.std.proofs.Common.{ℕ, ◌≡◌, ◌∙◌, ap, List, [], ◌∷◌, codes}
 use Rattle.std.proofs.lemmas.Result.{on_ok_weaker}
 use Rattle.chart_escape.specs.Reader.{Between, InText, at, behind_pieces, read}
 use Rattle.chart_escape.specs.declared.piece.Piece.{Piece}
@@ -21,16 +21,10 @@ begun width height left column top bottom =
     (numbered (codes "' data-left='") left (numbered (codes "' data-column='") column
     (numbered (codes "' data-top='") top (numbered (codes "' data-bottom='") bottom (own (codes "'>\n") ∷ []))))))))
 
-opened : (width height left column top bottom : ℕ)
-    → behind_pieces (at (InText Between) []) (begun width height left column top bottom) ≡ at (InText Between)
-    (picture ∷ [])
-opened width height left column top bottom = refl
-
 picture_opened : (old : List ℕ) (width height left column top bottom : ℕ) → old ≡ []
     → behind_pieces (read old) (begun width height left column top bottom) ≡ at (InText Between) (picture ∷ [])
 picture_opened old width height left column top bottom none =
     ap (λ bytes. behind_pieces (read bytes) (begun width height left column top bottom)) none
-    ∙ opened width height left column top bottom
 
 pub returns : goal.returns
 returns c = on_ok_weaker c.push_pieces.result (λ e. e ∙ picture_opened c.args.out.now.items _ _ _ _ _ _ c.requires)

@@ -3,8 +3,7 @@ use Rattle.std.proofs.lemmas.Result.{on_ok_weaker}
 use Rattle.lock_objects.specs.Represents.{wait_of, walk_of}
 use Rattle.run_chart.specs.Bars.{bar_drawn, standing, waited_kind, walked_kind, woken_kind}
 use Rattle.run_chart.proofs.Drawn.{adds_both, shown_is}
-use Rattle.run_chart.proofs.Shown.{stands_told, woken_told}
-use Rattle.run_chart.proofs.Told.{row_told}
+use Rattle.run_chart.proofs.Told.{row_told, stands_told, woken_told}
 use Rattle.run_chart.proofs.bars.push_bars.Goals as goal
 use Rattle.run_tracks.specs.Rows.{run_in}
 use Rattle.run_tracks.specs.Tracks.{value_in}

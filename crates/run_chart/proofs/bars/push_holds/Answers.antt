@@ -6,7 +6,7 @@ use Rattle.run_chart.specs.Bars.{bar_drawn, held_kind, held_kinds}
 use Rattle.run_chart.specs.Spans.{Adds}
 use Rattle.run_chart.proofs.Drawn.{adds_as, adds_both, adds_none, shown_is}
 use Rattle.run_chart.proofs.Told.{so_at, thread_at}
-use Rattle.run_chart.proofs.Turns.{each_next}
+use Rattle.run_chart.proofs.Turns.{each_more}
 use Rattle.run_chart.proofs.bars.push_holds.Goals as goal
 use Rattle.run_tracks.specs.Rows.{run_in}
 
@@ -32,7 +32,7 @@ loop-l-preserved c =
     shown_is shown (held_kind l (hold_of mode)) (held_kind l ((s n).held t l)) (search rules)
     (ap (held_kind l) (so_at track (length at.rows.now.turns + 1) (λ m mode. hold_of mode ≡ (s m).held t l)
     (its.held l track here) n (let low = c.requires.within in omega (arith, low, b)) mode e)))))
-    (λ n. sym (each_next (λ k. option_to_list (held_kind k ((s n).held t k))) l))
+    (λ n. sym (each_more (λ k. option_to_list (held_kind k ((s n).held t k))) 0 l l (omega arith)))
 
 pub returns : goal.returns
 returns c =

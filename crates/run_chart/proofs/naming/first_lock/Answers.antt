@@ -1,19 +1,19 @@
-use Rattle.std.proofs.Common.{◌≡◌, ℕ, ◌+◌, ◌<◌, ap, inl, inr, length, sym, arith, ◌∙◌}
+use Rattle.std.proofs.Common.{◌≡◌, false, ℕ, ◌+◌, ◌<◌, ap, length, sym, arith, ◌∙◌}
 use Rattle.std.specs.Prelude.{option_map}
-use Rattle.std.proofs.lemmas.Bool.{cases_lt}
 use Rattle.lock_model.specs.declared.numbers.LockNo.{LockNo}
+use borrow.Author.Count.{below_more}
 use Rattle.run_chart.specs.Asked.{fits}
-use Rattle.run_chart.proofs.Turns.{find_is, find_none}
+use Rattle.run_chart.proofs.Values.{find_is, find_none}
 use Rattle.run_chart.proofs.naming.first_lock.Goals as goal
 
 abbrev lock : ℕ → LockNo
 lock l = record { 0 = l }
 
 pub loop-l-preserved : goal.loop-l-preserved
-loop-l-preserved c = λ k m. elim (cases_lt k c.loop-l.l) [
-  | inl a ↦ c.loop-l.invariant k a
-  | inr a ↦ let e : k ≡ c.loop-l.l = omega (arith, a, m) in rw e (sym c.fits.ensures ∙ c.if-fits.false)
-]
+loop-l-preserved c =
+    let at = c.args.at.now in
+    below_more (λ k. fits at.plan.now at.turn at.who.0 c.args.sought k ≡ false) c.loop-l.l c.loop-l.invariant
+    (sym c.fits.ensures ∙ c.if-fits.false)
 
 pub returns-then-fits : goal.returns-then-fits
 returns-then-fits c =
