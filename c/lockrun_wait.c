@@ -246,8 +246,8 @@ const char *lockrun_says(uint32_t answer)
     case LOCKRUN_NOT_HELD: return "the thread doesn't hold the lock in that mode";
     case LOCKRUN_HOLDS_MOST: return "the thread holds as many locks as it may";
     case LOCKRUN_HOLDS_SOME: return "the thread holds a lock";
-    case LOCKRUN_SPENT: return "the thread's log has no room for an entry";
-    case LOCKRUN_SHORT: return "the thread's log has no room for two entries";
+    case LOCKRUN_SPENT: return "beside what is kept for releases the thread's log has no room for an entry";
+    case LOCKRUN_SHORT: return "beside what is kept for releases the thread's log has no room for two entries";
     case LOCKRUN_NO_CELL: return "the floor has no such cell";
     case LOCKRUN_UNHELD: return "the thread holds the lock in neither mode";
     case LOCKRUN_NO_NAME: return "a name isn't 1 to 16 bytes of a to z, 0 to 9 and _, the first a letter";

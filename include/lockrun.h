@@ -81,8 +81,8 @@ enum lockrun_answer {
     LOCKRUN_NOT_HELD = 42,          /* it doesn't hold the lock in that mode */
     LOCKRUN_HOLDS_MOST = 43,        /* it holds LOCKRUN_MOST_HELD locks */
     LOCKRUN_HOLDS_SOME = 45,        /* it holds a lock */
-    LOCKRUN_SPENT = 46,             /* its log has no room for an entry */
-    LOCKRUN_SHORT = 47,             /* its log has no room for two entries */
+    LOCKRUN_SPENT = 46,             /* its log has no room for an entry beside those that are kept for releases */
+    LOCKRUN_SHORT = 47,             /* it has none for two entries beside these */
     LOCKRUN_NO_CELL = 48,           /* the floor has no such cell */
     LOCKRUN_UNHELD = 49,            /* it holds the lock in neither mode */
 
@@ -165,10 +165,12 @@ uint32_t lockrun_next_thread(lockrun_floor_t *floor, lockrun_thread_t *thread);
 
 /* Entries. A thread's log has room for so many as its row says, and no call makes room. A take, a try, a release, a
  * wake, a set, an add, a get, a PRIORITY and a SHOW make one each, also where they are answered BUSY, REVERSED,
- * HALTED or ABSENT; a wait makes two; END, an OUT and a fault make none. A take is begun where there is room for its
- * own entry alone. So keep room for a release of each lock that is held: who holds a lock with a full log can
- * neither release it (SPENT) nor end (HOLDS_SOME), and its floor is never closed. No call tells how much room is
- * left: count.
+ * HALTED or ABSENT; a wait makes two; END, an OUT and a fault make none. For a release of each lock that the thread
+ * holds room is kept: so a release never wants it, and a thread can come to its END however full its log is. Beside
+ * what is kept a take or a try needs room for two, its own entry and a release of what it gains, and so does a wait,
+ * for its two (SHORT); each other call that makes one needs room for that (SPENT). Whoever counts one for each call,
+ * the releases among them, and two for each wait has enough; but a last take or try needs two also where it gains
+ * nothing. lockrun_spare tells for how many entries there is room.
  *
  * Halting. A thread is awake from its floor's opening to its END, but while it sleeps in a take or wait. Where
  * nobody is awake, all who sleep on an sx lock, a condition variable or a channel are woken, and their calls
@@ -189,14 +191,14 @@ enum lockrun_request {
     LOCKRUN_GO_ON = 0,          /* to go on with the call that it is in the middle of. ENDED AT_REST */
     LOCKRUN_END = 1,            /* to end. ENDED IN_CALL HOLDS_SOME. Ends by DONE */
     LOCKRUN_TAKE = 2,           /* to take a lock exclusively. ENDED IN_CALL NO_LOCK NO_MODE HELD HOLDS_UNSLEEPABLE
-                                   HOLDS_MOST SPENT. Ends by DONE, REVERSED, or, of an sx lock, HALTED */
+                                   HOLDS_MOST SHORT. Ends by DONE, REVERSED, or, of an sx lock, HALTED */
     LOCKRUN_TAKE_SHARED = 3,    /* to take it shared. The same */
     LOCKRUN_TRY = 4,            /* to take it exclusively, if its word admits that at once: nobody holds it. The same
                                    stands against it. Ends by DONE or BUSY */
     LOCKRUN_TRY_SHARED = 5,     /* to take it shared, if its word admits that at once: it isn't held exclusively, and of
                                    a reader-writer lock no writer is shown to wait, unless it is free. The same */
-    LOCKRUN_RELEASE = 6,        /* to release a lock that is held exclusively. ENDED IN_CALL NO_LOCK NO_MODE NOT_HELD
-                                   SPENT. Ends by DONE */
+    LOCKRUN_RELEASE = 6,        /* to release a lock that is held exclusively. ENDED IN_CALL NO_LOCK NO_MODE NOT_HELD.
+                                   Ends by DONE */
     LOCKRUN_RELEASE_SHARED = 7, /* to release one that is held shared. The same */
     LOCKRUN_WAKE_ONE = 8,       /* to wake a channel's most important sleeper, if there is one. Its lock needn't be
                                    held, but a wake without it may come between another thread's look at what it waits
@@ -259,6 +261,9 @@ uint32_t lockrun_find_cell(lockrun_thread_t *thread, uint32_t lock, uint64_t key
 
 /* The number of a thread. DONE; NOT_OPEN. */
 uint32_t lockrun_number(lockrun_thread_t *thread, uint32_t *number);
+
+/* For how many entries a thread's log still has room, with those that are kept. DONE; NOT_OPEN. */
+uint32_t lockrun_spare(lockrun_thread_t *thread, uint32_t *entries);
 
 /* Takes in a thread of this floor that has ended: its handle has nothing then. DONE; NOT_OPEN, NOT_ENDED. */
 uint32_t lockrun_gather(lockrun_floor_t *floor, lockrun_thread_t *thread);

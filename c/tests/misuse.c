@@ -116,6 +116,7 @@ int main(void)
     EXPECT(lockrun_take(&t, M, LOCKRUN_EXCLUSIVE), LOCKRUN_NOT_OPEN);
     EXPECT(lockrun_is_queued(&t), LOCKRUN_NOT_OPEN);
     EXPECT(lockrun_number(&t, &number), LOCKRUN_NOT_OPEN);
+    EXPECT(lockrun_spare(&t, &number), LOCKRUN_NOT_OPEN);
     EXPECT(lockrun_find_cell(&t, M, 1, &one), LOCKRUN_NOT_OPEN);
     EXPECT(lockrun_next_thread(&floor, &t), LOCKRUN_NOT_OPEN);
     EXPECT(lockrun_gather(&floor, &t), LOCKRUN_NOT_OPEN);
@@ -190,7 +191,7 @@ int main(void)
     EXPECT(lockrun_release(&t, M, LOCKRUN_EXCLUSIVE), LOCKRUN_NOT_HELD);
     EXPECT(go_on(&u), LOCKRUN_DONE);
     EXPECT(lockrun_release(&u, M, LOCKRUN_EXCLUSIVE), LOCKRUN_DONE);
-    EXPECT(lockrun_take(&u, M, LOCKRUN_EXCLUSIVE), LOCKRUN_SPENT);
+    EXPECT(lockrun_take(&u, M, LOCKRUN_EXCLUSIVE), LOCKRUN_SHORT);
 
     /* Eight locks are as many as a thread may hold. */
     for (l = SX; l < SX + LOCKRUN_MOST_HELD; l++)
@@ -210,10 +211,26 @@ int main(void)
     EXPECT(lockrun_release(&v, OTHER_SX, LOCKRUN_EXCLUSIVE), LOCKRUN_DONE);
     EXPECT(lockrun_wake_all(&v, 0), LOCKRUN_DONE);
 
-    /* A wait needs room for two entries, and its lock gained last, by no try, and no other that can't sleep. */
+    /* Of two entries thread x makes one by its take, and the other one is kept for the release: nothing else gets it. */
+    EXPECT(lockrun_spare(&x, &number), LOCKRUN_DONE);
+    EXPECT(number, 2);
     EXPECT(lockrun_take(&x, M, LOCKRUN_EXCLUSIVE), LOCKRUN_DONE);
+    EXPECT(lockrun_find_cell(&x, M, 1, &one), LOCKRUN_DONE);
+    EXPECT(lockrun_set(&x, &one, 5), LOCKRUN_SPENT);
+    EXPECT(lockrun_get(&x, &one, &value), LOCKRUN_SPENT);
+    EXPECT(lockrun_set_priority(&x, 50), LOCKRUN_SPENT);
+    EXPECT(lockrun_priorities(&x, &base, &effective), LOCKRUN_SPENT);
+    EXPECT(lockrun_wake_one(&x, 0), LOCKRUN_SPENT);
+    EXPECT(lockrun_take(&x, RW, LOCKRUN_SHARED), LOCKRUN_SHORT);
+    EXPECT(lockrun_try(&x, RW, LOCKRUN_SHARED), LOCKRUN_SHORT);
     EXPECT(lockrun_wait(&x, 0), LOCKRUN_SHORT);
+    EXPECT(lockrun_spare(&x, &number), LOCKRUN_DONE);
+    EXPECT(number, 1);
     EXPECT(lockrun_release(&x, M, LOCKRUN_EXCLUSIVE), LOCKRUN_DONE);
+    EXPECT(lockrun_spare(&x, &number), LOCKRUN_DONE);
+    EXPECT(number, 0);
+
+    /* A wait needs its lock gained last, by no try, and no other that can't sleep. */
     EXPECT(lockrun_try(&v, M, LOCKRUN_EXCLUSIVE), LOCKRUN_DONE);
     EXPECT(lockrun_wait(&v, 0), LOCKRUN_NOT_LAST);
     EXPECT(lockrun_release(&v, M, LOCKRUN_EXCLUSIVE), LOCKRUN_DONE);
@@ -270,6 +287,9 @@ int main(void)
     EXPECT(lockrun_release(&y, M, LOCKRUN_EXCLUSIVE), LOCKRUN_DONE);
     EXPECT(lockrun_call(&y, LOCKRUN_PRIORITY, 0, 256, NULL, NULL), LOCKRUN_NO_REQUEST);
     EXPECT(lockrun_set_priority(&y, 90), LOCKRUN_DONE);
+    /* with room for one entry nothing is taken, since that couldn't be released */
+    EXPECT(lockrun_take(&y, M, LOCKRUN_EXCLUSIVE), LOCKRUN_SHORT);
+    EXPECT(lockrun_try(&y, SX, LOCKRUN_SHARED), LOCKRUN_SHORT);
     EXPECT(lockrun_priorities(&y, &base, &effective), LOCKRUN_SHOWN);
     EXPECT(base, 90);
     EXPECT(effective, 90);

@@ -6,9 +6,9 @@ use floor_calls::{Cause, Next, Request, Thread};
 use lock_model::{ChanNo, ClassNo, LockNo, Mode, Reversal, ThreadNo};
 use std::test::Fail;
 
-// The threads have room for so many entries; locks 2 to 9 are sx locks.
+// The threads have room for so many entries, which is just enough for what they do; locks 2 to 9 are sx locks.
 const FLOOR: Parts = Parts {
-    rooms: &[4, 1, 2, 9, 7, 4, 3, 2, 10],
+    rooms: &[4, 2, 2, 16, 7, 4, 3, 2, 10],
     locks: 10,
     class: 9,
     channels: 1,
@@ -133,7 +133,9 @@ const ROWS: &[Row] = &[
     (0, TAKE_SX, Err(Cause::HoldsUnsleepable(SX))),
     (0, Request::End, Err(Cause::HoldsSome)),
     (1, TRY_M, Ok(Next::Busy(HELD))),
-    (1, TRY_M, Err(Cause::Spent)),
+    // Room for one entry is left: a gain would need another one for its release.
+    (1, TRY_M, Err(Cause::Short)),
+    (1, TAKE_RW, Err(Cause::Short)),
     (1, RELEASE_M, Err(Cause::NotHeld(M, Mode::Excl))),
     // Thread 2 must wait for it: it sleeps, until a release has woken it.
     (2, TAKE_M, Ok(Next::Again)),
@@ -187,10 +189,15 @@ const ROWS: &[Row] = &[
     (5, Request::GoOn, Ok(Next::Done)),
     (5, TAKE_M, Err(Cause::Held(M))),
     (5, RELEASE_M, Ok(Next::Done)),
-    // Thread 7 has room for one entry more, and a wait makes two.
+    // Thread 7 has room for one entry more, which is kept for the release.
     (7, TAKE_M, Ok(Next::Done)),
     (7, WAIT, Err(Cause::Short)),
+    (7, TAKE_RW, Err(Cause::Short)),
+    (7, TRY_RW_SHARED, Err(Cause::Short)),
+    (7, WAKE_ONE, Err(Cause::Spent)),
+    (7, Request::Show, Err(Cause::Spent)),
     (7, RELEASE_M, Ok(Next::Done)),
+    (7, TAKE_M, Err(Cause::Short)),
     // A reader-writer lock isn't held over the sleep, and the mutex is that which was gained last, and not by a try.
     (8, TAKE_RW, Ok(Next::Done)),
     (8, TAKE_M, Ok(Next::Again)),
@@ -249,5 +256,6 @@ fn holds_eight(threads: &mut [Thread]) -> bool {
             return false;
         }
     }
-    thread.begin_take(M, Mode::Excl) == Err(Cause::HoldsMost)
+    // eight entries were made, and as many are kept
+    thread.spare() == 8 && thread.begin_take(M, Mode::Excl) == Err(Cause::HoldsMost)
 }

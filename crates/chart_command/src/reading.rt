@@ -27,7 +27,7 @@ pub const HELP: &[&str] = &[
 ];
 
 /// The version, which is the date of the newest change in `CHANGELOG.md`.
-pub const VERSION: &str = "2026.11.30";
+pub const VERSION: &str = "2026.12.01";
 
 // An option: its name, what its text may be, and what that is called.
 macro_rules! option {

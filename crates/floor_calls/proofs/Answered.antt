@@ -1,17 +1,21 @@
 -- What a call answers: it was made, or something stands against it.
-use Rattle.std.proofs.Common.{◌≡◌, true, false, Option, Some, None, Ok, Err, refl, sym, subst}
+use Rattle.std.proofs.Common.{◌≡◌, true, false, Option, Some, None, Result, Ok, Err, refl, sym, ap, subst}
 use Rattle.floor_table.specs.Views.{Knowledge}
-use Rattle.floor_table.specs.declared.description.Description.{Description}
-use Rattle.lock_floor.specs.Floors.{Floor, Pass}
+use Rattle.lock_floor.specs.Floors.{Pass}
+use Rattle.lock_floor.specs.Passes.{IsReady}
+use Rattle.floor_calls.proofs.Room.{room_behind}
 use Rattle.floor_calls.proofs.Tests.{first_is_one, may_none, none_may}
 use Rattle.floor_calls.specs.Calls.{Answers, Does}
 use Rattle.floor_calls.specs.Causes.{MayCall, Says, causes}
 use Rattle.floor_calls.specs.First.{IsFirst}
-use Rattle.floor_calls.specs.Threads.{Thread, thread_at}
+use Rattle.floor_calls.specs.Room.{KeepsRoom}
+use Rattle.floor_calls.specs.Threads.{IsAt, Stands, Thread, thread_at}
 use Rattle.floor_calls.specs.declared.requests.Cause.{Cause}
 use Rattle.floor_calls.specs.declared.requests.Request.{Request}
+use Rattle.floor_calls.specs.declared.shared.Shared.{Shared}
 use Rattle.floor_calls.specs.declared.stages.Next.{Next}
 use Rattle.floor_calls.specs.declared.stages.Stage.{Stage}
+use Rattle.floor_calls.specs.declared.stages.Stage.TheVariants.{AtRest}
 
 -- 1. What is answered
 
@@ -28,34 +32,93 @@ is_refused request x cause first = record {
   unchanged = refl;
 }
 
-pub is_made : (request : Request) (x y : Thread) (next : Next) → IsFirst (λ c. Says c x) (causes request) None
-    → y.floor ≡ x.floor → Does request next x y → Answers request (Ok next) x y
-is_made request x y next first floor does = record {
+pub is_made : (request : Request) (x y : Thread) (next : Next) → MayCall request x
+    → IsFirst (λ c. Says c x) (causes request) None → y.floor ≡ x.floor → Does request next x y
+    → Answers request (Ok next) x y
+is_made request x y next may first floor does = record {
   floor = floor;
-  may = (λ _. none_may request x first, λ _. refl);
+  may = (λ _. may, λ _. refl);
   cause = first;
   does = does;
   unchanged = tt;
 }
 
--- 2. A thread and its parts: what is so of the thread is so of them, where the floor was found through another path
+-- 2. A call is made of a thread's parts, where what is shared was found through another path
 
-module _ (x : Thread) (f g : Floor Description) (p : Pass Knowledge) (s : Stage) (is : thread_at f s p ≡ x)
-    (same : g ≡ f) where
-  pub may_of_parts : (request : Request) → MayCall request x → MayCall request (thread_at g s p)
-  may_of_parts request may =
-      subst (λ (h : Floor Description). MayCall request (thread_at h s p)) (sym same)
-      (subst (λ (y : Thread). MayCall request y) (sym is) may)
+module _ {a b : Shared} (same : a ≡ b) where
+  module _ {x : Thread} {p : Pass Knowledge} {s : Stage} (is : thread_at b.floor s p ≡ x) (stood : Stands b.floor s p)
+    where
+      -- the thread stands there too
+      pub is_there : IsAt a.floor s p
+      is_there = subst (λ (h : Shared). IsAt h.floor s p) (sym same) stood.at
 
-  pub does_of_thread : (request : Request) (next : Next) (t : Stage) (q : Pass Knowledge)
-      → Does request next (thread_at g s p) (thread_at g t q) → Does request next x (thread_at f t q)
-  does_of_thread request next t q did =
-      subst (λ (y : Thread). Does request next y (thread_at f t q)) is
-      (subst (λ (h : Floor Description). Does request next (thread_at h s p) (thread_at h t q)) same did)
+      module _ (request : Request) (nothing : IsFirst (λ c. Says c x) (causes request) None) where
+        may : MayCall request x
+        may = none_may request x (subst (λ (y : Thread). KeepsRoom y.stage y.pass) is stood.room) nothing
 
--- 3. What stands against a request is what stands against that which it is found to be
+        may_here : MayCall request (thread_at b.floor s p)
+        may_here = subst (λ (y : Thread). MayCall request y) (sym is) may
+
+        -- a call may be made of them against which nothing stands
+        pub may_there : MayCall request (thread_at a.floor s p)
+        may_there = subst (λ (h : Shared). MayCall request (thread_at h.floor s p)) (sym same) may_here
+
+        did_here : (next : Next) (t : Stage) (q : Pass Knowledge)
+            → Does request next (thread_at a.floor s p) (thread_at a.floor t q)
+            → Does request next (thread_at b.floor s p) (thread_at b.floor t q)
+        did_here next t q did =
+            subst (λ (h : Shared). Does request next (thread_at h.floor s p) (thread_at h.floor t q)) same did
+
+        -- where it was made the thread stands behind it
+        pub is_back : (next : Next) {t : Stage} {q : Pass Knowledge}
+            → Does request next (thread_at a.floor s p) (thread_at a.floor t q) → IsAt a.floor t q
+            → Stands b.floor t q
+        is_back next {t = t} {q = q} did at = record {
+          at = subst (λ (h : Shared). IsAt h.floor t q) same at;
+          room = room_behind (thread_at b.floor s p) (thread_at b.floor t q) stood.at stood.room request next may_here
+              (did_here next t q did);
+        }
+
+        -- and the call is the thread's
+        pub is_made_there : {next : Next} {t : Stage} {q : Pass Knowledge}
+            → Does request next (thread_at a.floor s p) (thread_at a.floor t q)
+            → Answers request (Ok next) x (thread_at b.floor t q)
+        is_made_there {next = next} {t = t} {q = q} did =
+            is_made request x (thread_at b.floor t q) next may nothing (ap (λ (y : Thread). y.floor) is)
+            (subst (λ (y : Thread). Does request next y (thread_at b.floor t q)) is (did_here next t q did))
+
+        -- of one that is made at once the thread is at rest, before and behind it
+        module _ (rests : MayCall request (thread_at a.floor s p) → s ≡ AtRest) where
+          pub ready_there : IsReady a.floor p
+          ready_there = subst (λ (t : Stage). IsAt a.floor t p) (rests may_there) is_there
+
+          did_at_once : (next : Next) (q : Pass Knowledge)
+              → Does request next (thread_at a.floor s p) (thread_at a.floor AtRest q)
+              → Does request next (thread_at a.floor s p) (thread_at a.floor s q)
+          did_at_once next q did =
+              subst (λ (t : Stage). Does request next (thread_at a.floor s p) (thread_at a.floor t q))
+              (sym (rests may_there)) did
+
+          pub rests_back : (next : Next) {q : Pass Knowledge}
+              → Does request next (thread_at a.floor s p) (thread_at a.floor AtRest q) → IsReady a.floor q
+              → Stands b.floor s q
+          rests_back next {q = q} did ready =
+              is_back next (did_at_once next q did)
+              (subst (λ (t : Stage). IsAt a.floor t q) (sym (rests may_there)) ready)
+
+          pub is_made_at_once : {next : Next} {q : Pass Knowledge}
+              → Does request next (thread_at a.floor s p) (thread_at a.floor AtRest q)
+              → Answers request (Ok next) x (thread_at b.floor s q)
+          is_made_at_once {next = next} {q = q} did = is_made_there (did_at_once next q did)
+
+-- 3. What is so of a request is so of that which it is found to be
 
 pub against_named : (x : Thread) {request named : Request} {found : Option Cause} → request ≡ named
     → IsFirst (λ c. Says c x) (causes named) found → IsFirst (λ c. Says c x) (causes request) found
 against_named x {found = found} is first =
     subst (λ (r : Request). IsFirst (λ (c : Cause). Says c x) (causes r) found) (sym is) first
+
+pub answers_named : {x y : Thread} {request named : Request} {answer : Result Next Cause} → request ≡ named
+    → Answers named answer x y → Answers request answer x y
+answers_named {x = x} {y = y} {answer = answer} is answers =
+    subst (λ (r : Request). Answers r answer x y) (sym is) answers

@@ -1,6 +1,8 @@
 mod Numbers
 mod Sleepable
+mod Room
 mod Tests
+mod Chains
 mod Fitting
 mod Standing
 mod Waiting

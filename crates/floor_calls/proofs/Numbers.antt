@@ -9,9 +9,6 @@ below a b n = omega (arith, n)
 pub at_most : (a b : ℕ) → (a < b → ⊥) → b ≤ a
 at_most a b n = omega (arith, n)
 
-pub some : (a : ℕ) → (a ≡ 0 → ⊥) → 1 ≤ a
-some a n = omega (arith, n)
-
 pub is_there : (o : Option ℕ) (a : ℕ) → ((o ≡ Some a → ⊥) → ⊥) → o ≡ Some a
 is_there None a n = absurd (n (λ e. cc))
 is_there (Some b) a n =

@@ -7,9 +7,10 @@ use Rattle.floor_table.specs.Views.{Knowledge}
 use Rattle.floor_table.specs.declared.description.Description.{Description}
 use Rattle.lock_calls.proofs.First.{ready_first}
 use Rattle.lock_floor.specs.Floors.{Floor, Pass}
-use Rattle.lock_floor.specs.Passes.{IsReady, first_pass}
+use Rattle.lock_floor.specs.Passes.{first_pass}
 use Rattle.floor_calls.specs.Openings.{first_thread, thread_at_rest}
-use Rattle.floor_calls.specs.Threads.{Thread}
+use Rattle.floor_calls.specs.Threads.{Stands, Thread}
+use Rattle.floor_calls.specs.declared.stages.Stage.TheVariants.{AtRest}
 
 -- these are the passes of a floor as it is made
 abbrev pub AreFirst : Floor Description → List (Pass Knowledge) → Type 0
@@ -27,9 +28,11 @@ are_first f g floor ps same about count each t d lt =
     (subst (λ (x : Description). slice_index_or ps t d ≡ first_pass g.table x t) (sym about)
     (each t d (omega (arith, lt, count))))
 
-pub ready_all : (f : Floor Description) (ps : List (Pass Knowledge)) → AreFirst f ps
-    → All (λ (p : Pass Knowledge). IsReady f p) ps
-ready_all f ps first t d lt = subst (IsReady f) (sym (first t d lt)) (ready_first f t)
+-- each stands at rest, and holds nothing
+pub stand_all : (f : Floor Description) (ps : List (Pass Knowledge)) → AreFirst f ps
+    → All (λ (p : Pass Knowledge). Stands f AtRest p) ps
+stand_all f ps first t d lt =
+    subst (Stands f AtRest) (sym (first t d lt)) (record { at = ready_first f t; room = omega arith })
 
 pub threads_all : (f : Floor Description) (ps : List (Pass Knowledge)) → AreFirst f ps → (t : ℕ) (d : Thread)
     → t < length ps → slice_index_or (map (thread_at_rest f) ps) t d ≡ first_thread f t

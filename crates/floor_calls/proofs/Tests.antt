@@ -12,10 +12,12 @@ use Rattle.lock_model.specs.declared.plan.Kind.{Kind}
 use Rattle.lock_model.specs.declared.plan.Kind.TheVariants.{Mtx}
 use Rattle.lock_model.specs.declared.plan.Mode.{Mode}
 use Rattle.lock_model.specs.declared.plan.Mode.TheVariants.{Excl, Shared}
-use Rattle.floor_calls.proofs.Numbers.{at_most, below, is_there, some}
+use Rattle.floor_calls.proofs.Numbers.{at_most, below, is_there}
+use Rattle.floor_calls.proofs.Room.{room_to_release}
 use Rattle.floor_calls.proofs.Sleepable.{none_by_lock, none_of}
 use Rattle.floor_calls.specs.Causes.{Says, causes, held_by, MayCall}
 use Rattle.floor_calls.specs.First.{IsFirst, none, here, later}
+use Rattle.floor_calls.specs.Room.{KeepsRoom}
 use Rattle.floor_calls.specs.Stages.{IsInCall}
 use Rattle.floor_calls.specs.Threads.{Thread}
 use Rattle.floor_calls.specs.declared.requests.Cause.TheVariants.{Ended, InCall, Held, HoldsUnsleepable, HoldsMost}
@@ -106,55 +108,60 @@ module _ (x : Thread) (rest : x.stage ≡ stages.AtRest) where
 
 -- 4. Both
 
-pub none_may : (request : Request) (x : Thread) → IsFirst (λ c. Says c x) (causes request) None → MayCall request x
-none_may (Take l mode) x (later e (later c (later nl (later m (later h (later u (later f (later s none)))))))) = (
+pub none_may : (request : Request) (x : Thread) → KeepsRoom x.stage x.pass
+    → IsFirst (λ c. Says c x) (causes request) None → MayCall request x
+none_may (Take l mode) x r (later e (later c (later nl (later m (later h (later u (later f (later s none)))))))) = (
   at_rest x.stage e c,
   record {
     covered = record { lock = below _ _ nl; mutex = has_mode _ mode (λ s. m (below _ _ nl, s.0, s.1)) };
     unheld = is_unheld _ h;
     few = below _ _ f;
-    room = some _ s;
+    room = omega (arith, s);
   },
   λ sx k is. none_of (is_mutex_or_rw x) (held_by x) k (λ one. u (sx, one)) is,
+  omega (arith, s),
 )
-none_may (Try l mode) x (later e (later c (later nl (later m (later h (later u (later f (later s none)))))))) = (
+none_may (Try l mode) x r (later e (later c (later nl (later m (later h (later u (later f (later s none)))))))) = (
   at_rest x.stage e c,
   record {
     covered = record { lock = below _ _ nl; mutex = has_mode _ mode (λ s. m (below _ _ nl, s.0, s.1)) };
     unheld = is_unheld _ h;
     few = below _ _ f;
-    room = some _ s;
+    room = omega (arith, s);
   },
   λ sx k is. none_of (is_mutex_or_rw x) (held_by x) k (λ one. u (sx, one)) is,
+  omega (arith, s),
 )
-none_may (Release l mode) x (later e (later c (later nl (later m (later h (later s none)))))) = (
+none_may (Release l mode) x r (later e (later c (later nl (later m (later h none))))) = (
   at_rest x.stage e c,
   record {
     covered = record { lock = below _ _ nl; mutex = has_mode _ mode (λ s. m (below _ _ nl, s.0, s.1)) };
     held = is_held _ mode h;
-    room = some _ s;
+    room = room_to_release x.pass.view l.0 mode (is_held _ mode h)
+        (subst (λ s. KeepsRoom s x.pass) (at_rest x.stage e c) r);
   },
 )
-none_may (Edit cell change) x (later e (later c (later nc (later h (later s none))))) =
-    (at_rest x.stage e c, record { of_floor = is_there _ _ nc; held = is_held _ Excl h; room = some _ s })
-none_may (Read cell) x (later e (later c (later nc (later u (later s none))))) =
-    (at_rest x.stage e c, record { of_floor = is_there _ _ nc; held = u; room = some _ s })
-none_may (SetBase prio) x (later e (later c (later s none))) = (at_rest x.stage e c, some _ s)
-none_may Show x (later e (later c (later s none))) = (at_rest x.stage e c, some _ s)
-none_may (WakeUp d all) x (later e (later c (later nc (later s none)))) =
-    (at_rest x.stage e c, record { chan = below _ _ nc; room = some _ s })
-none_may (Wait d) x (later e (later c (later nc (later nl (later o (later h (later s none))))))) = (
+none_may (Edit cell change) x r (later e (later c (later nc (later h (later s none))))) =
+    (at_rest x.stage e c, record { of_floor = is_there _ _ nc; held = is_held _ Excl h; room = omega (arith, s) })
+none_may (Read cell) x r (later e (later c (later nc (later u (later s none))))) =
+    (at_rest x.stage e c, record { of_floor = is_there _ _ nc; held = u; room = omega (arith, s) })
+none_may (SetBase prio) x r (later e (later c (later s none))) = (at_rest x.stage e c, omega (arith, s))
+none_may Show x r (later e (later c (later s none))) = (at_rest x.stage e c, omega (arith, s))
+none_may (WakeUp d all) x r (later e (later c (later nc (later s none)))) =
+    (at_rest x.stage e c, record { chan = below _ _ nc; room = omega (arith, s) }, omega (arith, s))
+none_may (Wait d) x r (later e (later c (later nc (later nl (later o (later h (later s none))))))) = (
   at_rest x.stage e c,
   record {
     chan = below _ _ nc;
     last = is_true _ nl;
     sleepable = λ k other is. none_of (is_another x (lock_of x.floor.description d.0)) (held_by x) k o (is, other);
     few = at_most _ _ h;
-    room = at_most _ _ s;
+    room = omega (arith, s);
   },
+  omega (arith, s),
 )
-none_may End x (later e (later c (later h none))) = (at_rest x.stage e c, is_bare (held_by x) h)
-none_may GoOn x (later e (later r none)) = in_call x.stage e r
+none_may End x r (later e (later c (later h none))) = (at_rest x.stage e c, is_bare (held_by x) h)
+none_may GoOn x r (later e (later n none)) = in_call x.stage e n
 
 pub may_none : (request : Request) (x : Thread) → MayCall request x → IsFirst (λ c. Says c x) (causes request) None
 may_none (Take l mode) x m =
@@ -164,7 +171,7 @@ may_none (Take l mode) x m =
     (later (λ h. let e : NotHeld ≡ Holds h.0 = sym m.1.unheld ∙ h.1 in cc)
     (later (λ u. none_by_lock (is_mutex_or_rw x) (held_by x) (m.2 u.0) u.1)
     (later (λ f. omega (arith, f, m.1.few))
-    (later (λ s. omega (arith, s, m.1.room)) none)))))))
+    (later (λ s. omega (arith, s, m.3)) none)))))))
 may_none (Try l mode) x m =
     later (unended x m.0) (later (idle x m.0)
     (later (λ nl. omega (arith, nl, m.1.covered.lock))
@@ -172,13 +179,12 @@ may_none (Try l mode) x m =
     (later (λ h. let e : NotHeld ≡ Holds h.0 = sym m.1.unheld ∙ h.1 in cc)
     (later (λ u. none_by_lock (is_mutex_or_rw x) (held_by x) (m.2 u.0) u.1)
     (later (λ f. omega (arith, f, m.1.few))
-    (later (λ s. omega (arith, s, m.1.room)) none)))))))
+    (later (λ s. omega (arith, s, m.3)) none)))))))
 may_none (Release l mode) x m =
     later (unended x m.0) (later (idle x m.0)
     (later (λ nl. omega (arith, nl, m.1.covered.lock))
     (later (λ s. let e : Excl ≡ Shared = sym (m.1.covered.mutex s.1) ∙ s.2 in cc)
-    (later (λ h. h m.1.held)
-    (later (λ s. omega (arith, s, m.1.room)) none)))))
+    (later (λ h. h m.1.held) none))))
 may_none (Edit cell change) x m =
     later (unended x m.0) (later (idle x m.0)
     (later (λ nc. nc m.1.of_floor)
@@ -196,7 +202,7 @@ may_none Show x m =
 may_none (WakeUp d all) x m =
     later (unended x m.0) (later (idle x m.0)
     (later (λ nc. omega (arith, nc, m.1.chan))
-    (later (λ s. omega (arith, s, m.1.room)) none)))
+    (later (λ s. omega (arith, s, m.2)) none)))
 may_none (Wait d) x m =
     later (unended x m.0) (later (idle x m.0)
     (later (λ nc. omega (arith, nc, m.1.chan))
@@ -204,7 +210,7 @@ may_none (Wait d) x m =
     (later (λ o. none_by_lock (is_another x (lock_of x.floor.description d.0)) (held_by x)
     (λ k is. m.1.sleepable k is.1 is.0) o)
     (later (λ h. omega (arith, h, m.1.few))
-    (later (λ s. omega (arith, s, m.1.room)) none))))))
+    (later (λ s. omega (arith, s, m.2)) none))))))
 may_none End x m = later (unended x m.0) (later (idle x m.0) (later (λ h. h m.1) none))
 may_none GoOn x m = later (λ e. subst IsInCall e m) (later (λ r. subst IsInCall r m) none)
 

@@ -1,5 +1,5 @@
 -- What may stand against a call of a thread, and when the call may be made.
-use Rattle.std.specs.Prelude.{◌≡◌, ◌≢◌, ℕ, ◌<◌, ◌≤◌, true, false, List, [], ◌∷◌, length}
+use Rattle.std.specs.Prelude.{◌≡◌, ◌≢◌, ℕ, ◌+◌, ◌<◌, ◌≤◌, true, false, List, [], ◌∷◌, length}
 use Rattle.std.specs.List.{Any}
 use Rattle.lock_model.specs.Holds.{NotHeld, Holds}
 use Rattle.lock_model.specs.Limits.{most_held}
@@ -18,6 +18,7 @@ use Rattle.floor_table.specs.declared.description.Description.{Description}
 use Rattle.lock_calls.specs.Steps.{MayTake, MayRelease}
 use Rattle.lock_floor.specs.Cells.{IsCellOf}
 use Rattle.lock_floor.specs.declared.tables.TableCell.{TableCell}
+use Rattle.floor_calls.specs.Room.{HasRoomFor}
 use Rattle.floor_calls.specs.Stages.{IsInCall}
 use Rattle.floor_calls.specs.Threads.{Thread}
 use Rattle.floor_calls.specs.declared.requests.Cause.{Cause}
@@ -43,7 +44,8 @@ HoldsOtherThan l x =
 
 -- 1. What may stand against a call
 
--- what each cause says of a thread
+-- What each cause says of a thread. Its log keeps room for a release of each lock that it holds: it is spent where it
+-- has none for an entry beside these, and short where it has none for two
 abbrev pub Says : Cause → Thread → Type 0
 Says Ended x = x.stage ≡ stages.Ended
 Says InCall x = IsInCall x.stage
@@ -64,19 +66,19 @@ Says (Unheld l) x = hold_in (held_by x) l.0 ≡ NotHeld
 Says HoldsMost x = most_held ≤ length (held_by x)
 Says HoldsMore x = most_held < length (held_by x)
 Says HoldsSome x = held_by x ≢ []
-Says Spent x = x.pass.view.spare ≡ 0
-Says Short x = x.pass.view.spare < 2
+Says Spent x = x.pass.view.spare ≤ length (held_by x)
+Says Short x = x.pass.view.spare < length (held_by x) + 2
 
 -- what may stand against each call, in the order in which it is tested
 abbrev pub causes : Request → List Cause
 causes (Take l mode) =
     Ended ∷ InCall ∷ NoLock l ∷ NoMode l mode ∷ Held l ∷ HoldsUnsleepable l ∷ HoldsMost
-    ∷ Spent ∷ []
+    ∷ Short ∷ []
 causes (Try l mode) =
     Ended ∷ InCall ∷ NoLock l ∷ NoMode l mode ∷ Held l ∷ HoldsUnsleepable l ∷ HoldsMost
-    ∷ Spent ∷ []
+    ∷ Short ∷ []
 causes (Release l mode) =
-    Ended ∷ InCall ∷ NoLock l ∷ NoMode l mode ∷ NotHeld l mode ∷ Spent ∷ []
+    Ended ∷ InCall ∷ NoLock l ∷ NoMode l mode ∷ NotHeld l mode ∷ []
 causes (Edit cell change) =
     Ended ∷ InCall ∷ NoCell cell ∷ NotHeld cell.l Excl ∷ Spent ∷ []
 causes (Read cell) = Ended ∷ InCall ∷ NoCell cell ∷ Unheld cell.l ∷ Spent ∷ []
@@ -99,36 +101,42 @@ MaySleepFor x l =
     → hold_in (held_by x) k ≡ NotHeld
 
 -- a thread may edit a cell: that is one of the floor's, and the thread holds its lock exclusively, and has room for an
--- entry
+-- entry beside those that are kept
 pub record MayEdit (floor : Description) (cell : TableCell) (v : Knowledge) : Type 0 where
   pub of_floor : IsCellOf floor cell
   pub held : hold_in v.share.held cell.l.0 ≡ Holds Excl
-  pub room : 1 ≤ v.spare
+  pub room : HasRoomFor 1 v
 
 -- it may read it: it holds its lock, in either mode
 pub record MayRead (floor : Description) (cell : TableCell) (v : Knowledge) : Type 0 where
   pub of_floor : IsCellOf floor cell
   pub held : hold_in v.share.held cell.l.0 ≢ NotHeld
-  pub room : 1 ≤ v.spare
+  pub room : HasRoomFor 1 v
 
--- The crate of a lock's call says what it needs beside a thread at rest; a call about priorities needs room for an
--- entry; an end needs that the thread holds nothing; and a call is gone on with in its middle
+-- The crate of a lock's call says what it needs beside a thread at rest; an end needs that the thread holds nothing;
+-- and a call is gone on with in its middle. Beside what is kept for releases a call that makes one entry has room
+-- for that; a take or a try for a release of what it gains too; and a wait for its two. A release needs none: its
+-- room was kept
 abbrev pub MayCall : Request → Thread → Type 0
 MayCall (Take l mode) x =
     (x.stage ≡ stages.AtRest) × MayTake x.floor.description l.0 mode x.pass.view × MaySleepFor x l
+    × HasRoomFor 2 x.pass.view
 MayCall (Try l mode) x =
     (x.stage ≡ stages.AtRest) × MayTake x.floor.description l.0 mode x.pass.view × MaySleepFor x l
+    × HasRoomFor 2 x.pass.view
 MayCall (Release l mode) x =
     (x.stage ≡ stages.AtRest) × MayRelease x.floor.description l.0 mode x.pass.view
 MayCall (Edit cell change) x =
     (x.stage ≡ stages.AtRest) × MayEdit x.floor.description cell x.pass.view
 MayCall (Read cell) x =
     (x.stage ≡ stages.AtRest) × MayRead x.floor.description cell x.pass.view
-MayCall (SetBase prio) x = (x.stage ≡ stages.AtRest) × (1 ≤ x.pass.view.spare)
-MayCall Show x = (x.stage ≡ stages.AtRest) × (1 ≤ x.pass.view.spare)
+MayCall (SetBase prio) x = (x.stage ≡ stages.AtRest) × HasRoomFor 1 x.pass.view
+MayCall Show x = (x.stage ≡ stages.AtRest) × HasRoomFor 1 x.pass.view
 MayCall (WakeUp c all) x =
     (x.stage ≡ stages.AtRest) × MayWakeUp x.floor.description c.0 x.pass.view
+    × HasRoomFor 1 x.pass.view
 MayCall (Wait c) x =
     (x.stage ≡ stages.AtRest) × MayWait x.floor.description c.0 x.pass.view
+    × HasRoomFor 2 x.pass.view
 MayCall End x = (x.stage ≡ stages.AtRest) × (held_by x ≡ [])
 MayCall GoOn x = IsInCall x.stage

@@ -2,6 +2,7 @@ pub mod First
 pub mod Fitting
 pub mod Stages
 pub mod Waits
+pub mod Room
 pub mod Threads
 pub mod Causes
 pub mod Calls

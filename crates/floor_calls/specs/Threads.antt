@@ -12,6 +12,7 @@ use Rattle.lock_calls.specs.Tries.{IsInTry}
 use Rattle.lock_floor.specs.Floors.{Floor, Pass}
 use Rattle.lock_floor.specs.Marks.{with_marks}
 use Rattle.lock_floor.specs.Passes.{IsAtRest, IsOf, IsFinished, IsReady}
+use Rattle.floor_calls.specs.Room.{KeepsRoom}
 use Rattle.floor_calls.specs.Waits.{IsGivingUp, IsTakingBack, IsToGiveUp, KnowsIts}
 use Rattle.floor_calls.specs.declared.stages.Stage.{Stage}
 use Rattle.floor_calls.specs.declared.stages.Stage.TheVariants.{AtRest, Takes, Tries, Releases, ComesToWake, Wakes, Waits, ComesToGiveUp, GivesUp, TakesBack, Ends, Ended}
@@ -49,3 +50,8 @@ IsAt f (GivesUp on at) p = IsOf f p × IsGivingUp f.description on at p.view
 IsAt f (TakesBack on aborted at) p = IsOf f p × IsTakingBack f.description on aborted at p.view
 IsAt f (Ends at) p = IsEndingAt f at p
 IsAt f Ended p = IsFinished f p
+
+-- so a thread stands between two calls, and its log keeps room
+pub record Stands (f : Floor Description) (stage : Stage) (p : Pass Knowledge) : Type 0 where
+  pub at : IsAt f stage p
+  pub room : KeepsRoom stage p

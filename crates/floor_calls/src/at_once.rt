@@ -3,6 +3,8 @@
 ghost use Rattle.std.specs.Prelude.{◌≤◌, ℕ, Option};
 ghost use Rattle.floor_calls.specs.Calls.{MakesAtOnce};
 ghost use Rattle.floor_calls.specs.Causes.{MayEdit, MayRead};
+ghost use Rattle.floor_calls.specs.Room.{HasRoomFor};
+ghost use Rattle.floor_calls.specs.Room.{HasRoomFor};
 ghost use Rattle.floor_calls.specs.declared.stages.Next.TheVariants.{Done, Found, Shown};
 ghost use Rattle.floor_calls.specs.declared.stages.Stage.TheVariants.{AtRest};
 ghost use Rattle.lock_floor.specs.Changes.{event_of};
@@ -51,7 +53,7 @@ pub(crate) fn read(floor: &Floor, pass: &mut Pass, cell: TableCell) -> Next
 #[inline(always)]
 pub(crate) fn set_base(floor: &Floor, pass: &mut Pass, prio: Prio) -> Next
     requires ready { IsReady floor.now pass.old }
-    requires may { 1 ≤ pass.old.view.spare }
+    requires may { HasRoomFor 1 pass.old.view }
     ensures ready { IsReady floor.now pass.new }
     ensures did { MakesAtOnce Unit floor.now.description (RecordOf pass.old.view.thread)
         (λ done. Base prio) (λ done. Done)
@@ -67,7 +69,7 @@ pub(crate) fn set_base(floor: &Floor, pass: &mut Pass, prio: Prio) -> Next
 #[inline(always)]
 pub(crate) fn show(floor: &Floor, pass: &mut Pass) -> Next
     requires ready { IsReady floor.now pass.old }
-    requires may { 1 ≤ pass.old.view.spare }
+    requires may { HasRoomFor 1 pass.old.view }
     ensures ready { IsReady floor.now pass.new }
     ensures did { MakesAtOnce (Priority × Priority) floor.now.description
         (RecordOf pass.old.view.thread)

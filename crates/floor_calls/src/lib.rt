@@ -12,13 +12,15 @@
 //! - `shared`: what the threads of a floor share.
 //! - `stages`: at which stage a thread is between two calls, and what a call answers.
 //! - `requests`: what a caller can ask for, and what may stand against it.
-//! - `thread`: a thread, and what stands against a call of it.
+//! - `thread`: a thread; `against`: what stands against a call of it, cause by cause (`conditions`).
 //! - `calls`: its calls, and `parts`: the parts of locks' calls, of wakes and of the thread's end, over which they
 //!   stand; `waits`: those of waits; and `at_once`: the calls that have no parts.
 #![tactic(auto)]
 
+mod against;
 mod at_once;
 mod calls;
+mod conditions;
 mod opening;
 mod parts;
 mod requests;

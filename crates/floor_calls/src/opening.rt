@@ -5,10 +5,12 @@ ghost use Rattle.floor_calls.specs.Closings.{IsNotGathered, given_back};
 ghost use Rattle.floor_calls.specs.First.{IsFirst};
 ghost use Rattle.floor_calls.specs.Fitting.{Spoils, all_unfit};
 ghost use Rattle.floor_calls.specs.Openings.{first_thread, thread_at_rest, unfit_in};
+ghost use Rattle.floor_calls.specs.Threads.{Stands};
+ghost use Rattle.floor_calls.specs.Threads.{Stands};
 ghost use Rattle.floor_calls.specs.declared.stages.Stage.TheVariants as stages;
 ghost use Rattle.floor_table.specs.Descriptions.{IsSized};
 ghost use Rattle.lock_floor.specs.Closings.{IsClosing};
-ghost use Rattle.lock_floor.specs.Passes.{IsKeeperOf, IsReady};
+ghost use Rattle.lock_floor.specs.Passes.{IsKeeperOf};
 
 use crate::shared::Shared;
 use crate::thread::Thread;
@@ -186,7 +188,7 @@ fn hand_out(
     shared: &Arc<Shared, Global>,
     passes: Vec<Pass>,
 ) -> Result<Vec<Thread>, AllocError>
-    requires { All (λ p. IsReady (arc_value shared.now).floor p) passes.items }
+    requires { All (λ p. Stands (arc_value shared.now).floor stages.AtRest p) passes.items }
     ensures { IfOk result (λ all. all.items
         ≡ map (thread_at_rest (arc_value shared.now).floor) passes.items) }
 {

@@ -1,19 +1,14 @@
 //! The parts of locks' calls and of a thread's end, told in this crate's words, with the thread's stage behind each.
 ghost use Rattle.std.specs.Prelude.{◌≡◌};
 ghost use Rattle.cond_vars.specs.Wakes.{MayWakeUp};
-ghost use Rattle.floor_calls.specs.Calls.{Does, GoesOn, MakesEndPart, MakesPart, MakesTryPart, MakesWakePart};
+ghost use Rattle.floor_calls.specs.Calls.{Does, GoesOn, MakesEndPart, MakesWakePart};
 ghost use Rattle.floor_calls.specs.Causes.{MayCall};
 ghost use Rattle.floor_calls.specs.Stages.{IsInCall, stage_behind};
 ghost use Rattle.floor_calls.specs.Threads.{IsAt, IsEndingAt, thread_at};
+ghost use Rattle.floor_calls.specs.declared.requests.Request.TheVariants as request;
 ghost use Rattle.floor_calls.specs.declared.stages.Stage.TheVariants.{AtRest, Takes, Tries, Releases, Wakes};
-ghost use Rattle.lock_calls.specs.Releases.{HasBegunRelease};
-ghost use Rattle.lock_calls.specs.Steps.{MayRelease, MayTake};
-ghost use Rattle.lock_calls.specs.Takes.{HasBegunTake};
-ghost use Rattle.lock_calls.specs.Tries.{HasBegunTry};
 ghost use Rattle.lock_floor.specs.Passes.{IsReady};
 
-use crate::at_once::{edit, read, set_base, show};
-use crate::requests::Request;
 use crate::stages::{Next, Stage, stage_behind, told, told_of_try};
 use crate::waits::{come_to_give_up, give_up, go_on_in_wait, take_back, wait};
 use cond_vars::{WakeNext, begin_wakeup, go_on_waking};
@@ -23,35 +18,6 @@ use lock_calls::{
 };
 use lock_floor::{Floor, Pass};
 use lock_model::{ChanNo, LockNo, Mode};
-
-// Makes the call that is asked for, which may be made: begins it, or goes on with it. The stage is written only where
-// the thread may come to another one: a take or a release that is done at once leaves it at rest.
-#[inline(always)]
-pub(crate) fn make(floor: &Floor, pass: &mut Pass, stage: &mut Stage, request: Request) -> Next
-    requires one_chain { floor.now.description.chains ≡ 1 }
-    requires there { IsAt floor.now stage.old pass.old }
-    requires may { MayCall request (thread_at floor.now stage.old pass.old) }
-    ensures at { IsAt floor.now stage.new pass.new }
-    ensures does { Does request result (thread_at floor.now stage.old pass.old)
-        (thread_at floor.now stage.new pass.new) }
-{
-    match request {
-        Request::Take { l, mode } => take(floor, pass, stage, l, mode),
-        Request::Try { l, mode } => attempt(floor, pass, stage, l, mode),
-        Request::Release { l, mode } => release(floor, pass, stage, l, mode),
-        Request::Edit { cell, change } => edit(floor, pass, cell, change),
-        Request::Read { cell } => read(floor, pass, cell),
-        Request::SetBase { prio } => set_base(floor, pass, prio),
-        Request::Show => show(floor, pass),
-        Request::WakeUp { c, all } => come_to(stage, wake_up(floor, pass, c, all)),
-        Request::Wait { c } => come_to(stage, wait(floor, pass, c)),
-        Request::End => come_to(stage, end(floor, pass, EndAt::Takes)),
-        Request::GoOn => {
-            let made = go_on(floor, pass, *stage);
-            come_to(stage, made)
-        }
-    }
-}
 
 // Comes to the stage behind a part, and hands on what that answered. It is kept apart from where a lock is free: there
 // nothing of it is read or written.
@@ -67,13 +33,12 @@ fn come_to(stage: &mut Stage, made: (Next, Stage)) -> Next
 
 // Begins a take.
 #[inline(always)]
-fn take(floor: &Floor, pass: &mut Pass, stage: &mut Stage, l: LockNo, mode: Mode) -> Next
-    requires ready { IsReady floor.now pass.old }
-    requires rest { stage.old ≡ AtRest }
-    requires may { MayTake floor.now.description l.0 mode pass.old.view }
+pub(crate) fn take(floor: &Floor, pass: &mut Pass, stage: &mut Stage, l: LockNo, mode: Mode) -> Next
+    requires there { IsAt floor.now stage.old pass.old }
+    requires may { MayCall (request.Take l mode) (thread_at floor.now stage.old pass.old) }
     ensures at { IsAt floor.now stage.new pass.new }
-    ensures did { MakesPart Takes (HasBegunTake floor.now.description l mode)
-        result stage.new pass.old pass.new }
+    ensures does { Does (request.Take l mode) result (thread_at floor.now stage.old pass.old)
+        (thread_at floor.now stage.new pass.new) }
 {
     let part = begin_take(floor, pass, l, mode);
     begun(stage, Stage::Takes, told(part))
@@ -81,13 +46,18 @@ fn take(floor: &Floor, pass: &mut Pass, stage: &mut Stage, l: LockNo, mode: Mode
 
 // Begins a try.
 #[inline(always)]
-fn attempt(floor: &Floor, pass: &mut Pass, stage: &mut Stage, l: LockNo, mode: Mode) -> Next
-    requires ready { IsReady floor.now pass.old }
-    requires rest { stage.old ≡ AtRest }
-    requires may { MayTake floor.now.description l.0 mode pass.old.view }
+pub(crate) fn attempt(
+    floor: &Floor,
+    pass: &mut Pass,
+    stage: &mut Stage,
+    l: LockNo,
+    mode: Mode,
+) -> Next
+    requires there { IsAt floor.now stage.old pass.old }
+    requires may { MayCall (request.Try l mode) (thread_at floor.now stage.old pass.old) }
     ensures at { IsAt floor.now stage.new pass.new }
-    ensures did { MakesTryPart (HasBegunTry floor.now.description l mode)
-        result stage.new pass.old pass.new }
+    ensures does { Does (request.Try l mode) result (thread_at floor.now stage.old pass.old)
+        (thread_at floor.now stage.new pass.new) }
 {
     let part = begin_try(floor, pass, l, mode);
     begun(stage, Stage::Tries, told_of_try(part))
@@ -95,13 +65,18 @@ fn attempt(floor: &Floor, pass: &mut Pass, stage: &mut Stage, l: LockNo, mode: M
 
 // Begins a release.
 #[inline(always)]
-fn release(floor: &Floor, pass: &mut Pass, stage: &mut Stage, l: LockNo, mode: Mode) -> Next
-    requires ready { IsReady floor.now pass.old }
-    requires rest { stage.old ≡ AtRest }
-    requires may { MayRelease floor.now.description l.0 mode pass.old.view }
+pub(crate) fn release(
+    floor: &Floor,
+    pass: &mut Pass,
+    stage: &mut Stage,
+    l: LockNo,
+    mode: Mode,
+) -> Next
+    requires there { IsAt floor.now stage.old pass.old }
+    requires may { MayCall (request.Release l mode) (thread_at floor.now stage.old pass.old) }
     ensures at { IsAt floor.now stage.new pass.new }
-    ensures did { MakesPart Releases (HasBegunRelease floor.now.description l mode)
-        result stage.new pass.old pass.new }
+    ensures does { Does (request.Release l mode) result (thread_at floor.now stage.old pass.old)
+        (thread_at floor.now stage.new pass.new) }
 {
     let part = begin_release(floor, pass, l, mode);
     begun(stage, Stage::Releases, told(part))
@@ -127,6 +102,58 @@ fn begun(stage: &mut Stage, on: Stage, next: Next) -> Next
         | Next::Reversed(_)
         | Next::Halted => come_to(stage, behind(on, next)),
     }
+}
+
+// Begins a wake.
+pub(crate) fn begin_wake(
+    floor: &Floor,
+    pass: &mut Pass,
+    stage: &mut Stage,
+    c: ChanNo,
+    all: bool,
+) -> Next
+    requires there { IsAt floor.now stage.old pass.old }
+    requires may { MayCall (request.WakeUp c all) (thread_at floor.now stage.old pass.old) }
+    ensures at { IsAt floor.now stage.new pass.new }
+    ensures does { Does (request.WakeUp c all) result (thread_at floor.now stage.old pass.old)
+        (thread_at floor.now stage.new pass.new) }
+{
+    come_to(stage, wake_up(floor, pass, c, all))
+}
+
+// Begins a wait.
+pub(crate) fn begin_wait(floor: &Floor, pass: &mut Pass, stage: &mut Stage, c: ChanNo) -> Next
+    requires there { IsAt floor.now stage.old pass.old }
+    requires may { MayCall (request.Wait c) (thread_at floor.now stage.old pass.old) }
+    ensures at { IsAt floor.now stage.new pass.new }
+    ensures does { Does (request.Wait c) result (thread_at floor.now stage.old pass.old)
+        (thread_at floor.now stage.new pass.new) }
+{
+    come_to(stage, wait(floor, pass, c))
+}
+
+// Begins the thread's end.
+pub(crate) fn begin_end(floor: &Floor, pass: &mut Pass, stage: &mut Stage) -> Next
+    requires there { IsAt floor.now stage.old pass.old }
+    requires may { MayCall request.End (thread_at floor.now stage.old pass.old) }
+    ensures at { IsAt floor.now stage.new pass.new }
+    ensures does { Does request.End result (thread_at floor.now stage.old pass.old)
+        (thread_at floor.now stage.new pass.new) }
+{
+    come_to(stage, end(floor, pass, EndAt::Takes))
+}
+
+// Goes on with the call that the thread is in the middle of.
+pub(crate) fn go_on(floor: &Floor, pass: &mut Pass, stage: &mut Stage) -> Next
+    requires one_chain { floor.now.description.chains ≡ 1 }
+    requires there { IsAt floor.now stage.old pass.old }
+    requires may { MayCall request.GoOn (thread_at floor.now stage.old pass.old) }
+    ensures at { IsAt floor.now stage.new pass.new }
+    ensures does { Does request.GoOn result (thread_at floor.now stage.old pass.old)
+        (thread_at floor.now stage.new pass.new) }
+{
+    let made = go_on_at(floor, pass, *stage);
+    come_to(stage, made)
 }
 
 // Begins a wake, or begins it again where another thread had the channel's chain.
@@ -159,7 +186,7 @@ fn end(floor: &Floor, pass: &mut Pass, at: EndAt) -> (Next, Stage)
 }
 
 // Goes on with the call that a thread at that stage is in the middle of.
-fn go_on(floor: &Floor, pass: &mut Pass, stage: Stage) -> (Next, Stage)
+fn go_on_at(floor: &Floor, pass: &mut Pass, stage: Stage) -> (Next, Stage)
     requires one_chain { floor.now.description.chains ≡ 1 }
     requires in_call { IsInCall stage }
     requires there { IsAt floor.now stage pass.old }

@@ -66,8 +66,8 @@ pub enum Cause {
     HoldsMore,
     /// It holds a lock.
     HoldsSome,
-    /// Its log has no room for an entry.
+    /// Its log has no room for an entry beside those that are kept for releases of the locks that it holds.
     Spent,
-    /// Its log has no room for two entries.
+    /// It has none for two entries beside these.
     Short,
 }

@@ -1,6 +1,6 @@
 //! At which stage a thread is between two calls, and what a call answers.
-ghost use Rattle.std.specs.Prelude.{◌≡◌, ◌↔◌, IsTrue};
-ghost use Rattle.floor_calls.specs.Stages.{IsInCall, stage_behind, told, told_of_try};
+ghost use Rattle.std.specs.Prelude.{◌≡◌};
+ghost use Rattle.floor_calls.specs.Stages.{stage_behind, told, told_of_try};
 
 use crate::waits::WaitOn;
 use cond_vars::WaitAt;
@@ -74,26 +74,6 @@ pub enum Next {
     Reversed(Reversal),
     /// Nothing: the sleep of the call was ended by an abort. The lock of a take isn't held then; that of a wait is.
     Halted,
-}
-
-// Whether a thread at that stage is in the middle of a call.
-#[inline(always)]
-pub(crate) fn is_in_call(stage: Stage) -> bool
-    ensures { IsTrue result ↔ IsInCall stage }
-{
-    match stage {
-        Stage::AtRest | Stage::Ended => false,
-        Stage::Takes
-        | Stage::Tries
-        | Stage::Releases
-        | Stage::ComesToWake { .. }
-        | Stage::Wakes
-        | Stage::Waits { .. }
-        | Stage::ComesToGiveUp(_)
-        | Stage::GivesUp { .. }
-        | Stage::TakesBack { .. }
-        | Stage::Ends(_) => true,
-    }
 }
 
 // The stage behind a part of a call of a lock, which was gone on with at that stage.

@@ -45,3 +45,11 @@ pub struct Remains {
     ghost replayed: { (history : List Entry) → IsMerged closing.logs.items history
         → entries closing.tables.present ≡ entries (tables_of (reverse history)) },
 }
+
+// Puts this in place of what a box holds. Letting go of that has a way for each sort of content, and in a call with
+// many clauses each clause would be shown behind each of these ways: so it stands alone.
+pub(crate) fn put_in(content: &mut Content, what: Content)
+    ensures { content.new ≡ what }
+{
+    *content = what;
+}

@@ -6,7 +6,7 @@ ghost use Rattle.lockrun_c.specs.Handles.{has_floor, has_thread};
 ghost use Rattle.lockrun_c.specs.declared.content.Content.TheVariants as contents;
 
 use crate::codes::{DONE, NOT_ENDED, NOT_GATHERED, NOT_OPEN, STILL_SHARED};
-use crate::content::{Content, House, Remains};
+use crate::content::{Content, House, Remains, put_in};
 use crate::handles::{Handle, take, there};
 use floor_calls::{NotClosed, OpenFloor};
 use std::alloc::Global;
@@ -27,11 +27,7 @@ pub extern "C" fn lockrun_gather(alloc: Global, floor: &mut Handle, thread: &mut
     if floor.is_there == 0 || thread.is_there == 0 {
         return NOT_OPEN;
     }
-    let how = floor.how;
-    let mut content = take(floor, alloc);
-    let code = gather(alloc, &mut content, thread);
-    *floor = there(content, how);
-    code
+    gather(alloc, floor.held.as_mut(), thread)
 }
 
 // Takes a handle's thread in, to what a box holds.
@@ -71,7 +67,7 @@ fn gather_in(alloc: Global, floor: &mut OpenFloor, thread: &mut Handle) -> u32
     match taken_in(floor, std::mem::replace(&mut *content, Content::Empty)) {
         Ok(()) => DONE,
         Err((left, code)) => {
-            *content = left;
+            put_in(&mut content, left);
             *thread = there(content, how);
             code
         }
@@ -102,7 +98,7 @@ fn taken_in(floor: &mut OpenFloor, content: Content) -> Result<(), (Content, u32
 
 /// Closes a floor, once all its threads were taken in.
 #[unsafe(no_mangle)]
-pub extern "C" fn lockrun_close(alloc: Global, floor: &mut Handle) -> u32
+pub extern "C" fn lockrun_close(floor: &mut Handle) -> u32
     ensures closed { result ≡ 0 → HasClosed floor.old.held.home floor.new.held.home }
     ensures not_open { result ≡ 17 → IsFalse (has_floor floor.old.held.home) }
     ensures not_gathered { result ≡ 22 → LacksThread floor.old.held.home }
@@ -111,11 +107,7 @@ pub extern "C" fn lockrun_close(alloc: Global, floor: &mut Handle) -> u32
     if floor.is_there == 0 {
         return NOT_OPEN;
     }
-    let how = floor.how;
-    let mut content = take(floor, alloc);
-    let code = close(&mut content);
-    *floor = there(content, how);
-    code
+    close(floor.held.as_mut())
 }
 
 // Closes the floor that a box holds.

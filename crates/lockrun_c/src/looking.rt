@@ -7,13 +7,12 @@ ghost use Rattle.lockrun_c.specs.declared.content.Content.TheVariants as content
 
 use crate::codes::{Cell, DONE, NO_KEY, NOT_OPEN, SLEEP, byte_of};
 use crate::content::Content;
-use crate::handles::{Handle, take, there};
+use crate::handles::Handle;
 use lock_model::LockNo;
-use std::alloc::Global;
 
 /// The number of a thread among its floor's.
 #[unsafe(no_mangle)]
-pub extern "C" fn lockrun_number(alloc: Global, thread: &mut Handle, number: &mut u32) -> u32
+pub extern "C" fn lockrun_number(thread: &mut Handle, number: &mut u32) -> u32
     ensures told { result ≡ 0 → (x : Seen) × (thread.old.held.home ≡ Some (contents.Thread x))
         × (number.new ≡ x.pass.view.thread) }
     ensures not_open { result ≢ 0 → IsFalse (has_thread thread.old.held.home) }
@@ -23,11 +22,7 @@ pub extern "C" fn lockrun_number(alloc: Global, thread: &mut Handle, number: &mu
     if thread.is_there == 0 {
         return NOT_OPEN;
     }
-    let how = thread.how;
-    let content = take(thread, alloc);
-    let code = number_of(&content, number);
-    *thread = there(content, how);
-    code
+    number_of(thread.held.as_mut(), number)
 }
 
 fn number_of(content: &Content, number: &mut u32) -> u32
@@ -45,20 +40,46 @@ fn number_of(content: &Content, number: &mut u32) -> u32
     }
 }
 
+/// How many entries a thread's log still has room for.
+#[unsafe(no_mangle)]
+pub extern "C" fn lockrun_spare(thread: &mut Handle, entries: &mut u32) -> u32
+    ensures told { result ≡ 0 → (x : Seen) × (thread.old.held.home ≡ Some (contents.Thread x))
+        × (entries.new ≡ x.pass.view.spare) }
+    ensures not_open { result ≢ 0 → IsFalse (has_thread thread.old.held.home) }
+    ensures refused { result ≢ 0 → entries.new ≡ entries.old }
+    ensures unchanged { thread.new.held.home ≡ thread.old.held.home }
+{
+    if thread.is_there == 0 {
+        return NOT_OPEN;
+    }
+    spare_of(thread.held.as_mut(), entries)
+}
+
+fn spare_of(content: &Content, entries: &mut u32) -> u32
+    ensures told { result ≡ 0 → (x : Seen) × (content.now ≡ contents.Thread x)
+        × (entries.new ≡ x.pass.view.spare) }
+    ensures not_open { result ≢ 0 → IsFalse (has_thread (Some content.now)) }
+    ensures refused { result ≢ 0 → entries.new ≡ entries.old }
+{
+    match content {
+        Content::Thread(thread) => {
+            *entries = thread.spare();
+            DONE
+        }
+        Content::Empty | Content::Open(_) | Content::Closed(_) | Content::World(_) => NOT_OPEN,
+    }
+}
+
 /// Whether a thread whose call answered that it is to sleep is still to sleep, by its wait word.
 #[unsafe(no_mangle)]
-pub extern "C" fn lockrun_is_queued(alloc: Global, thread: &mut Handle) -> u32
+pub extern "C" fn lockrun_is_queued(thread: &mut Handle) -> u32
     ensures not_open { result ≡ 17 → IsFalse (has_thread thread.old.held.home) }
     ensures unchanged { thread.new.held.home ≡ thread.old.held.home }
 {
     if thread.is_there == 0 {
         return NOT_OPEN;
     }
-    let how = thread.how;
-    let content = take(thread, alloc);
-    let code = queued(&content);
-    *thread = there(content, how);
-    code
+    queued(thread.held.as_mut())
 }
 
 fn queued(content: &Content) -> u32
@@ -73,7 +94,6 @@ fn queued(content: &Content) -> u32
 /// The cell at a key of a lock's table, on the floor of a thread.
 #[unsafe(no_mangle)]
 pub extern "C" fn lockrun_find_cell(
-    alloc: Global,
     thread: &mut Handle,
     lock: u32,
     key: u64,
@@ -88,11 +108,7 @@ pub extern "C" fn lockrun_find_cell(
     if thread.is_there == 0 {
         return NOT_OPEN;
     }
-    let how = thread.how;
-    let content = take(thread, alloc);
-    let code = find_cell(&content, lock, key, cell);
-    *thread = there(content, how);
-    code
+    find_cell(thread.held.as_mut(), lock, key, cell)
 }
 
 // So in what a box holds.

@@ -9,7 +9,7 @@ use floor_calls::{NotOpened, Unfit};
 use std::alloc::{AllocError, AllocFailed};
 
 /// Why a floor isn't opened.
-#[derive(Clone, Copy, Debug, PartialEq, Eq)]
+#[derive(Clone, Copy)]
 pub enum Refused {
     /// The rows describe none.
     Rows(Misfit),
@@ -18,7 +18,7 @@ pub enum Refused {
 }
 
 /// Why rows describe no floor.
-#[derive(Clone, Copy, Debug, PartialEq, Eq)]
+#[derive(Clone, Copy)]
 pub enum Misfit {
     /// Memory was wanting.
     Memory,

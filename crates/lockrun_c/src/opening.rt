@@ -1,5 +1,5 @@
 //! How C opens a floor, and gets the handles of its threads.
-ghost use Rattle.std.specs.Prelude.{◌≡◌, ◌≢◌, ◌⊎◌, Some, None, [], map, IfErr, IfOk, IsFalse};
+ghost use Rattle.std.specs.Prelude.{◌≡◌, ◌≢◌, ◌⊎◌, ◌<◌, Some, None, [], map, vec_len, IfErr, IfOk, IfSome, IsFalse};
 ghost use Rattle.lockrun_c.specs.Endings.{HandsOut, HasHandedOut, HasNoneWaiting};
 ghost use Rattle.lockrun_c.specs.Handles.{has_floor};
 ghost use Rattle.lockrun_c.specs.Misfits.{code_of_unfit};
@@ -10,8 +10,8 @@ ghost use Rattle.floor_calls.specs.Threads.{Thread};
 ghost use Rattle.floor_calls.specs.declared.unfit.Unfit.{Unfit};
 
 use crate::codes::{DONE, IS_OPEN, NO_MEMORY, NO_THREAD, NOT_OPEN, byte_of};
-use crate::content::{Content, House};
-use crate::handles::{Handle, take, there};
+use crate::content::{Content, House, put_in};
+use crate::handles::{Handle, there};
 use crate::misfits::{Refused, code_of_refused};
 use crate::naming::plan_of;
 use crate::rows::{ChanRow, KeyRow, LockRow, ThreadRow};
@@ -155,11 +155,7 @@ pub extern "C" fn lockrun_next_thread(alloc: Global, floor: &mut Handle, thread:
     if thread.is_there != 0 {
         return IS_OPEN;
     }
-    let how = floor.how;
-    let mut content = take(floor, alloc);
-    let code = hand_out(alloc, &mut content, thread);
-    *floor = there(content, how);
-    code
+    hand_out(alloc, floor.held.as_mut(), thread)
 }
 
 // Gives the next thread of what a box holds to its handle.
@@ -190,16 +186,34 @@ fn hand_out_of(alloc: Global, house: &mut House, thread: &mut Handle) -> u32
     if house.waiting.is_empty() {
         return NO_THREAD;
     }
-    let how = thread.how;
-    match Box::new(alloc, Content::Empty) {
-        Err(_) => NO_MEMORY,
-        Ok(mut content) => match house.waiting.pop() {
-            None => unreachable!(),
-            Some(next) => {
-                *content = Content::Thread(next);
-                *thread = there(content, how);
-                DONE
-            }
-        },
+    match empty_box(alloc) {
+        None => NO_MEMORY,
+        Some(content) => {
+            hand_next(house, content, thread);
+            DONE
+        }
+    }
+}
+
+// A box that holds nothing yet, where there is memory for one.
+fn empty_box(alloc: Global) -> Option<Box<Content>>
+    ensures { IfSome result (λ b. b.value ≡ contents.Empty) }
+{
+    Box::new(alloc, Content::Empty).ok()
+}
+
+// Gives the next of a floor's threads to its handle, in this box.
+fn hand_next(house: &mut House, mut content: Box<Content>, thread: &mut Handle)
+    requires { 0 < vec_len house.old.waiting }
+    ensures { (x : Thread) × HandsOut house.old house.new x
+        × (thread.new.held.home ≡ Some (contents.Thread x)) }
+{
+    match house.waiting.pop() {
+        None => unreachable!(),
+        Some(next) => {
+            put_in(&mut content, Content::Thread(next));
+            let how = thread.how;
+            *thread = there(content, how);
+        }
     }
 }

@@ -5,7 +5,7 @@ ghost use Rattle.lockrun_c.specs.Printing.{HasPrinted, IsLonger, IsTextOf};
 
 use crate::codes::{DONE, NO_MEMORY, NO_SPACE, NOT_CLOSED};
 use crate::content::{Content, Remains};
-use crate::handles::{Handle, take, there};
+use crate::handles::Handle;
 use floor_ends::outcome_of;
 use lock_history::print;
 use std::alloc::{AllocError, Global};
@@ -27,11 +27,7 @@ pub extern "C" fn lockrun_print(
     if floor.is_there == 0 {
         return NOT_CLOSED;
     }
-    let how = floor.how;
-    let content = take(floor, alloc);
-    let code = print_content(alloc, &content, out, written);
-    *floor = there(content, how);
-    code
+    print_content(alloc, floor.held.as_mut(), out, written)
 }
 
 fn print_content(alloc: Global, content: &Content, out: &mut [u8], written: &mut usize) -> u32

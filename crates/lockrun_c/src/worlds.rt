@@ -13,7 +13,7 @@ mod numbers;
 use crate::codes::{DONE, IS_OPEN, NO_MEMORY, byte_of};
 use crate::content::Content;
 use crate::ending::let_go;
-use crate::handles::{Handle, take, there};
+use crate::handles::{Handle, there};
 use crate::printing::put;
 pub(crate) use numbers::{NO_RANGE, TOO_BIG};
 use numbers::{NO_SCRIPT, NO_SUCH, NO_WORLD, ScriptFaultTold, ThreadTold, told_of, turn_number};
@@ -82,12 +82,7 @@ fn tell_why(why: NotOpened, fault: &mut ScriptFaultTold) -> u32
 
 /// A thread of the world has a turn, and what became of it is told.
 #[unsafe(no_mangle)]
-pub extern "C" fn lockrun_world_turn(
-    alloc: Global,
-    world: &mut Handle,
-    thread: u32,
-    did: &mut u32,
-) -> u32
+pub extern "C" fn lockrun_world_turn(world: &mut Handle, thread: u32, did: &mut u32) -> u32
     ensures turned { result ≡ 0
         → HasTurned thread world.old.held.home world.new.held.home did.new }
     ensures no_world { result ≡ 29 → IsFalse (has_world world.old.held.home) }
@@ -98,11 +93,7 @@ pub extern "C" fn lockrun_world_turn(
     if world.is_there == 0 {
         return NO_WORLD;
     }
-    let how = world.how;
-    let mut content = take(world, alloc);
-    let code = turn(&mut content, thread, did);
-    *world = there(content, how);
-    code
+    turn(world.held.as_mut(), thread, did)
 }
 
 // So in what a box holds.
@@ -143,7 +134,6 @@ fn turn_in(content: &mut Content, world: OpenWorld, t: u8, did: &mut u32) -> u32
 /// Tells what a thread of the world is between two turns.
 #[unsafe(no_mangle)]
 pub extern "C" fn lockrun_world_thread(
-    alloc: Global,
     world: &mut Handle,
     thread: u32,
     told: &mut ThreadTold,
@@ -157,11 +147,7 @@ pub extern "C" fn lockrun_world_thread(
     if world.is_there == 0 {
         return NO_WORLD;
     }
-    let how = world.how;
-    let mut content = take(world, alloc);
-    let code = tell_thread(&mut content, thread, told);
-    *world = there(content, how);
-    code
+    tell_thread(world.held.as_mut(), thread, told)
 }
 
 // So in what a box holds.
@@ -215,11 +201,7 @@ pub extern "C" fn lockrun_world_print(
     if world.is_there == 0 {
         return NO_WORLD;
     }
-    let how = world.how;
-    let mut content = take(world, alloc);
-    let code = print_world(alloc, &mut content, out, written);
-    *world = there(content, how);
-    code
+    print_world(alloc, world.held.as_mut(), out, written)
 }
 
 // So of what a box holds.

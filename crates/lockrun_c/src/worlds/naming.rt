@@ -6,14 +6,13 @@ ghost use Rattle.lockrun_c.specs.Worlds.{HasCounted, HasNamed, HasNoSuchName, co
 use super::numbers::{Counts, NO_SUCH, NO_WORLD, NameTold};
 use crate::codes::DONE;
 use crate::content::Content;
-use crate::handles::{Handle, take, there};
+use crate::handles::Handle;
 use lock_model::limits::NAME_BYTES;
 use lock_model::{Name, Plan};
-use std::alloc::Global;
 
 /// Tells how many threads, locks, and condition variables and channels a world has.
 #[unsafe(no_mangle)]
-pub extern "C" fn lockrun_world_count(alloc: Global, world: &mut Handle, counts: &mut Counts) -> u32
+pub extern "C" fn lockrun_world_count(world: &mut Handle, counts: &mut Counts) -> u32
     ensures told { result ≡ 0 → HasCounted world.old.held.home counts.new }
     ensures no_world { result ≡ 29 → IsFalse (has_world world.old.held.home) }
     ensures untold { result ≢ 0 → counts.new ≡ counts.old }
@@ -22,11 +21,7 @@ pub extern "C" fn lockrun_world_count(alloc: Global, world: &mut Handle, counts:
     if world.is_there == 0 {
         return NO_WORLD;
     }
-    let how = world.how;
-    let content = take(world, alloc);
-    let code = count(&content, counts);
-    *world = there(content, how);
-    code
+    count(world.held.as_mut(), counts)
 }
 
 // So of what a box holds.
@@ -57,7 +52,6 @@ fn counts_of(plan: &Plan) -> Counts
 /// Tells the name of a thread, lock or channel of a world: its bytes, and 0 behind them where they are fewer than 16.
 #[unsafe(no_mangle)]
 pub extern "C" fn lockrun_world_name(
-    alloc: Global,
     world: &mut Handle,
     sort: u32,
     number: u32,
@@ -72,11 +66,7 @@ pub extern "C" fn lockrun_world_name(
     if world.is_there == 0 {
         return NO_WORLD;
     }
-    let how = world.how;
-    let content = take(world, alloc);
-    let code = tell_name(&content, sort, number, name);
-    *world = there(content, how);
-    code
+    tell_name(world.held.as_mut(), sort, number, name)
 }
 
 // So of what a box holds.

@@ -4,9 +4,9 @@ use Rattle.std.specs.Arc.{arc_value}
 use Rattle.std.specs.Vec.Iter.{into_iter_items}
 use Rattle.floor_table.specs.Views.{Knowledge}
 use Rattle.lock_floor.specs.Floors.{Pass}
-use Rattle.lock_floor.specs.Passes.{IsReady}
 use Rattle.floor_calls.specs.Openings.{thread_at_rest}
-use Rattle.floor_calls.specs.Threads.{Thread}
+use Rattle.floor_calls.specs.Threads.{Stands, Thread}
+use Rattle.floor_calls.specs.declared.stages.Stage.TheVariants.{AtRest}
 use Rattle.floor_calls.specs.declared.shared.Shared.{Shared}
 use Rattle.floor_calls.proofs.opening.hand_out.Goals as goal
 
@@ -27,8 +27,8 @@ loop-pass-preserved c =
           ∙ append_assoc at.all.items (thread_at_rest f p ∷ []) (map (thread_at_rest f) rest)
           ∙ ap (λ (ps : List (Pass Knowledge)). at.all.items ++ map (thread_at_rest f) ps) (sym steps)
           ∙ at.invariant.handed;
-      ready = All-tail (λ (q : Pass Knowledge). IsReady f q) p rest
-          (subst (All (λ (q : Pass Knowledge). IsReady f q)) steps at.invariant.ready);
+      stand = All-tail (λ (q : Pass Knowledge). Stands f AtRest q) p rest
+          (subst (All (λ (q : Pass Knowledge). Stands f AtRest q)) steps at.invariant.stand);
       long =
           let was = at.invariant.long in
           let gone = c.in-Some.ensures.steps.1 in

@@ -3,14 +3,14 @@ use Rattle.std.specs.Arc.{arc_value}
 use Rattle.std.specs.Prelude.{slice_index_or}
 use Rattle.floor_calls.specs.Openings.{first_thread}
 use Rattle.floor_calls.specs.Threads.{Thread}
-use Rattle.floor_calls.proofs.Opened.{are_first, ready_all, threads_all}
+use Rattle.floor_calls.proofs.Opened.{are_first, stand_all, threads_all}
 use Rattle.floor_calls.proofs.opening.make.Goals as goal
 
 pub hand_out-requires : goal.hand_out-requires
 hand_out-requires c =
     let f = (arc_value c.in_ok-shared.shared).floor in
     let of = c.in_ok-floor.ensures in
-    ready_all f c.in_ok-floor.passes.items
+    stand_all f c.in_ok-floor.passes.items
     (are_first f c.in_ok-floor.floor c.args.description c.in_ok-floor.passes.items
     (ap (λ s. s.floor) c.in_ok-shared.ensures) of.description of.count of.passes)
 

@@ -13,8 +13,8 @@ returns-clause-at c =
     subst (λ (s : Stage). IsAt f s part.new.pass) (sym (c.begun.ensures.stands ∙ ap (stage_behind Tries) c.told_of_try.ensures))
     (try_begins f c.args.pass.now part.new.pass part.ensures.own c.args.l c.args.mode part.result part.ensures.begun)
 
-pub returns-clause-did : goal.returns-clause-did
-returns-clause-did c =
+pub returns-clause-does : goal.returns-clause-does
+returns-clause-does c =
     let part = c.begin_try-part in
     record {
       part = part.result;

@@ -1,12 +1,11 @@
-use Rattle.std.proofs.Common.{Some, sym, ap, ◌∙◌}
+use Rattle.std.proofs.Common.{Some, sym, subst}
+use Rattle.lockrun_c.specs.Endings.{HasClosed, LacksThread}
 use Rattle.lockrun_c.proofs.ending.lockrun_close.Goals as goal
 
 pub returns-clause-closed : goal.returns-clause-closed
 returns-clause-closed c = λ z.
-    let g = c.close-code.ensures.closed z in
-    (g.0, g.1, c.take-content.ensures.taken ∙ ap Some (sym c.deref_mut.ensures.value) ∙ g.2, c.there.ensures ∙ g.3, g.4)
+    subst (λ h. HasClosed h (Some c.close.new.content)) (sym c.as_mut.ensures.value) (c.close.ensures.closed z)
 
 pub returns-clause-not_gathered : goal.returns-clause-not_gathered
 returns-clause-not_gathered c = λ z.
-    let g = c.close-code.ensures.not_gathered z in
-    (g.0, c.take-content.ensures.taken ∙ ap Some (sym c.deref_mut.ensures.value) ∙ g.1, g.2)
+    subst LacksThread (sym c.as_mut.ensures.value) (c.close.ensures.not_gathered z)

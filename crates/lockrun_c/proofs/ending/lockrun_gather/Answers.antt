@@ -1,8 +1,8 @@
-use Rattle.std.proofs.Common.{Some, sym, ap, ◌∙◌}
+use Rattle.std.proofs.Common.{Some, sym, subst}
+use Rattle.lockrun_c.specs.Endings.{HasGathered}
 use Rattle.lockrun_c.proofs.ending.lockrun_gather.Goals as goal
 
 pub returns-clause-gathered : goal.returns-clause-gathered
 returns-clause-gathered c = λ z.
-    let g = c.gather-code.ensures.gathered z in
-    let had = c.take-content.ensures.taken ∙ ap Some (sym c.deref_mut.ensures.value) in
-    (g.0, g.1, g.2, had ∙ g.3, c.there.ensures ∙ g.4, g.5, g.6, g.7)
+    subst (λ h. HasGathered h (Some c.gather.new.content) c.args.thread.now.held.home)
+    (sym c.as_mut.ensures.value) (c.gather.ensures.gathered z)

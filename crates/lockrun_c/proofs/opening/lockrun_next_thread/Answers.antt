@@ -1,13 +1,12 @@
-use Rattle.std.proofs.Common.{Some, sym, ap, ◌∙◌}
+use Rattle.std.proofs.Common.{Some, sym, subst}
+use Rattle.lockrun_c.specs.Endings.{HasHandedOut, HasNoneWaiting}
 use Rattle.lockrun_c.proofs.opening.lockrun_next_thread.Goals as goal
 
 pub returns-clause-handed_out : goal.returns-clause-handed_out
 returns-clause-handed_out c = λ z.
-    let g = c.hand_out-code.ensures.handed_out z in
-    let had = c.take-content.ensures.taken ∙ ap Some (sym c.deref_mut.ensures.value) in
-    (g.0, g.1, g.2, had ∙ g.3, c.there.ensures ∙ g.4, g.5, g.6)
+    subst (λ h. HasHandedOut h (Some c.hand_out.new.content) c.hand_out.new.thread.held.home)
+    (sym c.as_mut.ensures.value) (c.hand_out.ensures.handed_out z)
 
 pub returns-clause-no_thread : goal.returns-clause-no_thread
 returns-clause-no_thread c = λ z.
-    let g = c.hand_out-code.ensures.no_thread z in
-    (g.0, c.take-content.ensures.taken ∙ ap Some (sym c.deref_mut.ensures.value) ∙ g.1, g.2)
+    subst HasNoneWaiting (sym c.as_mut.ensures.value) (c.hand_out.ensures.no_thread z)

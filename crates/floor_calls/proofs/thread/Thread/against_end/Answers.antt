@@ -1,16 +1,6 @@
-use Rattle.floor_calls.proofs.Tests.{at_first, behind, past, within}
-use Rattle.floor_calls.specs.First.{none}
+use Rattle.floor_calls.proofs.Chains.{no_more, past_two}
+use Rattle.floor_calls.proofs.Tests.{behind}
 use Rattle.floor_calls.proofs.thread.Thread.against_end.Goals as goal
 
-pub returns-in-Some : goal.returns-in-Some
-returns-in-Some c = within _ c.in-Some.ensures
-
-pub returns-then-is_so : goal.returns-then-is_so
-returns-then-is_so c =
-    past c.in_default.ensures
-    (at_first c.is_so.ensures c.if-is_so.true)
-
 pub returns : goal.returns
-returns c =
-    past c.in_default.ensures
-    (behind c.is_so.ensures c.if-is_so.false none)
+returns c = past_two c.in_default.ensures (behind c.holds_some.ensures c.if-holds_some.false no_more)
