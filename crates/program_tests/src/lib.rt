@@ -6,7 +6,7 @@
 //! - `pictures`: calls of `lockchart`, and what a renderer is given.
 //! - `turns`: what each turn of a scheduled run answers.
 //! - `rows`: what each thing of a scheduled run is between turns.
-//! - `mutexes`: the calls of mutexes on a floor, and `sx_locks`: those of sx locks.
+//! - `mutexes`: the calls of mutexes on a floor, `sx_locks`: those of sx locks, and `floors`: that floor.
 //! - `threads`: running threads that meet, and `barrier`, a gate at which all of them do.
 //! - `sleepers`: running threads that sleep, and `holding`, a gate that holds one until others sleep.
 #![tactic(auto)]
@@ -15,6 +15,8 @@
 mod barrier;
 #[cfg(test)]
 mod fixtures;
+#[cfg(test)]
+mod floors;
 #[cfg(test)]
 mod holding;
 #[cfg(test)]

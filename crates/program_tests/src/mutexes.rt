@@ -1,17 +1,15 @@
 //! The calls of mutexes on a floor: a try finds a mutex held, and free; and those who find one held lend their priority
 //! along the chain of owners, and sleep until a release has woken them.
-ghost use Rattle.std.specs.Prelude.{◌≡◌, ℕ, ◌<◌, ◌≤◌, [], length, slice_index_or, IfOk};
+ghost use Rattle.std.specs.Prelude.{◌≡◌, ℕ, ◌<◌, ◌≤◌, [], length, slice_index_or};
 ghost use Rattle.lock_model.specs.Holds.{Holds};
 ghost use Rattle.lock_model.specs.Operations.{hold_in};
 ghost use Rattle.lock_model.specs.declared.plan.Mode.TheVariants.{Excl};
 ghost use Rattle.adaptive_mutex.specs.Mutexes.{IsMutex};
-ghost use Rattle.floor_table.specs.Descriptions.{room_for, IsSized};
-ghost use Rattle.lock_floor.specs.Passes.{IsReady, first_pass};
+ghost use Rattle.lock_floor.specs.Passes.{IsReady};
 
+use crate::floors::{HIGH, LOW, M, N, description, floor};
 use adaptive_mutex::{lock, try_lock, unlock};
-use floor_table::{Description, LockPart, ThreadPart};
 use lock_floor::{Floor, Pass};
-use lock_model::{Busy, ClassNo, Kind, LockNo, Prio, Sequence};
 use std::alloc::Global;
 use std::rt::Clock;
 use std::sync::Wait;
@@ -21,36 +19,46 @@ use std::thread;
 use std::thread::Threads;
 use std::time::Duration;
 
-const M: LockNo = LockNo(0);
-
-const N: LockNo = LockNo(1);
-
-// The priorities of the three threads, each better than the one before.
-const LOW: Prio = Prio(200);
-
-const MEDIUM: Prio = Prio(100);
-
-const HIGH: Prio = Prio(50);
-
 // How often low shows its priority at most, and how often a thread looks how far another one is.
 const SHOWS: u32 = 1_000;
 
 // For how long a thread gives way to others in between, in milliseconds.
 const PAUSE: u64 = 5;
 
-// The word of a held mutex has bit 2, and from bit 3 on the number of who holds it.
 #[test]
 fn a_try_tells_who_holds_the_mutex(rt: HostRuntime) -> Result<(), Fail> {
-    let (floor, mut first, mut second) = floor(rt.alloc())?;
-    lock(&floor, &rt, &mut first, M).unwrap();
-    let Err(held) = try_lock(&floor, &mut second, M) else {
-        return Err("a try gained a mutex that is held".into());
-    };
-    assert!(rt; held.seen == 4);
-    unlock(&floor, &rt, &mut first, M);
-    assert!(rt; try_lock(&floor, &mut second, M).is_ok());
-    assert!(rt; try_lock(&floor, &mut first, M) == Err(Busy { seen: 12 }));
+    assert!(rt; tries_tell(&rt, rt.alloc())?);
     Ok(())
+}
+
+fn tries_tell<R: Wait>(rt: &R, alloc: Global) -> Result<bool, Fail> {
+    let (floor, mut first, mut second) = floor(alloc)?;
+    Ok(each_is_told(rt, &floor, &mut first, &mut second))
+}
+
+// Whether a try tells the second thread that the first one holds m, and one tells the first that the second does; in
+// between m is released, and a try gains it. The word of a held mutex has bit 2, and from bit 3 on the number of who
+// holds it.
+fn each_is_told<R: Wait>(rt: &R, floor: &Floor, first: &mut Pass, second: &mut Pass) -> bool
+    requires m { IsMutex floor.now.description 0 }
+    requires one_chain { floor.now.description.chains ≡ 1 }
+    requires first { IsReady floor.now first.old × (first.old.view.share.held ≡ [])
+        × (1003 ≤ first.old.view.spare) }
+    requires second { IsReady floor.now second.old × (second.old.view.share.held ≡ [])
+        × (1003 ≤ second.old.view.spare) }
+{
+    lock(floor, rt, first, M).unwrap();
+    let Err(by_first) = try_lock(floor, second, M) else {
+        return false;
+    };
+    unlock(floor, rt, first, M);
+    if try_lock(floor, second, M).is_err() {
+        return false;
+    }
+    let Err(by_second) = try_lock(floor, first, M) else {
+        return false;
+    };
+    by_first.seen == 4 && by_second.seen == 12
 }
 
 // Low holds m, medium holds n and waits for m, and high waits for n. Low releases m only once it has high's priority,
@@ -221,62 +229,4 @@ fn come_behind<R: Clock>(rt: &R, other: &AtomicBool) {
 // Gives the processor to others for a while.
 fn give_way<R: Clock>(rt: &R) {
     thread::sleep(rt, Duration::from_millis(PAUSE));
-}
-
-// A floor of two mutexes and three threads, which is made for no script, and the passes of the first two.
-fn floor(alloc: Global) -> Result<(Floor, Pass, Pass), Fail>
-    ensures mutex { IfOk result (λ made. IsMutex made.0.description 0) }
-    ensures one_chain { IfOk result (λ made. made.0.description.chains ≡ 1) }
-    ensures first_room { IfOk result (λ made. room_for made.0.description 0 ≡ 1003) }
-    ensures second_room { IfOk result (λ made. room_for made.0.description 1 ≡ 1003) }
-    ensures first { IfOk result (λ made.
-        made.1 ≡ first_pass made.0.table made.0.description 0) }
-    ensures second { IfOk result (λ made.
-        made.2 ≡ first_pass made.0.table made.0.description 1) }
-{
-    let description = description(alloc)?;
-    let (floor, _keeper, mut passes) = Floor::of_description(alloc, description)?;
-    let _third = passes.pop();
-    match (passes.pop(), passes.pop()) {
-        (Some(second), Some(first)) => Ok((floor, first, second)),
-        (_, None) | (None, _) => Err("a thread has no pass".into()),
-    }
-}
-
-// Two mutexes, and three threads with room for 1,003 entries each.
-fn description(alloc: Global) -> Result<Description, Fail>
-    ensures sized { IfOk result IsSized }
-    ensures m { IfOk result (λ floor. IsMutex floor 0) }
-    ensures n { IfOk result (λ floor. IsMutex floor 1) }
-    ensures one_chain { IfOk result (λ floor. floor.chains ≡ 1) }
-    ensures threads { IfOk result (λ floor. length floor.threads ≡ 3) }
-    ensures room { IfOk result (λ floor. (t : ℕ) → t < 3 → room_for floor t ≡ 1003) }
-{
-    let low = ThreadPart {
-        base: LOW,
-        room: 1_003,
-    };
-    let medium = ThreadPart {
-        base: MEDIUM,
-        room: 1_003,
-    };
-    let high = ThreadPart {
-        base: HIGH,
-        room: 1_003,
-    };
-    let m = LockPart {
-        kind: Kind::Mtx,
-        class: ClassNo(0),
-    };
-    let n = LockPart {
-        kind: Kind::Mtx,
-        class: ClassNo(1),
-    };
-    Ok(Description {
-        threads: Sequence::from_vec(vec![in alloc; low, medium, high]?),
-        locks: Sequence::from_vec(vec![in alloc; m, n]?),
-        chans: Sequence::from_vec(Vec::new(alloc)),
-        keys: Sequence::from_vec(Vec::new(alloc)),
-        chains: 1,
-    })
 }

@@ -1,10 +1,10 @@
 //! Logs, histories and tables, and printed texts.
-use crate::briefs::plan_of;
+use crate::briefs::{is_joined, plan_of};
 use lock_history::{History, Last, Log, Outcome, QueueLine, Tables, merge, print, print_fault};
 use lock_model::{
-    ChanNo, ClassNo, Entry, Event, LockNo, Mode, Prio, QueueName, Sequence, ThreadNo,
+    ChanNo, ClassNo, Entry, Event, LockNo, Mode, Plan, Prio, QueueName, Sequence, ThreadNo,
 };
-use std::alloc::Global;
+use std::alloc::{AllocError, Global};
 use std::test::Fail;
 
 // The thread t sets a key of the mutex m and reads it.
@@ -67,50 +67,73 @@ const EDITS: &[(Event, u64, u64)] = &[
 #[test]
 fn edits(rt: HostRuntime) -> Result<(), Fail> {
     let plan = plan_of(rt.alloc(), PLAN)?;
-    assert!(rt; plan.keys_of(rt.alloc(), M)?.as_slice() == [1].as_slice());
-    let mut tables = Tables::make(rt.alloc(), &plan)?;
-    assert!(rt; tables.get(M, 1) == None);
-    for (event, key, value) in EDITS {
-        tables.edit(*event)?;
-        assert!(rt; tables.get(M, *key) == Some(*value), "{value} at {key}");
-        assert!(rt; tables.at(0) == Some((M, 1, 5)));
-    }
+    assert!(rt; names_one_key(rt.alloc(), &plan)?);
+    let tables = Tables::make(rt.alloc(), &plan)?;
+    assert!(rt; are_edited(tables)?);
     Ok(())
+}
+
+fn names_one_key(alloc: Global, plan: &Plan) -> Result<bool, AllocError> {
+    Ok(plan.keys_of(alloc, M)?.as_slice() == [1].as_slice())
+}
+
+// Whether tables without a key have, behind each edit, the value that belongs to it, and m's key 1 first.
+fn are_edited(empty: Tables) -> Result<bool, AllocError> {
+    let mut tables = empty;
+    let mut edited = tables.get(M, 1) == None;
+    for &(event, key, value) in EDITS {
+        tables.edit(event)?;
+        edited = edited && has_values(&tables, key, value);
+    }
+    Ok(edited)
+}
+
+fn has_values(tables: &Tables, key: u64, value: u64) -> bool {
+    tables.get(M, key) == Some(value) && tables.at(0) == Some((M, 1, 5))
 }
 
 // A copy keeps the values that it has when the tables are edited that it was made of.
 #[test]
 fn a_copy_of_tables(rt: HostRuntime) -> Result<(), Fail> {
-    let mut tables = Tables::with_room(rt.alloc(), &[])?;
-    tables.edit(Event::Set {
-        l: M,
-        key: 1,
-        value: 5,
-    })?;
-    let copy = tables.clone()?;
-    tables.edit(Event::Set {
-        l: M,
-        key: 1,
-        value: 6,
-    })?;
-    assert!(rt; (tables.get(M, 1), copy.get(M, 1)) == (Some(6), Some(5)));
+    let tables = Tables::with_room(rt.alloc(), &[])?;
+    assert!(rt; are_copied(tables)?);
     Ok(())
 }
 
+fn are_copied(empty: Tables) -> Result<bool, AllocError> {
+    let mut tables = empty;
+    tables.edit(set_to(5))?;
+    let copy = tables.clone()?;
+    tables.edit(set_to(6))?;
+    Ok((tables.get(M, 1), copy.get(M, 1)) == (Some(6), Some(5)))
+}
+
+fn set_to(value: u64) -> Event {
+    Event::Set {
+        l: M,
+        key: 1,
+        value,
+    }
+}
+
+const WOKE: Entry = Entry {
+    ticket: 0,
+    thread: T,
+    event: Event::Woke { c: V },
+};
+
 #[test]
 fn a_log_and_its_history(rt: HostRuntime) -> Result<(), Fail> {
-    let first = Entry {
-        ticket: 0,
-        thread: T,
-        event: Event::Woke { c: V },
-    };
     let mut log = Log::make(rt.alloc(), 2)?;
-    log.put(first);
+    log.put(WOKE);
     assert!(rt; (log.len(), log.spare()) == (1, 1));
-    let history = History::of_log(log);
-    assert!(rt; (history.len(), history.at(0), history.at(1)) == (1, Some(first), None));
-    assert!(rt; history.as_slice() == [first].as_slice());
+    assert!(rt; has_one(&History::of_log(log)));
     Ok(())
+}
+
+fn has_one(history: &History) -> bool {
+    (history.len(), history.at(0), history.at(1)) == (1, Some(WOKE), None)
+        && history.as_slice() == [WOKE].as_slice()
 }
 
 // Each kind of event, with its words behind the thread's name.
@@ -222,19 +245,24 @@ const QUEUES: &[Queue] = &[
     (QueueName::Chan(V), &[], SLEEPER, &[]),
 ];
 
-fn queues(alloc: Global) -> Result<Sequence<QueueLine>, Fail> {
+fn queues(alloc: Global) -> Result<Sequence<QueueLine>, AllocError> {
     let mut queues = Vec::new(alloc);
-    for (q, free, excl, shared) in QUEUES {
-        queues.push(QueueLine {
-            q: *q,
-            slot: 0,
-            head: U,
-            free: Sequence::from_vec(Vec::from_slice(alloc, free)?),
-            excl: Sequence::from_vec(Vec::from_slice(alloc, excl)?),
-            shared: Sequence::from_vec(Vec::from_slice(alloc, shared)?),
-        })?;
+    for queue in QUEUES {
+        queues.push(queue_line(alloc, queue)?)?;
     }
     Ok(Sequence::from_vec(queues))
+}
+
+fn queue_line(alloc: Global, queue: &Queue) -> Result<QueueLine, AllocError> {
+    let (q, free, excl, shared) = *queue;
+    Ok(QueueLine {
+        q,
+        slot: 0,
+        head: U,
+        free: Sequence::from_vec(Vec::from_slice(alloc, free)?),
+        excl: Sequence::from_vec(Vec::from_slice(alloc, excl)?),
+        shared: Sequence::from_vec(Vec::from_slice(alloc, shared)?),
+    })
 }
 
 const FINALS: &[(Prio, Prio)] = &[
@@ -244,7 +272,7 @@ const FINALS: &[(Prio, Prio)] = &[
 ];
 
 // The logs of t, which begins with that event, and of u, put together.
-fn history_with(alloc: Global, event: Event) -> Result<History, Fail> {
+fn history_with(alloc: Global, event: Event) -> Result<History, AllocError> {
     let mut one = Log::make(alloc, 2)?;
     one.put(Entry {
         ticket: 0,
@@ -279,15 +307,12 @@ fn history_with(alloc: Global, event: Event) -> Result<History, Fail> {
             value: 255,
         },
     });
-    Ok(merge(alloc, &[one, other])?)
+    merge(alloc, &[one, other])
 }
 
-fn outcome_with(alloc: Global, event: Event, last: Last) -> Result<Outcome, Fail> {
+fn outcome_with(alloc: Global, event: Event, last: Last) -> Result<Outcome, AllocError> {
     let history = history_with(alloc, event)?;
-    let mut tables = Tables::with_room(alloc, &[])?;
-    for entry in history.as_slice() {
-        tables.edit(entry.event)?;
-    }
+    let tables = tables_of(alloc, &history)?;
     let queues = queues(alloc)?;
     let finals = Vec::from_slice(alloc, FINALS)?;
     Ok(Outcome {
@@ -299,37 +324,49 @@ fn outcome_with(alloc: Global, event: Event, last: Last) -> Result<Outcome, Fail
     })
 }
 
-// The text of a run that begins with that event and ends so.
-fn text_with(alloc: Global, event: Event, last: Last) -> Result<Vec<u8>, Fail> {
-    let plan = plan_of(alloc, PLAN)?;
-    let outcome = outcome_with(alloc, event, last)?;
-    Ok(print(alloc, &plan, &outcome)?)
+fn tables_of(alloc: Global, history: &History) -> Result<Tables, AllocError> {
+    let mut tables = Tables::with_room(alloc, &[])?;
+    for entry in history.as_slice() {
+        tables.edit(entry.event)?;
+    }
+    Ok(tables)
 }
 
 // What stands between that event and the end. Threads stand in order of declaration, and keys by lock and then by
 // number.
-const REST: &str = "1 u set s 0 8\n2 t set m 10 7\n3 u set m 9 255\n\
+const REST: &str = "\n1 u set s 0 8\n2 t set m 10 7\n3 u set m 9 255\n\
     queue m slot 0 head u free sixteen_bytes_xy,t excl sixteen_bytes_xy@6,t@50,u@100 shared -\n\
     queue w slot 0 head u free t excl - shared t@80,u@90\n\
     queue v slot 0 head u free - excl u@0 shared -\n\
     thread t base 255 eff 0\nthread u base 50 eff 50\nthread sixteen_bytes_xy base 7 eff 6\n\
-    table m 9 255\ntable m 10 7\ntable s 0 8";
+    table m 9 255\ntable m 10 7\ntable s 0 8\n";
 
 #[test]
 fn texts_of_runs(rt: HostRuntime) -> Result<(), Fail> {
-    for (last, word) in ENDINGS {
-        for (event, words) in WORDS {
-            let text = text_with(rt.alloc(), *event, *last)?;
-            let expected = format!(in rt.alloc(); "0 t {words}\n{REST}\n{word}\n")?;
-            assert!(rt; text.as_slice() == expected.as_bytes(), "{words}, {word}");
+    let plan = plan_of(rt.alloc(), PLAN)?;
+    for ending in ENDINGS {
+        for row in WORDS {
+            assert!(rt; is_text(rt.alloc(), &plan, row, ending)?, "{}", row.1);
         }
     }
     Ok(())
 }
 
+// Whether the text of a run that begins with that event and ends so is in those words.
+fn is_text(
+    alloc: Global,
+    plan: &Plan,
+    row: &(Event, &str),
+    ending: &(Last, &str),
+) -> Result<bool, AllocError> {
+    let outcome = outcome_with(alloc, row.0, ending.0)?;
+    let text = print(alloc, plan, &outcome)?;
+    Ok(is_joined(&text, &["0 t ", row.1, REST, ending.1, "\n"]))
+}
+
 #[test]
 fn text_of_a_fault(rt: HostRuntime) -> Result<(), Fail> {
     let text = print_fault(rt.alloc(), 12, 20)?;
-    assert!(rt; text.as_slice() == b"line 12 code 20\n".as_slice());
+    assert!(rt; is_joined(&text, &["line 12 code 20\n"]));
     Ok(())
 }

@@ -1,7 +1,8 @@
 //! Command lines that a user types, and what they say.
 use crate::briefs::words_of;
-use chart_command::{Asked, Form};
-use command_line::Command;
+use chart_command::{Asked, Form, LockchartArgs};
+use command_line::{Command, LockrunArgs};
+use std::alloc::Global;
 use std::env::{Env, FillError};
 use std::test::Fail;
 use top_ends::given_words;
@@ -127,20 +128,36 @@ const NO_RUNS: &[&str] = &[
 
 #[test]
 fn words_of_lockrun(rt: HostRuntime) -> Result<(), Fail> {
-    for (line, command, chains, turns) in RUNS {
-        let said = command_line::LockrunArgs {
-            command: *command,
-            chains: *chains,
-            turns: *turns,
+    for &(line, command, chains, turns) in RUNS {
+        let said = LockrunArgs {
+            command,
+            chains,
+            turns,
         };
-        let read = command_line::read_words(rt.alloc(), &words_of(rt.alloc(), line)?);
-        assert!(rt; read == Ok(said), "{line}");
-    }
-    for line in NO_RUNS {
-        let read = command_line::read_words(rt.alloc(), &words_of(rt.alloc(), line)?);
-        assert!(rt; read == Err(command_line::WordsError::Usage), "{line}");
+        assert!(rt; is_run(rt.alloc(), line, Ok(said))?, "{line}");
     }
     Ok(())
+}
+
+#[test]
+fn no_words_of_lockrun(rt: HostRuntime) -> Result<(), Fail> {
+    for &line in NO_RUNS {
+        assert!(rt;
+            is_run(rt.alloc(), line, Err(command_line::WordsError::Usage))?,
+            "{line}"
+        );
+    }
+    Ok(())
+}
+
+// Whether that is what words of lockrun say.
+fn is_run(
+    alloc: Global,
+    line: &str,
+    said: Result<LockrunArgs, command_line::WordsError>,
+) -> Result<bool, Fail> {
+    let words = words_of(alloc, line)?;
+    Ok(command_line::read_words(alloc, &words) == said)
 }
 
 const SVG: Form = Form::Svg;
@@ -289,44 +306,60 @@ Usage: lockchart [--turns N] [--chains N] [--from A] [--to B] [--title TEXT] [--
 
 #[test]
 fn words_of_lockchart(rt: HostRuntime) -> Result<(), Fail> {
-    for (line, (turns, chains, from, to, title, form)) in PICTURES {
-        let said = chart_command::LockchartArgs {
-            turns: *turns,
-            chains: *chains,
-            from: *from,
-            to: *to,
-            title: *title,
-            form: *form,
-        };
-        let is_read = match chart_command::read_words(rt.alloc(), &words_of(rt.alloc(), line)?) {
-            Ok(Asked::Picture(read)) => read == said,
-            Ok(Asked::Help(_)) | Err(_) => false,
-        };
-        assert!(rt; is_read, "{line}");
+    for (line, said) in PICTURES {
+        assert!(rt; is_picture(rt.alloc(), line, said)?, "{line}");
     }
+    Ok(())
+}
+
+fn is_picture(alloc: Global, line: &str, said: &Said) -> Result<bool, Fail> {
+    let (turns, chains, from, to, title, form) = *said;
+    let wanted = LockchartArgs {
+        turns,
+        chains,
+        from,
+        to,
+        title,
+        form,
+    };
+    let words = words_of(alloc, line)?;
+    match chart_command::read_words(alloc, &words) {
+        Ok(Asked::Picture(read)) => Ok(read == wanted),
+        Ok(Asked::Help(_)) | Err(_) => Ok(false),
+    }
+}
+
+#[test]
+fn no_words_of_lockchart(rt: HostRuntime) -> Result<(), Fail> {
     for line in NO_PICTURES {
-        let words = words_of(rt.alloc(), line)?;
-        let read = chart_command::read_words(rt.alloc(), &words);
-        assert!(rt;
-            matches!(read, Err(chart_command::WordsError::Usage)),
-            "{line}"
-        );
+        assert!(rt; is_no_picture(rt.alloc(), line)?, "{line}");
     }
+    Ok(())
+}
+
+fn is_no_picture(alloc: Global, line: &str) -> Result<bool, Fail> {
+    let words = words_of(alloc, line)?;
+    let read = chart_command::read_words(alloc, &words);
+    Ok(matches!(read, Err(chart_command::WordsError::Usage)))
+}
+
+#[test]
+fn help_of_lockchart(rt: HostRuntime) -> Result<(), Fail> {
     for line in HELPS {
-        let is_helped = match chart_command::read_words(rt.alloc(), &words_of(rt.alloc(), line)?) {
-            Ok(Asked::Help(text)) => text.as_str() == HELP,
-            Ok(Asked::Picture(_)) | Err(_) => false,
-        };
-        assert!(rt; is_helped, "{line}");
+        assert!(rt; is_helped(rt.alloc(), line, HELP)?, "{line}");
     }
     let version = format!(in rt.alloc(); "lockchart {}\n", chart_command::VERSION)?;
-    let words = words_of(rt.alloc(), "--version")?;
-    let is_told = match chart_command::read_words(rt.alloc(), &words) {
-        Ok(Asked::Help(text)) => text == version,
-        Ok(Asked::Picture(_)) | Err(_) => false,
-    };
-    assert!(rt; is_told);
+    assert!(rt; is_helped(rt.alloc(), "--version", &version)?);
     Ok(())
+}
+
+// Whether words ask for help, which is that text.
+fn is_helped(alloc: Global, line: &str, help: &str) -> Result<bool, Fail> {
+    let words = words_of(alloc, line)?;
+    match chart_command::read_words(alloc, &words) {
+        Ok(Asked::Help(text)) => Ok(text.as_str() == help),
+        Ok(Asked::Picture(_)) | Err(_) => Ok(false),
+    }
 }
 
 // Words that are no form, and what is said of them. First those of lockrun,
@@ -393,16 +426,29 @@ const CHART_MISTAKES: &[(&str, &str)] = &[
 #[test]
 fn mistakes(rt: HostRuntime) -> Result<(), Fail> {
     for (line, mistake) in RUN_MISTAKES {
-        let said = command_line::mistake(rt.alloc(), &words_of(rt.alloc(), line)?)?;
-        let is_said = said.is_some_and(|said| said.as_str() == *mistake);
-        assert!(rt; is_said, "{line}");
+        assert!(rt; is_run_mistake(rt.alloc(), line, mistake)?, "{line}");
     }
     for (line, mistake) in CHART_MISTAKES {
-        let said = chart_command::mistake(rt.alloc(), &words_of(rt.alloc(), line)?)?;
-        let is_said = said.is_some_and(|said| said.as_str() == *mistake);
-        assert!(rt; is_said, "{line}");
+        assert!(rt; is_chart_mistake(rt.alloc(), line, mistake)?, "{line}");
     }
     Ok(())
+}
+
+fn is_run_mistake(alloc: Global, line: &str, mistake: &str) -> Result<bool, Fail> {
+    let said = command_line::mistake(alloc, &words_of(alloc, line)?)?;
+    Ok(is_text(said, mistake))
+}
+
+fn is_chart_mistake(alloc: Global, line: &str, mistake: &str) -> Result<bool, Fail> {
+    let said = chart_command::mistake(alloc, &words_of(alloc, line)?)?;
+    Ok(is_text(said, mistake))
+}
+
+fn is_text(said: Option<String>, text: &str) -> bool {
+    match said {
+        Some(said) => said.as_str() == text,
+        None => false,
+    }
 }
 
 // The words that the system gives, of which the first is the program's name.
@@ -443,14 +489,23 @@ const GIVEN: &[&[&str]] = &[
 #[test]
 fn words_of_the_system(rt: HostRuntime) {
     for words in GIVEN {
-        let given = given_words(&(Given { words }, rt.alloc()));
-        let is_all = given.is_ok_and(|given| {
-            given.len() == words.len().saturating_sub(1)
-                && given
-                    .iter()
-                    .zip(words.iter().skip(1))
-                    .all(|(word, wanted)| word.as_str() == *wanted)
-        });
-        assert!(rt; is_all, "of {} words", words.len());
+        assert!(rt; is_given(rt.alloc(), words), "of {} words", words.len());
     }
+}
+
+// Whether all words but the first are given.
+fn is_given(alloc: Global, words: &'static [&'static str]) -> bool {
+    match given_words(&(Given { words }, alloc)) {
+        Ok(given) => are_behind_the_first(&given, words),
+        Err(_) => false,
+    }
+}
+
+fn are_behind_the_first(given: &[String], words: &[&str]) -> bool {
+    for (word, wanted) in given.iter().zip(words.iter().skip(1)) {
+        if word.as_str() != *wanted {
+            return false;
+        }
+    }
+    given.len() == words.len().saturating_sub(1)
 }

@@ -3,16 +3,17 @@ use lock_io::{
     CopiedSink, Failed, MemSink, MemSource, ReadAllError, Sink, Source, StdSink, StdSource,
     read_all, write_all,
 };
+use std::alloc::Global;
 use std::io;
 use std::io::{ErrorKind, Read, Write};
 use std::test::Fail;
 
 // The limit, the call that fails, and the answer, where ten bytes come in pieces of four.
-const READINGS: &[(usize, u32, Result<(), ReadAllError>)] = &[
-    (9, 9, Err(ReadAllError::TooBig)),
-    (10, 9, Ok(())),
-    (9, 1, Err(ReadAllError::Fault(Failed))),
-    (10, 3, Err(ReadAllError::Fault(Failed))),
+const READINGS: &[(usize, u32, Option<ReadAllError>)] = &[
+    (9, 9, Some(ReadAllError::TooBig)),
+    (10, 9, None),
+    (9, 1, Some(ReadAllError::Fault(Failed))),
+    (10, 3, Some(ReadAllError::Fault(Failed))),
 ];
 
 // The room, the call that fails, the answer, and the bytes that are held then.
@@ -26,28 +27,59 @@ const WRITINGS: &[(usize, u32, Result<(), Failed>, &[u8])] = &[
 
 #[test]
 fn ends_in_memory(rt: HostRuntime) -> Result<(), Fail> {
-    for (limit, fails_at, answer) in READINGS {
-        let bytes = Vec::from_slice(rt.alloc(), b"0123456789")?;
-        let mut source = MemSource::new(bytes, 4, vec![in rt.alloc(); *fails_at]?);
-        let read = read_all(rt.alloc(), &mut source, *limit);
-        assert!(rt; read.map(|_| ()) == *answer, "at the limit {limit}");
-    }
-    for (room, fails_at, answer, held) in WRITINGS {
-        let mut sink = MemSink::new(rt.alloc(), *room, 4, vec![in rt.alloc(); *fails_at]?)?;
+    for &(limit, fails_at, error) in READINGS {
         assert!(rt;
-            write_all(&mut sink, b"0 t lock m") == *answer,
+            is_read(rt.alloc(), limit, fails_at, error)?,
+            "at the limit {limit}"
+        );
+    }
+    for &(room, fails_at, answer, held) in WRITINGS {
+        assert!(rt;
+            is_written(rt.alloc(), room, fails_at, answer, held)?,
             "with room for {room}"
         );
-        assert!(rt; sink.bytes() == *held, "with room for {room}");
-        let sink = MemSink::new(rt.alloc(), *room, 4, vec![in rt.alloc(); *fails_at]?)?;
-        let mut copied = CopiedSink::new(rt.alloc(), sink);
         assert!(rt;
-            write_all(&mut copied, b"0 t lock m") == *answer,
+            is_copied(rt.alloc(), room, fails_at, answer, held)?,
             "copied, with room for {room}"
         );
-        assert!(rt; copied.copy() == *held, "copied, with room for {room}");
     }
     Ok(())
+}
+
+fn is_read(
+    alloc: Global,
+    limit: usize,
+    fails_at: u32,
+    error: Option<ReadAllError>,
+) -> Result<bool, Fail> {
+    let bytes = Vec::from_slice(alloc, b"0123456789")?;
+    let mut source = MemSource::new(bytes, 4, vec![in alloc; fails_at]?);
+    Ok(read_all(alloc, &mut source, limit).err() == error)
+}
+
+fn is_written(
+    alloc: Global,
+    room: usize,
+    fails_at: u32,
+    answer: Result<(), Failed>,
+    held: &[u8],
+) -> Result<bool, Fail> {
+    let mut sink = MemSink::new(alloc, room, 4, vec![in alloc; fails_at]?)?;
+    let written = write_all(&mut sink, b"0 t lock m");
+    Ok(written == answer && sink.bytes() == held)
+}
+
+fn is_copied(
+    alloc: Global,
+    room: usize,
+    fails_at: u32,
+    answer: Result<(), Failed>,
+    held: &[u8],
+) -> Result<bool, Fail> {
+    let sink = MemSink::new(alloc, room, 4, vec![in alloc; fails_at]?)?;
+    let mut copied = CopiedSink::new(alloc, sink);
+    let written = write_all(&mut copied, b"0 t lock m");
+    Ok(written == answer && copied.copy() == held)
 }
 
 // A reader and writer of std that is interrupted at its first call, moves a byte at its second, breaks at its third,

@@ -1,5 +1,5 @@
 //! The plan of a script, and its canonical text.
-use crate::briefs::{plan_of, script_of};
+use crate::briefs::{joined, plan_of, script_of};
 use lock_model::{ChanNo, ClassNo, Kind, LockNo, Mode, Op, Plan, Prio, ThreadNo};
 use script_read::write_script;
 use std::alloc::Global;
@@ -150,17 +150,21 @@ const OPERATIONS: &[(&str, &[Op])] = &[
 #[test]
 fn the_operations_of_a_thread(rt: HostRuntime) -> Result<(), Fail> {
     for (lines, operations) in OPERATIONS {
-        let script = format!(in rt.alloc();
-            "lockrun 1;mutex m a;mutex n b;rw d c;rw e c;sx s d;cond v m;chan z s;cond w s;\
-            thread t 1;{lines}end;done;"
-        )?;
-        let plan = plan_of(rt.alloc(), &script)?;
-        assert!(rt;
-            plan.operations_of(ThreadNo(0)) == *operations,
-            "of {lines}"
-        );
+        assert!(rt; are_operations(rt.alloc(), lines, operations)?, "{lines}");
     }
     Ok(())
+}
+
+// What stands before those lines, and behind them.
+const HEAD: &str =
+    "lockrun 1;mutex m a;mutex n b;rw d c;rw e c;sx s d;cond v m;chan z s;cond w s;thread t 1;";
+
+const TAIL: &str = "end;done;";
+
+fn are_operations(alloc: Global, lines: &str, operations: &[Op]) -> Result<bool, Fail> {
+    let script = joined(alloc, &[HEAD, lines, TAIL])?;
+    let plan = plan_of(alloc, &script)?;
+    Ok(plan.operations_of(ThreadNo(0)) == operations)
 }
 
 // Whether a plan has the kinds and classes of the locks m, d and s, the sorts and locks of the channels v and z, the
@@ -220,20 +224,27 @@ const TEXTS: &[(&str, &str)] = &[
     ),
 ];
 
-// The canonical text of the plan of a script.
-fn canonical_of(alloc: Global, script: &str) -> Result<Vec<u8>, Fail> {
-    Ok(write_script(alloc, &plan_of(alloc, script)?)?)
-}
-
 // The canonical text is a script of the same text again.
 #[test]
 fn the_canonical_text_of_a_plan(rt: HostRuntime) -> Result<(), Fail> {
     for (script, canonical) in TEXTS {
-        let text = script_of(rt.alloc(), canonical)?;
-        for source in [script, canonical] {
-            let written = canonical_of(rt.alloc(), source)?;
-            assert!(rt; written.as_slice() == text.as_bytes(), "of {source}");
-        }
+        assert!(rt; is_canonical_of(rt.alloc(), canonical, script)?, "{script}");
+        assert!(rt;
+            is_canonical_of(rt.alloc(), canonical, canonical)?,
+            "{canonical}"
+        );
     }
     Ok(())
+}
+
+// Whether that is the canonical text of the plan of a script.
+fn is_canonical_of(alloc: Global, canonical: &str, script: &str) -> Result<bool, Fail> {
+    let plan = plan_of(alloc, script)?;
+    let written = write_script(alloc, &plan)?;
+    is_script(alloc, &written, canonical)
+}
+
+fn is_script(alloc: Global, bytes: &[u8], brief: &str) -> Result<bool, Fail> {
+    let script = script_of(alloc, brief)?;
+    Ok(bytes == script.as_bytes())
 }

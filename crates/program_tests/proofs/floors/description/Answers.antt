@@ -5,11 +5,12 @@ use Rattle.std.specs.List.{All}
 use Rattle.std.specs.List.Sorted.{IsStrictlySortedBy}
 use Rattle.lock_model.specs.History.{place_cmp}
 use Rattle.lock_model.specs.Limits.{most_threads, most_locks, most_classes}
-use Rattle.lock_model.specs.declared.plan.Kind.TheVariants.{Mtx}
+use Rattle.lock_model.specs.declared.plan.Kind.{Kind}
+use Rattle.lock_model.specs.declared.plan.Kind.TheVariants.{Mtx, Sx}
 use Rattle.floor_table.specs.declared.description.LockPart.{LockPart}
 use Rattle.floor_table.specs.declared.description.ThreadPart.{ThreadPart}
 use Rattle.floor_table.specs.Descriptions.{room_in_all}
-use Rattle.program_tests.proofs.mutexes.description.Goals as goal
+use Rattle.program_tests.proofs.floors.description.Goals as goal
 
 none_rise : IsStrictlySortedBy place_cmp []
 unfolding IsStrictlySortedBy
@@ -18,13 +19,14 @@ none_rise = tt
 abbrev IsFew : LockPart → Type 0
 IsFew x = x.class.0 < most_classes
 
-abbrev of_class : ℕ → LockPart
-of_class k = record { kind = Mtx; class = record { 0 = k } }
+abbrev a_lock : Kind → ℕ → LockPart
+a_lock kind k = record { kind = kind; class = record { 0 = k } }
 
-few_locks : All IsFew (of_class 0 ∷ of_class 1 ∷ [])
+few_locks : All IsFew (a_lock Mtx 0 ∷ a_lock Mtx 1 ∷ a_lock Sx 2 ∷ [])
 few_locks =
-    All-cons IsFew (of_class 0) (of_class 1 ∷ []) (omega arith)
-    (All-cons IsFew (of_class 1) [] (omega arith) (All-nil IsFew))
+    All-cons IsFew (a_lock Mtx 0) (a_lock Mtx 1 ∷ a_lock Sx 2 ∷ []) (omega arith)
+    (All-cons IsFew (a_lock Mtx 1) (a_lock Sx 2 ∷ []) (omega arith)
+    (All-cons IsFew (a_lock Sx 2) [] (omega arith) (All-nil IsFew)))
 
 abbrev HasRooms : List ThreadPart → Type 0
 HasRooms xs = (t : ℕ) → t < 3 → unwrap_or (slice_get (map (λ x. x.room) xs) t) 0 ≡ 1003
