@@ -2,10 +2,9 @@
 use Rattle.std.proofs.Common.{◌≡◌, true, false, Option, Some, None, Result, Ok, Err, refl, sym, ap, subst}
 use Rattle.floor_table.specs.Views.{Knowledge}
 use Rattle.lock_floor.specs.Floors.{Pass}
-use Rattle.lock_floor.specs.Passes.{IsReady}
 use Rattle.floor_calls.proofs.Room.{room_behind}
 use Rattle.floor_calls.proofs.Tests.{first_is_one, may_none, none_may}
-use Rattle.floor_calls.specs.Calls.{Answers, Does}
+use Rattle.floor_calls.specs.Calls.{Answers, Does, HasMade, MayMake}
 use Rattle.floor_calls.specs.Causes.{MayCall, Says, causes}
 use Rattle.floor_calls.specs.First.{IsFirst}
 use Rattle.floor_calls.specs.Room.{KeepsRoom}
@@ -49,7 +48,7 @@ module _ {a b : Shared} (same : a ≡ b) where
   module _ {x : Thread} {p : Pass Knowledge} {s : Stage} (is : thread_at b.floor s p ≡ x) (stood : Stands b.floor s p)
     where
       -- the thread stands there too
-      pub is_there : IsAt a.floor s p
+      is_there : IsAt a.floor s p
       is_there = subst (λ (h : Shared). IsAt h.floor s p) (sym same) stood.at
 
       module _ (request : Request) (nothing : IsFirst (λ c. Says c x) (causes request) None) where
@@ -60,8 +59,11 @@ module _ {a b : Shared} (same : a ≡ b) where
         may_here = subst (λ (y : Thread). MayCall request y) (sym is) may
 
         -- a call may be made of them against which nothing stands
-        pub may_there : MayCall request (thread_at a.floor s p)
-        may_there = subst (λ (h : Shared). MayCall request (thread_at h.floor s p)) (sym same) may_here
+        pub may_there : MayMake request (thread_at a.floor s p)
+        may_there = record {
+          at = is_there;
+          may = subst (λ (h : Shared). MayCall request (thread_at h.floor s p)) (sym same) may_here;
+        }
 
         did_here : (next : Next) (t : Stage) (q : Pass Knowledge)
             → Does request next (thread_at a.floor s p) (thread_at a.floor t q)
@@ -71,45 +73,38 @@ module _ {a b : Shared} (same : a ≡ b) where
 
         -- where it was made the thread stands behind it
         pub is_back : (next : Next) {t : Stage} {q : Pass Knowledge}
-            → Does request next (thread_at a.floor s p) (thread_at a.floor t q) → IsAt a.floor t q
-            → Stands b.floor t q
-        is_back next {t = t} {q = q} did at = record {
-          at = subst (λ (h : Shared). IsAt h.floor t q) same at;
+            → HasMade request next (thread_at a.floor s p) (thread_at a.floor t q) → Stands b.floor t q
+        is_back next {t = t} {q = q} made = record {
+          at = subst (λ (h : Shared). IsAt h.floor t q) same made.at;
           room = room_behind (thread_at b.floor s p) (thread_at b.floor t q) stood.at stood.room request next may_here
-              (did_here next t q did);
+              (did_here next t q made.does);
         }
 
         -- and the call is the thread's
         pub is_made_there : {next : Next} {t : Stage} {q : Pass Knowledge}
-            → Does request next (thread_at a.floor s p) (thread_at a.floor t q)
+            → HasMade request next (thread_at a.floor s p) (thread_at a.floor t q)
             → Answers request (Ok next) x (thread_at b.floor t q)
-        is_made_there {next = next} {t = t} {q = q} did =
+        is_made_there {next = next} {t = t} {q = q} made =
             is_made request x (thread_at b.floor t q) next may nothing (ap (λ (y : Thread). y.floor) is)
-            (subst (λ (y : Thread). Does request next y (thread_at b.floor t q)) is (did_here next t q did))
+            (subst (λ (y : Thread). Does request next y (thread_at b.floor t q)) is (did_here next t q made.does))
 
         -- of one that is made at once the thread is at rest, before and behind it
         module _ (rests : MayCall request (thread_at a.floor s p) → s ≡ AtRest) where
-          pub ready_there : IsReady a.floor p
-          ready_there = subst (λ (t : Stage). IsAt a.floor t p) (rests may_there) is_there
+          pub may_at_rest : MayMake request (thread_at a.floor AtRest p)
+          may_at_rest = subst (λ (t : Stage). MayMake request (thread_at a.floor t p)) (rests may_there.may) may_there
 
-          did_at_once : (next : Next) (q : Pass Knowledge)
-              → Does request next (thread_at a.floor s p) (thread_at a.floor AtRest q)
-              → Does request next (thread_at a.floor s p) (thread_at a.floor s q)
-          did_at_once next q did =
-              subst (λ (t : Stage). Does request next (thread_at a.floor s p) (thread_at a.floor t q))
-              (sym (rests may_there)) did
+          module _ {next : Next} {q : Pass Knowledge}
+              (made : HasMade request next (thread_at a.floor AtRest p) (thread_at a.floor AtRest q)) where
+            made_there : HasMade request next (thread_at a.floor s p) (thread_at a.floor s q)
+            made_there =
+                subst (λ (t : Stage). HasMade request next (thread_at a.floor t p) (thread_at a.floor t q))
+                (sym (rests may_there.may)) made
 
-          pub rests_back : (next : Next) {q : Pass Knowledge}
-              → Does request next (thread_at a.floor s p) (thread_at a.floor AtRest q) → IsReady a.floor q
-              → Stands b.floor s q
-          rests_back next {q = q} did ready =
-              is_back next (did_at_once next q did)
-              (subst (λ (t : Stage). IsAt a.floor t q) (sym (rests may_there)) ready)
+            pub rests_back : Stands b.floor s q
+            rests_back = is_back next made_there
 
-          pub is_made_at_once : {next : Next} {q : Pass Knowledge}
-              → Does request next (thread_at a.floor s p) (thread_at a.floor AtRest q)
-              → Answers request (Ok next) x (thread_at b.floor s q)
-          is_made_at_once {next = next} {q = q} did = is_made_there (did_at_once next q did)
+            pub is_made_at_once : Answers request (Ok next) x (thread_at b.floor s q)
+            is_made_at_once = is_made_there made_there
 
 -- 3. What is so of a request is so of that which it is found to be
 

@@ -41,7 +41,7 @@ use Rattle.lock_state.specs.Steps.Items.{Item, RecordOf, CellOf}
 use Rattle.floor_calls.specs.Causes.{MayCall, Says, causes}
 use Rattle.floor_calls.specs.First.{IsFirst}
 use Rattle.floor_calls.specs.Stages.{stage_behind, stage_of_begun, stage_of_end, stage_of_giving_up, stage_of_taking_back, stage_of_wait, stage_of_wake, told, told_at_once, told_of_end, told_of_giving_up, told_of_taking_back, told_of_try, told_of_wait, told_of_wake}
-use Rattle.floor_calls.specs.Threads.{Thread}
+use Rattle.floor_calls.specs.Threads.{IsAt, Thread}
 use Rattle.floor_calls.specs.Waits.{HoldsIts}
 use Rattle.floor_calls.specs.declared.requests.Cause.{Cause}
 use Rattle.floor_calls.specs.declared.requests.Request.{Request}
@@ -199,6 +199,16 @@ Does (WakeUp c all) next x y =
 Does (Wait c) next x y = BeginsWait x.floor.description c next y.stage x.pass y.pass
 Does End next x y = MakesEndPart x.floor.description places.Takes next y.stage x.pass y.pass
 Does GoOn next x y = GoesOn x.floor.description x.stage next y.stage x.pass y.pass
+
+-- a thread that stands between two calls may make that one
+pub record MayMake (request : Request) (x : Thread) : Type 0 where
+  pub at : IsAt x.floor x.stage x.pass
+  pub may : MayCall request x
+
+-- it has made it: it stands behind it, and did what the call does
+pub record HasMade (request : Request) (next : Next) (x y : Thread) : Type 0 where
+  pub at : IsAt y.floor y.stage y.pass
+  pub does : Does request next x y
 
 -- the cause that a call answers
 abbrev pub cause_in : Result Next Cause → Option Cause

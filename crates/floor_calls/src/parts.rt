@@ -1,8 +1,7 @@
 //! The parts of locks' calls and of a thread's end, told in this crate's words, with the thread's stage behind each.
 ghost use Rattle.std.specs.Prelude.{◌≡◌};
 ghost use Rattle.cond_vars.specs.Wakes.{MayWakeUp};
-ghost use Rattle.floor_calls.specs.Calls.{Does, GoesOn, MakesEndPart, MakesWakePart};
-ghost use Rattle.floor_calls.specs.Causes.{MayCall};
+ghost use Rattle.floor_calls.specs.Calls.{GoesOn, HasMade, MakesEndPart, MakesWakePart, MayMake};
 ghost use Rattle.floor_calls.specs.Stages.{IsInCall, stage_behind};
 ghost use Rattle.floor_calls.specs.Threads.{IsAt, IsEndingAt, thread_at};
 ghost use Rattle.floor_calls.specs.declared.requests.Request.TheVariants as request;
@@ -34,10 +33,8 @@ fn come_to(stage: &mut Stage, made: (Next, Stage)) -> Next
 // Begins a take.
 #[inline(always)]
 pub(crate) fn take(floor: &Floor, pass: &mut Pass, stage: &mut Stage, l: LockNo, mode: Mode) -> Next
-    requires there { IsAt floor.now stage.old pass.old }
-    requires may { MayCall (request.Take l mode) (thread_at floor.now stage.old pass.old) }
-    ensures at { IsAt floor.now stage.new pass.new }
-    ensures does { Does (request.Take l mode) result (thread_at floor.now stage.old pass.old)
+    requires { MayMake (request.Take l mode) (thread_at floor.now stage.old pass.old) }
+    ensures { HasMade (request.Take l mode) result (thread_at floor.now stage.old pass.old)
         (thread_at floor.now stage.new pass.new) }
 {
     let part = begin_take(floor, pass, l, mode);
@@ -53,10 +50,8 @@ pub(crate) fn attempt(
     l: LockNo,
     mode: Mode,
 ) -> Next
-    requires there { IsAt floor.now stage.old pass.old }
-    requires may { MayCall (request.Try l mode) (thread_at floor.now stage.old pass.old) }
-    ensures at { IsAt floor.now stage.new pass.new }
-    ensures does { Does (request.Try l mode) result (thread_at floor.now stage.old pass.old)
+    requires { MayMake (request.Try l mode) (thread_at floor.now stage.old pass.old) }
+    ensures { HasMade (request.Try l mode) result (thread_at floor.now stage.old pass.old)
         (thread_at floor.now stage.new pass.new) }
 {
     let part = begin_try(floor, pass, l, mode);
@@ -72,10 +67,8 @@ pub(crate) fn release(
     l: LockNo,
     mode: Mode,
 ) -> Next
-    requires there { IsAt floor.now stage.old pass.old }
-    requires may { MayCall (request.Release l mode) (thread_at floor.now stage.old pass.old) }
-    ensures at { IsAt floor.now stage.new pass.new }
-    ensures does { Does (request.Release l mode) result (thread_at floor.now stage.old pass.old)
+    requires { MayMake (request.Release l mode) (thread_at floor.now stage.old pass.old) }
+    ensures { HasMade (request.Release l mode) result (thread_at floor.now stage.old pass.old)
         (thread_at floor.now stage.new pass.new) }
 {
     let part = begin_release(floor, pass, l, mode);
@@ -112,10 +105,8 @@ pub(crate) fn begin_wake(
     c: ChanNo,
     all: bool,
 ) -> Next
-    requires there { IsAt floor.now stage.old pass.old }
-    requires may { MayCall (request.WakeUp c all) (thread_at floor.now stage.old pass.old) }
-    ensures at { IsAt floor.now stage.new pass.new }
-    ensures does { Does (request.WakeUp c all) result (thread_at floor.now stage.old pass.old)
+    requires { MayMake (request.WakeUp c all) (thread_at floor.now stage.old pass.old) }
+    ensures { HasMade (request.WakeUp c all) result (thread_at floor.now stage.old pass.old)
         (thread_at floor.now stage.new pass.new) }
 {
     come_to(stage, wake_up(floor, pass, c, all))
@@ -123,10 +114,8 @@ pub(crate) fn begin_wake(
 
 // Begins a wait.
 pub(crate) fn begin_wait(floor: &Floor, pass: &mut Pass, stage: &mut Stage, c: ChanNo) -> Next
-    requires there { IsAt floor.now stage.old pass.old }
-    requires may { MayCall (request.Wait c) (thread_at floor.now stage.old pass.old) }
-    ensures at { IsAt floor.now stage.new pass.new }
-    ensures does { Does (request.Wait c) result (thread_at floor.now stage.old pass.old)
+    requires { MayMake (request.Wait c) (thread_at floor.now stage.old pass.old) }
+    ensures { HasMade (request.Wait c) result (thread_at floor.now stage.old pass.old)
         (thread_at floor.now stage.new pass.new) }
 {
     come_to(stage, wait(floor, pass, c))
@@ -134,10 +123,8 @@ pub(crate) fn begin_wait(floor: &Floor, pass: &mut Pass, stage: &mut Stage, c: C
 
 // Begins the thread's end.
 pub(crate) fn begin_end(floor: &Floor, pass: &mut Pass, stage: &mut Stage) -> Next
-    requires there { IsAt floor.now stage.old pass.old }
-    requires may { MayCall request.End (thread_at floor.now stage.old pass.old) }
-    ensures at { IsAt floor.now stage.new pass.new }
-    ensures does { Does request.End result (thread_at floor.now stage.old pass.old)
+    requires { MayMake request.End (thread_at floor.now stage.old pass.old) }
+    ensures { HasMade request.End result (thread_at floor.now stage.old pass.old)
         (thread_at floor.now stage.new pass.new) }
 {
     come_to(stage, end(floor, pass, EndAt::Takes))
@@ -146,10 +133,8 @@ pub(crate) fn begin_end(floor: &Floor, pass: &mut Pass, stage: &mut Stage) -> Ne
 // Goes on with the call that the thread is in the middle of.
 pub(crate) fn go_on(floor: &Floor, pass: &mut Pass, stage: &mut Stage) -> Next
     requires one_chain { floor.now.description.chains ≡ 1 }
-    requires there { IsAt floor.now stage.old pass.old }
-    requires may { MayCall request.GoOn (thread_at floor.now stage.old pass.old) }
-    ensures at { IsAt floor.now stage.new pass.new }
-    ensures does { Does request.GoOn result (thread_at floor.now stage.old pass.old)
+    requires may { MayMake request.GoOn (thread_at floor.now stage.old pass.old) }
+    ensures { HasMade request.GoOn result (thread_at floor.now stage.old pass.old)
         (thread_at floor.now stage.new pass.new) }
 {
     let made = go_on_at(floor, pass, *stage);

@@ -1,22 +1,18 @@
-use Rattle.floor_calls.proofs.Answered.{is_back, is_made_there, is_refused, is_there, may_there}
+use Rattle.floor_calls.proofs.Answered.{is_back, is_made_there, is_refused, may_there}
 use Rattle.floor_calls.specs.declared.requests.Request.TheVariants.{Take}
 use Rattle.floor_calls.proofs.thread.Thread.begin_take.Goals as goal
 
 pub returns-in-Some : goal.returns-in-Some
 returns-in-Some c = is_refused _ _ _ c.in-Some.ensures
 
-pub take-next-requires-clause-there : goal.take-next-requires-clause-there
-take-next-requires-clause-there c = is_there c.deref.ensures c.self.view_is c.self.invariant
-
-pub take-next-requires-clause-may : goal.take-next-requires-clause-may
-take-next-requires-clause-may c =
+pub take-next-requires : goal.take-next-requires
+take-next-requires c =
     may_there c.deref.ensures c.self.view_is c.self.invariant (Take _ _) c.in-None.ensures
 
 pub invariant_of-self : goal.invariant_of-self
 invariant_of-self c =
-    is_back c.deref.ensures c.self.view_is c.self.invariant (Take _ _) c.in-None.ensures _
-    c.take-next.ensures.does c.take-next.ensures.at
+    is_back c.deref.ensures c.self.view_is c.self.invariant (Take _ _) c.in-None.ensures _ c.take-next.ensures
 
 pub returns-in-None : goal.returns-in-None
 returns-in-None c =
-    is_made_there c.deref.ensures c.self.view_is c.self.invariant _ c.in-None.ensures c.take-next.ensures.does
+    is_made_there c.deref.ensures c.self.view_is c.self.invariant _ c.in-None.ensures c.take-next.ensures

@@ -1,22 +1,18 @@
-use Rattle.floor_calls.proofs.Answered.{is_back, is_made_there, is_refused, is_there, may_there}
+use Rattle.floor_calls.proofs.Answered.{is_back, is_made_there, is_refused, may_there}
 use Rattle.floor_calls.specs.declared.requests.Request.TheVariants.{Wait}
 use Rattle.floor_calls.proofs.thread.Thread.begin_wait.Goals as goal
 
 pub returns-in-Some : goal.returns-in-Some
 returns-in-Some c = is_refused _ _ _ c.in-Some.ensures
 
-pub begin_wait-next-requires-clause-there : goal.begin_wait-next-requires-clause-there
-begin_wait-next-requires-clause-there c = is_there c.deref.ensures c.self.view_is c.self.invariant
-
-pub begin_wait-next-requires-clause-may : goal.begin_wait-next-requires-clause-may
-begin_wait-next-requires-clause-may c =
+pub begin_wait-next-requires : goal.begin_wait-next-requires
+begin_wait-next-requires c =
     may_there c.deref.ensures c.self.view_is c.self.invariant (Wait _) c.in-None.ensures
 
 pub invariant_of-self : goal.invariant_of-self
 invariant_of-self c =
-    is_back c.deref.ensures c.self.view_is c.self.invariant (Wait _) c.in-None.ensures _
-    c.begin_wait-next.ensures.does c.begin_wait-next.ensures.at
+    is_back c.deref.ensures c.self.view_is c.self.invariant (Wait _) c.in-None.ensures _ c.begin_wait-next.ensures
 
 pub returns-in-None : goal.returns-in-None
 returns-in-None c =
-    is_made_there c.deref.ensures c.self.view_is c.self.invariant _ c.in-None.ensures c.begin_wait-next.ensures.does
+    is_made_there c.deref.ensures c.self.view_is c.self.invariant _ c.in-None.ensures c.begin_wait-next.ensures

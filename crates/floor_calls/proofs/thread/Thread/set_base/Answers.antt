@@ -1,24 +1,20 @@
-use Rattle.floor_calls.proofs.Answered.{is_made_at_once, is_refused, may_there, ready_there, rests_back}
+use Rattle.floor_calls.proofs.Answered.{is_made_at_once, is_refused, may_at_rest, rests_back}
 use Rattle.floor_calls.specs.declared.requests.Request.TheVariants.{SetBase}
 use Rattle.floor_calls.proofs.thread.Thread.set_base.Goals as goal
 
 pub returns-in-Some : goal.returns-in-Some
 returns-in-Some c = is_refused _ _ _ c.in-Some.ensures
 
-pub set_base-next-requires-clause-ready : goal.set_base-next-requires-clause-ready
-set_base-next-requires-clause-ready c =
-    ready_there c.deref.ensures c.self.view_is c.self.invariant (SetBase c.args.prio) c.in-None.ensures (λ m. m.0)
-
-pub set_base-next-requires-clause-may : goal.set_base-next-requires-clause-may
-set_base-next-requires-clause-may c =
-    (may_there c.deref.ensures c.self.view_is c.self.invariant (SetBase c.args.prio) c.in-None.ensures).1
+pub set_base-next-requires : goal.set_base-next-requires
+set_base-next-requires c =
+    may_at_rest c.deref.ensures c.self.view_is c.self.invariant (SetBase c.args.prio) c.in-None.ensures (λ m. m.0)
 
 pub invariant_of-self : goal.invariant_of-self
 invariant_of-self c =
-    rests_back c.deref.ensures c.self.view_is c.self.invariant (SetBase c.args.prio) c.in-None.ensures (λ m. m.0) _
-    c.set_base-next.ensures.did c.set_base-next.ensures.ready
+    rests_back c.deref.ensures c.self.view_is c.self.invariant (SetBase c.args.prio) c.in-None.ensures (λ m. m.0)
+    c.set_base-next.ensures
 
 pub returns-in-None : goal.returns-in-None
 returns-in-None c =
     is_made_at_once c.deref.ensures c.self.view_is c.self.invariant (SetBase c.args.prio) c.in-None.ensures (λ m. m.0)
-    c.set_base-next.ensures.did
+    c.set_base-next.ensures

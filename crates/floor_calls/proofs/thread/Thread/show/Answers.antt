@@ -1,24 +1,20 @@
-use Rattle.floor_calls.proofs.Answered.{is_made_at_once, is_refused, may_there, ready_there, rests_back}
+use Rattle.floor_calls.proofs.Answered.{is_made_at_once, is_refused, may_at_rest, rests_back}
 use Rattle.floor_calls.specs.declared.requests.Request.TheVariants.{Show}
 use Rattle.floor_calls.proofs.thread.Thread.show.Goals as goal
 
 pub returns-in-Some : goal.returns-in-Some
 returns-in-Some c = is_refused _ _ _ c.in-Some.ensures
 
-pub show-next-requires-clause-ready : goal.show-next-requires-clause-ready
-show-next-requires-clause-ready c =
-    ready_there c.deref.ensures c.self.view_is c.self.invariant Show c.in-None.ensures (λ m. m.0)
-
-pub show-next-requires-clause-may : goal.show-next-requires-clause-may
-show-next-requires-clause-may c =
-    (may_there c.deref.ensures c.self.view_is c.self.invariant Show c.in-None.ensures).1
+pub show-next-requires : goal.show-next-requires
+show-next-requires c =
+    may_at_rest c.deref.ensures c.self.view_is c.self.invariant Show c.in-None.ensures (λ m. m.0)
 
 pub invariant_of-self : goal.invariant_of-self
 invariant_of-self c =
-    rests_back c.deref.ensures c.self.view_is c.self.invariant Show c.in-None.ensures (λ m. m.0) _
-    c.show-next.ensures.did c.show-next.ensures.ready
+    rests_back c.deref.ensures c.self.view_is c.self.invariant Show c.in-None.ensures (λ m. m.0)
+    c.show-next.ensures
 
 pub returns-in-None : goal.returns-in-None
 returns-in-None c =
     is_made_at_once c.deref.ensures c.self.view_is c.self.invariant Show c.in-None.ensures (λ m. m.0)
-    c.show-next.ensures.did
+    c.show-next.ensures
