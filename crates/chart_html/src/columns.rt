@@ -1,6 +1,6 @@
 //! What the rows of a thread tell, column by column, as tracks.
-ghost use Rattle.std.specs.Prelude.{◌≡◌, ◌++◌, ℕ, List, option_map, None, OnOk};
-ghost use Rattle.chart_escape.specs.Values.{value_bytes};
+ghost use Rattle.std.specs.Prelude.{◌≡◌, ◌++◌, ℕ, List, true, codes, option_map, None, OnOk};
+ghost use Rattle.chart_escape.specs.Values.{number_bytes, separator, value_bytes};
 ghost use Rattle.chart_html.specs.Tracks.{changed, column_track, is_told, told};
 ghost use Rattle.chart_html.specs.declared.columns.Column as columns;
 ghost use Rattle.lock_model.specs.declared.plan.Plan as plans;
@@ -9,7 +9,7 @@ ghost use Rattle.run_tracks.specs.declared.threads.ThreadRow as threads;
 
 use crate::tracks::begin_pair;
 use chart_escape::{Piece, begin_line_item, push_tokens};
-use chart_words::{push_queue, queue_name};
+use chart_words::{push_queue, push_words, queue_name};
 use lock_model::Plan;
 use run_tracks::{ThreadRow, Wait, Walk};
 use std::alloc::AllocError;
@@ -55,8 +55,8 @@ pub fn push_column(
     ensures { OnOk result (out.new.items ≡ out.old.items
         ++ name.now ++ value_bytes (column_track plan.now column rows.now)) }
 {
-    out.extend_from_slice(name)?;
-    out.push(b'[')?;
+    push_words(out, name)?;
+    push_words(out, b"[")?;
     let mut last = None;
     let mut n = 0usize;
     for row in rows {
@@ -65,15 +65,22 @@ pub fn push_column(
         if is_told(&last, &text) {
             continue;
         }
-        begin_line_item(out, n == 0)?;
-        begin_pair(out, row.0)?;
-        out.extend_from_slice(&text)?;
-        out.push(b']')?;
+        push_change(out, n == 0, row.0, &text)?;
         last = Some(text);
         n += 1;
     }
-    out.push(b']')?;
-    Ok(())
+    push_words(out, b"]")
+}
+
+// What a column tells from a row on.
+fn push_change(out: &mut Vec<u8>, first: bool, row: u32, text: &[u8]) -> Result<(), AllocError>
+    ensures { OnOk result (out.new.items ≡ out.old.items ++ separator first true
+        ++ codes "[" ++ number_bytes row ++ codes "," ++ text.now ++ codes "]") }
+{
+    begin_line_item(out, first)?;
+    begin_pair(out, row)?;
+    push_words(out, text)?;
+    push_words(out, b"]")
 }
 
 fn is_told(last: &Option<Vec<u8>>, text: &[u8]) -> bool

@@ -1,13 +1,13 @@
 //! What the page knows of a run, as JSON.
 ghost use Rattle.std.specs.Prelude.{◌≡◌, ◌++◌, [], slice_get, unwrap_or, IfOk, OnOk};
-ghost use Rattle.chart_escape.specs.Values.{IsJson};
-ghost use Rattle.chart_html.specs.Data.{data_bytes, done_words, kind_word, lock, mark, sentence};
+ghost use Rattle.chart_escape.specs.Values.{value_bytes, IsJson};
+ghost use Rattle.chart_html.specs.Data.{data_bytes, data_value, done_words, kind_word, lock, mark, sentence};
 
 use crate::edits::push_edits;
 use crate::items::{Known, Listed, push_items};
 use chart_escape::{Piece, push_tokens};
 use chart_layout::{Chart, MarkKind, Sentence, TurnMark};
-use chart_words::{push_mark, push_note, push_sentence};
+use chart_words::{push_mark, push_note, push_sentence, push_words};
 use lock_model::{Kind, LockDecl, Plan};
 use run_tracks::Rows;
 use std::alloc::{AllocError, Global};
@@ -26,10 +26,19 @@ pub fn data_of(
     ensures told { IfOk result (λ text. text.items ≡ data_bytes plan.now rows.now chart.now) }
     ensures reads { IfOk result (λ text. IsJson text.items) }
 {
-    let known = &Known { plan, rows, chart };
     let mut out = Vec::new(alloc);
+    push_data(&mut out, &Known { plan, rows, chart })?;
+    push_words(&mut out, b"\n")?;
+    Ok(out)
+}
+
+fn push_data(out: &mut Vec<u8>, known: &Known<'_>) -> Result<(), AllocError>
+    ensures { OnOk result (out.new.items ≡ out.old.items
+        ++ value_bytes (data_value known.now.plan.now known.now.rows.now known.now.chart.now)) }
+{
+    let (plan, rows, chart) = (known.plan, known.rows, known.chart);
     push_tokens(
-        &mut out,
+        out,
         &[
             Piece::Own("{\"first\":"),
             Piece::Number(u64::from(chart.first)),
@@ -37,16 +46,15 @@ pub fn data_of(
             Piece::Number(u64::from(chart.last)),
         ],
     )?;
-    push_items(&mut out, b",\n\"marks\":", known, chart.marks.as_slice())?;
-    push_items(&mut out, b",\n\"said\":", known, chart.sentences.as_slice())?;
-    push_items(&mut out, b",\n\"threads\":", known, rows.threads.as_slice())?;
-    push_items(&mut out, b",\n\"locks\":", known, plan.locks.as_slice())?;
-    push_items(&mut out, b",\n\"queues\":", known, rows.queues.changes())?;
-    out.extend_from_slice(b",\n\"edits\":")?;
-    push_edits(&mut out, rows.turns.as_slice())?;
-    out.extend_from_slice(b"}")?;
-    out.extend_from_slice(b"\n")?;
-    Ok(out)
+    push_items(out, b",\n\"marks\":", known, chart.marks.as_slice())?;
+    push_items(out, b",\n\"said\":", known, chart.sentences.as_slice())?;
+    push_items(out, b",\n\"threads\":", known, rows.threads.as_slice())?;
+    push_items(out, b",\n\"locks\":", known, plan.locks.as_slice())?;
+    push_items(out, b",\n\"queues\":", known, rows.queues.changes())?;
+    push_words(out, b",\n\"edits\":")?;
+    push_edits(out, rows.turns.as_slice())?;
+    push_words(out, b"}")?;
+    Ok(())
 }
 
 /// A turn: number, thread, and what was done.
@@ -81,7 +89,7 @@ fn push_done(out: &mut Vec<u8>, plan: &Plan, what: MarkKind) -> Result<(), Alloc
             push_note(out, plan, event)
         }
         MarkKind::Did(_) => push_mark(out, plan, what),
-        MarkKind::Idle => out.extend_from_slice(b"idle"),
+        MarkKind::Idle => push_words(out, b"idle"),
     }
 }
 
@@ -120,7 +128,7 @@ impl Listed for LockDecl {
             ],
         )?;
         push_items(out, b",\"word\":", known, track_of(known.rows, l))?;
-        out.extend_from_slice(b"}")?;
+        push_words(out, b"}")?;
         Ok(())
     }
 }

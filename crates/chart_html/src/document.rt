@@ -7,6 +7,7 @@ use crate::fixed::{BEGIN, CONTROLS, SCRIPT, STYLE};
 use chart_escape::push_text;
 use chart_layout::Chart;
 use chart_svg::svg;
+use chart_words::push_words;
 use lock_model::Plan;
 use run_tracks::Rows;
 use std::alloc::{AllocError, Global};
@@ -40,10 +41,10 @@ fn page_of(alloc: Global, title: &str, picture: &[u8], known: &[u8]) -> Result<V
 {
     let mut page = Vec::from_slice(alloc, BEGIN.as_bytes())?;
     push_text(&mut page, title.as_bytes())?;
-    page.extend_from_slice(STYLE.as_bytes())?;
-    page.extend_from_slice(picture)?;
-    page.extend_from_slice(CONTROLS.as_bytes())?;
-    page.extend_from_slice(known)?;
-    page.extend_from_slice(SCRIPT.as_bytes())?;
+    push_words(&mut page, STYLE.as_bytes())?;
+    push_words(&mut page, picture)?;
+    push_words(&mut page, CONTROLS.as_bytes())?;
+    push_words(&mut page, known)?;
+    push_words(&mut page, SCRIPT.as_bytes())?;
     Ok(page)
 }

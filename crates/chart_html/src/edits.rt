@@ -4,6 +4,7 @@ ghost use Rattle.chart_escape.specs.Values.{items, tuple, value_bytes, Array, Nu
 ghost use Rattle.chart_html.specs.Data.{edit, edits_behind, table_of};
 
 use chart_escape::{Piece, begin_line_item, push_tokens};
+use chart_words::push_words;
 use lock_model::{LockNo, OfTable, push_digits};
 use run_tracks::TurnRow;
 use std::alloc::AllocError;
@@ -13,7 +14,7 @@ pub fn push_edits(out: &mut Vec<u8>, turns: &[TurnRow]) -> Result<(), AllocError
     ensures { OnOk result (out.new.items
         ≡ out.old.items ++ value_bytes (Array (items true (edits_behind 0 turns.now)))) }
 {
-    out.push(b'[')?;
+    push_words(out, b"[")?;
     let mut first = true;
     for (turn, its) in turns.iter().enumerate() {
         let (l, key, adds, amount) = match table_of(*its) {
@@ -25,8 +26,7 @@ pub fn push_edits(out: &mut Vec<u8>, turns: &[TurnRow]) -> Result<(), AllocError
         push_edit(out, turn as u64 + 1, l, key, adds, amount)?;
         first = false;
     }
-    out.push(b']')?;
-    Ok(())
+    push_words(out, b"]")
 }
 
 // What a turn did in a lock's table.

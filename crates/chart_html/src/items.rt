@@ -4,6 +4,7 @@ ghost use Rattle.chart_escape.specs.Values.{numbered, value_bytes, Value};
 
 use chart_escape::begin_line_item;
 use chart_layout::Chart;
+use chart_words::push_words;
 use lock_model::Plan;
 use run_tracks::Rows;
 use std::alloc::AllocError;
@@ -39,12 +40,11 @@ pub fn push_items<T: Listed>(
     ensures { OnOk result (out.new.items
         ≡ out.old.items ++ name.now ++ value_bytes (numbered (T.value known.now) items.now)) }
 {
-    out.extend_from_slice(name)?;
-    out.push(b'[')?;
+    push_words(out, name)?;
+    push_words(out, b"[")?;
     for (i, item) in items.iter().enumerate() {
         begin_line_item(out, i == 0)?;
         item.push(out, known, i)?;
     }
-    out.push(b']')?;
-    Ok(())
+    push_words(out, b"]")
 }

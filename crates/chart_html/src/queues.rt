@@ -3,7 +3,7 @@ ghost use Rattle.chart_html.specs.Data.{queue, queues_from, thread_called, waite
 
 use crate::items::{Known, Listed, push_items};
 use chart_escape::{Piece, push_tokens};
-use chart_words::queue_name;
+use chart_words::{push_words, queue_name};
 use lock_history::QueueLine;
 use lock_model::{Prio, Sequence, ThreadNo};
 use std::alloc::AllocError;
@@ -18,8 +18,7 @@ impl Listed for (u32, Sequence<QueueLine>) {
             &[Piece::Own("{\"row\":"), Piece::Number(u64::from(self.0))],
         )?;
         push_items(out, b",\"lines\":", known, self.1.as_slice())?;
-        out.extend_from_slice(b"}")?;
-        Ok(())
+        push_words(out, b"}")
     }
 }
 
@@ -41,7 +40,7 @@ impl Listed for QueueLine {
         push_items(out, b",\"free\":", known, self.free.as_slice())?;
         push_items(out, b",\"excl\":", known, self.excl.as_slice())?;
         push_items(out, b",\"shared\":", known, self.shared.as_slice())?;
-        out.extend_from_slice(b"}")?;
+        push_words(out, b"}")?;
         Ok(())
     }
 }

@@ -8,6 +8,7 @@ use crate::columns::{Column, push_column};
 use crate::items::{Known, Listed, push_items};
 use chart_escape::{Piece, push_tokens};
 use chart_layout::Chart;
+use chart_words::push_words;
 use lock_model::Plan;
 use run_tracks::ThreadRows;
 use std::alloc::AllocError;
@@ -62,6 +63,6 @@ fn push_end(out: &mut Vec<u8>, chart: &Chart, t: usize) -> Result<(), AllocError
                 Piece::Own("}"),
             ],
         ),
-        None => out.extend_from_slice(b"}"),
+        None => push_words(out, b"}"),
     }
 }

@@ -5,6 +5,7 @@ ghost use Rattle.chart_html.specs.Tracks.{hold, pair, track};
 
 use crate::items::{Known, Listed, push_items};
 use chart_escape::{Piece, push_tokens};
+use chart_words::push_words;
 use lock_model::Mode;
 use run_tracks::Track;
 use std::alloc::AllocError;
@@ -35,9 +36,9 @@ impl Listed for (u32, Option<Mode>) {
     fn push(&self, out: &mut Vec<u8>, _known: &Known<'_>, _n: usize) -> Result<(), AllocError> {
         begin_pair(out, self.0)?;
         match self.1 {
-            Some(Mode::Excl) => out.extend_from_slice(b"\"x\"]"),
-            Some(Mode::Shared) => out.extend_from_slice(b"\"s\"]"),
-            None => out.extend_from_slice(b"\"\"]"),
+            Some(Mode::Excl) => push_words(out, b"\"x\"]"),
+            Some(Mode::Shared) => push_words(out, b"\"s\"]"),
+            None => push_words(out, b"\"\"]"),
         }
     }
 }

@@ -337,17 +337,21 @@ module _ (page : Page) (picture : List ℕ) (out : IsLaidOut page)
         (omega (arith, on));
   }
 
-pub picture_draws : (page : Page) (plan : Plan) (chart : Chart) (laned picture : List ℕ) → page.plan.now ≡ plan
-    → page.chart.now ≡ chart → IsLaidOut page → length page.lanes.items ≡ length chart.lanes → LanesAreDrawn page laned
-    → Stands picture laned → Draws plan chart picture
-picture_draws page plan chart laned picture ep ec out long h on =
-    let drawn : LanesAreDrawn page picture = record {
-      frame = all_still (FrameIsOn page) (frame_kept page) laned picture page.lanes.items on h.frame;
-      bars = all_still (BarsAreDrawn page) (bars_kept page) laned picture page.lanes.items on h.bars;
-      loans = all_still (LoansAreDrawn page) (loans_kept page) laned picture page.lanes.items on h.loans;
-      arrows = arrows_still page laned laned picture page.chart.now.arrows on on h.arrows;
-      marks = all_still (MarkIsOn page) (mark_kept page) laned picture page.chart.now.marks on h.marks;
-    } in
+-- what is drawn in a part of a picture is drawn in the picture
+pub lanes_still : (page : Page) (laned picture : List ℕ) → Stands picture laned → LanesAreDrawn page laned
+    → LanesAreDrawn page picture
+lanes_still page laned picture on h = record {
+  frame = all_still (FrameIsOn page) (frame_kept page) laned picture page.lanes.items on h.frame;
+  bars = all_still (BarsAreDrawn page) (bars_kept page) laned picture page.lanes.items on h.bars;
+  loans = all_still (LoansAreDrawn page) (loans_kept page) laned picture page.lanes.items on h.loans;
+  arrows = arrows_still page laned laned picture page.chart.now.arrows on on h.arrows;
+  marks = all_still (MarkIsOn page) (mark_kept page) laned picture page.chart.now.marks on h.marks;
+}
+
+pub picture_draws : (page : Page) (plan : Plan) (chart : Chart) (picture : List ℕ) → page.plan.now ≡ plan
+    → page.chart.now ≡ chart → IsLaidOut page → length page.lanes.items ≡ length chart.lanes
+    → LanesAreDrawn page picture → Draws plan chart picture
+picture_draws page plan chart picture ep ec out long drawn =
     let draws : Draws page.plan.now page.chart.now picture = page_drawn page picture out
     (subst (λ (c : Chart). length page.lanes.items ≡ length c.lanes) (sym ec) long) drawn in
     subst (λ (c : Chart). Draws plan c picture) ec (subst (λ (p : Plan). Draws p page.chart.now picture) ep draws)

@@ -20,6 +20,10 @@ within whole text part h k = record {
   is = h.is ∙ ap (λ t. h.before ++ (t ++ h.behind)) k.is ∙ simp append_assoc;
 }
 
+-- so does what a text begins with
+pub begins : (text part behind : List ℕ) → text ≡ part ++ behind → Stands text part
+begins text part behind is = record { before = []; behind = behind; is = is }
+
 pub told : (picture part other : List ℕ) → part ≡ other → Stands picture part → Stands picture other
 told picture part other same h = subst (λ p. Stands picture p) same h
 

@@ -1,5 +1,5 @@
 -- What is drawn of a page: its arrows and marks, and the names and ends of its threads.
-use Rattle.std.specs.Prelude.{◌≡◌, ⊤, ℕ, ◌+◌, ◌<◌, nat_lt, if◌then◌else◌, List, length, slice_get, codes, All, Option, Some, None}
+use Rattle.std.specs.Prelude.{◌≡◌, ⊤, ℕ, ◌+◌, ◌<◌, nat_lt, if◌then◌else◌, List, [], ◌∷◌, length, slice_get, codes, All, Option, Some, None}
 use Rattle.chart_layout.specs.declared.layout.Arrow.{Arrow}
 use Rattle.chart_layout.specs.declared.layout.Chart.{Chart}
 use Rattle.chart_layout.specs.declared.layout.Lane.{Lane as ChartLane}
@@ -9,15 +9,27 @@ use Rattle.lock_model.specs.Plans.{thread_name}
 use Rattle.lock_model.specs.declared.numbers.Prio.{Prio}
 use Rattle.chart_svg.specs.Drawn.{line_bytes, pixels, prio_words, row_begin, words_bytes, ArrowIsDrawn, MarkIsDrawn, Scale, Stands}
 use Rattle.chart_svg.specs.Lanes.{scale_of, BarsAreDrawn, Fits, LoansAreDrawn}
+use Rattle.chart_svg.specs.Shapes.{shapes_in}
+use Rattle.chart_svg.specs.declared.arrows.ArrowShape.{ArrowShape}
 use Rattle.chart_svg.specs.declared.page.LaneBand.{LaneBand}
 use Rattle.chart_svg.specs.declared.page.Page.{Page}
 use Rattle.chart_svg.specs.declared.pixels.Px.{Px}
+use Rattle.chart_svg.specs.declared.shapes.Shape.{Shape}
 
 -- 1. Arrows
 
 -- a lane with room for what stands in it, whatever its priorities
 abbrev pub HasPlaces : LaneBand → Type 0
 HasPlaces lane = (prios : List Prio) × Fits prios lane
+
+-- the lines of an arrow, if there is one, and what stands before all bars of it
+abbrev pub lines_in : Option ArrowShape → List Shape
+lines_in None = []
+lines_in (Some arrow) = arrow.line ∷ []
+
+abbrev pub heads_in : Option ArrowShape → List Shape
+heads_in None = []
+heads_in (Some arrow) = arrow.head ∷ shapes_in arrow.words
 
 -- the lanes from which and to which an arrow goes are there
 abbrev pub HasEnds : Page → Arrow → Type 0

@@ -1,9 +1,9 @@
 //! The arrows from lane to lane, in the column of their turn. Their lines pass behind bars; their heads and words stand
 //! before all of these.
-ghost use Rattle.std.specs.Prelude.{◌≡◌, ◌-◌, ◌≤◌, if◌then◌else◌, length, slice_get, All, IfOk, Some};
+ghost use Rattle.std.specs.Prelude.{◌≡◌, ◌-◌, ◌≤◌, ◌++◌, if◌then◌else◌, length, slice_get, All, IfOk, OnOk, Some};
 ghost use Rattle.chart_svg.specs.Drawn.{arrow_title, class_bytes, figure_bytes, head_class, line_bytes, line_class, to_word, turn_at, ArrowIsDrawn};
 ghost use Rattle.chart_svg.specs.Lanes.{scale_of, Fits, IsLaidOut, IsWithin};
-ghost use Rattle.chart_svg.specs.Pages.{ArrowIsOn, HasPlaces};
+ghost use Rattle.chart_svg.specs.Pages.{heads_in, lines_in, ArrowIsOn, HasPlaces};
 ghost use Rattle.chart_svg.specs.Shapes.{shape_bytes, shapes_bytes};
 ghost use Rattle.chart_svg.specs.declared.shapes.Figure.TheVariants.{Up, Down};
 
@@ -11,9 +11,10 @@ use crate::packing::is_wait;
 use crate::page::{LaneBand, Page};
 use crate::pixels::{Px, count};
 use crate::shapes::Class::Word;
-use crate::shapes::{Class, Figure, Form, Shape, Shapes};
+use crate::shapes::{Class, Figure, Form, MaybeShape, Shape, add, add_some};
+use crate::wording::Pushed;
 use chart_layout::{Arrow, ArrowKind, BarKind, Saying};
-use chart_words::push_arrow;
+use chart_words::{push_arrow, push_words};
 use lock_model::LockNo;
 use std::alloc::{AllocError, Global};
 
@@ -25,12 +26,28 @@ pub struct ArrowShapes {
     pub heads: Vec<Shape>,
 }
 
+/// One arrow: its line, its head, and its words where there is room for them.
+#[derive(Drop)]
+struct ArrowShape {
+    line: Shape,
+    head: Shape,
+    words: Option<Shape>,
+}
+
 impl ArrowShapes {
-    fn none(alloc: Global) -> ArrowShapes {
-        ArrowShapes {
-            lines: Vec::new(alloc),
-            heads: Vec::new(alloc),
-        }
+    // Adds an arrow, if there is one.
+    fn add(&mut self, arrow: Option<ArrowShape>) -> Pushed
+        ensures lines { OnOk result (self.new.lines.items
+            ≡ self.old.lines.items ++ lines_in arrow) }
+        ensures heads { OnOk result (self.new.heads.items
+            ≡ self.old.heads.items ++ heads_in arrow) }
+    {
+        let Some(arrow) = arrow else {
+            return Ok(());
+        };
+        add(&mut self.lines, arrow.line)?;
+        add(&mut self.heads, arrow.head)?;
+        add_some(&mut self.heads, arrow.words)
     }
 }
 
@@ -40,27 +57,28 @@ pub fn arrows(alloc: Global, page: &Page<'_>) -> Result<ArrowShapes, AllocError>
     ensures { IfOk result (λ arrows. All (ArrowIsOn page.now (shapes_bytes arrows.lines.items)
         (shapes_bytes arrows.heads.items)) page.now.chart.now.arrows) }
 {
-    let mut arrows = ArrowShapes::none(alloc);
+    let mut arrows = ArrowShapes {
+        lines: Vec::new(alloc),
+        heads: Vec::new(alloc),
+    };
     for arrow in page.chart.arrows.as_slice() {
-        let mut one = one_arrow(alloc, page, *arrow)?;
-        arrows.lines.append(&mut one.lines)?;
-        arrows.heads.append(&mut one.heads)?;
+        arrows.add(one_arrow(alloc, page, *arrow)?)?;
     }
     Ok(arrows)
 }
 
-fn one_arrow(alloc: Global, page: &Page<'_>, arrow: Arrow) -> Result<ArrowShapes, AllocError>
+fn one_arrow(alloc: Global, page: &Page<'_>, arrow: Arrow) -> Result<Option<ArrowShape>, AllocError>
     requires { IsLaidOut page.now }
-    ensures { IfOk result (λ arrows. ArrowIsOn page.now (shapes_bytes arrows.lines.items)
-        (shapes_bytes arrows.heads.items) arrow) }
+    ensures { IfOk result (λ one. ArrowIsOn page.now (shapes_bytes (lines_in one))
+        (shapes_bytes (heads_in one)) arrow) }
 {
     let Some(from) = page.lane_of(arrow.from) else {
-        return Ok(ArrowShapes::none(alloc));
+        return Ok(None);
     };
     let Some(to) = page.lane_of(arrow.to) else {
-        return Ok(ArrowShapes::none(alloc));
+        return Ok(None);
     };
-    arrow_between(alloc, page, arrow, from, to)
+    Ok(Some(arrow_between(alloc, page, arrow, from, to)?))
 }
 
 fn arrow_between(
@@ -69,25 +87,24 @@ fn arrow_between(
     arrow: Arrow,
     from: &LaneBand,
     to: &LaneBand,
-) -> Result<ArrowShapes, AllocError>
+) -> Result<ArrowShape, AllocError>
     requires out { IsLaidOut page.now }
     requires begins { slice_get page.now.lanes.items arrow.from.0 ≡ Some from.now }
     requires ends { slice_get page.now.lanes.items arrow.to.0 ≡ Some to.now }
-    ensures { IfOk result (λ arrows. ArrowIsDrawn page.now.plan.now page.now.chart.now
-        (scale_of page.now) (shapes_bytes arrows.lines.items) (shapes_bytes arrows.heads.items)
-        arrow) }
+    ensures { IfOk result (λ one. ArrowIsDrawn page.now.plan.now page.now.chart.now
+        (scale_of page.now) (shapes_bytes (lines_in (Some one)))
+        (shapes_bytes (heads_in (Some one))) arrow) }
 {
     let goes_up = to.top.0 < from.top.0;
     let begin = begin_of(arrow, from, goes_up);
     let tip = tip_of(page, arrow, to, goes_up);
-    let mut arrows = ArrowShapes::none(alloc);
-    arrows.lines.push(line_of(page, arrow, begin, tip))?;
-    arrows
-        .heads
-        .push(head_of(alloc, page, arrow, figure_of(goes_up), tip)?)?;
-    let mut words = words_of(alloc, page, arrow, height_of(from, goes_up))?;
-    arrows.heads.append(&mut words)?;
-    Ok(arrows)
+    let head = head_of(alloc, page, arrow, figure_of(goes_up), tip)?;
+    let words = words_of(alloc, page, arrow, height_of(from, goes_up))?;
+    Ok(ArrowShape {
+        line: line_of(page, arrow, begin, tip),
+        head,
+        words,
+    })
 }
 
 fn figure_of(goes_up: bool) -> Figure
@@ -150,10 +167,10 @@ fn said_of(alloc: Global, page: &Page<'_>, arrow: Arrow) -> Result<Vec<u8>, Allo
     ensures { IfOk result (λ said. said.items ≡ arrow_title page.now.plan.now arrow) }
 {
     let mut said = Vec::from_slice(alloc, page.plan.thread_name(arrow.from))?;
-    said.push(b' ')?;
+    push_words(&mut said, b" ")?;
     push_arrow(&mut said, arrow)?;
-    said.extend_from_slice(to_word(arrow.kind))?;
-    said.extend_from_slice(page.plan.thread_name(arrow.to))?;
+    push_words(&mut said, to_word(arrow.kind))?;
+    push_words(&mut said, page.plan.thread_name(arrow.to))?;
     Ok(said)
 }
 
@@ -168,24 +185,27 @@ fn to_word(kind: ArrowKind) -> &'static [u8]
 }
 
 // Its words beside its begin, where there is room for words.
-fn words_of(alloc: Global, page: &Page<'_>, arrow: Arrow, y: Px) -> Shapes {
-    let mut shapes = Vec::new(alloc);
-    if !page.has_words {
-        return Ok(shapes);
-    }
-    let class = match arrow.kind {
-        ArrowKind::Lends { before, prio } if before == prio => return Ok(shapes),
-        ArrowKind::Lends { .. } => Word("lend"),
-        ArrowKind::Wakes => Word("wake"),
-        ArrowKind::BlockedOn | ArrowKind::Behind | ArrowKind::Refused => return Ok(shapes),
+fn words_of(alloc: Global, page: &Page<'_>, arrow: Arrow, y: Px) -> MaybeShape {
+    let Some(class) = words_class(arrow.kind) else {
+        return Ok(None);
     };
+    if !page.has_words {
+        return Ok(None);
+    }
     let mut words = Vec::new(alloc);
     push_arrow(&mut words, arrow)?;
-    shapes.push(Shape(
-        class,
-        Form::Words((page.turn_at(arrow.turn).plus(5), y), words),
-    ))?;
-    Ok(shapes)
+    let at = (page.turn_at(arrow.turn).plus(5), y);
+    Ok(Some(Shape(class, Form::Words(at, words))))
+}
+
+// The class of its words, if it has words of its own.
+fn words_class(kind: ArrowKind) -> Option<Class> {
+    match kind {
+        ArrowKind::Lends { before, prio } if before == prio => None,
+        ArrowKind::Lends { .. } => Some(Word("lend")),
+        ArrowKind::Wakes => Some(Word("wake")),
+        ArrowKind::BlockedOn | ArrowKind::Behind | ArrowKind::Refused => None,
+    }
 }
 
 // Where an arrow begins: one that goes up above the words of the lane's marks, and one of a refusal

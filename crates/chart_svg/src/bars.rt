@@ -8,10 +8,11 @@ use crate::packing::is_walk;
 use crate::page::{LaneBand, Page};
 use crate::pixels::{Px, width_of};
 use crate::shapes::Class::{OfLock, Word};
-use crate::shapes::{Area, Class, Form, Shape, Shapes};
+use crate::shapes::{Area, Class, Form, MaybeShape, Shape, Shapes, add, add_all, add_some};
+use crate::wording::{Pushed, push_counted};
 use chart_layout::{Bar, BarKind, Chart, End, Saying};
-use chart_words::{push_bar, queue_name};
-use lock_model::{Mode, QueueName, ThreadNo, push_number};
+use chart_words::{push_bar, push_words, queue_name};
+use lock_model::{Mode, QueueName, ThreadNo};
 use std::alloc::{AllocError, Global};
 
 /// The bars of all lanes.
@@ -21,7 +22,7 @@ pub fn bars(alloc: Global, page: &Page<'_>) -> Shapes
 {
     let mut shapes = Vec::new(alloc);
     for lane in &page.lanes {
-        shapes.append(&mut bars_of(alloc, page, lane)?)?;
+        add_all(&mut shapes, bars_of(alloc, page, lane)?)?;
     }
     Ok(shapes)
 }
@@ -33,7 +34,7 @@ fn bars_of(alloc: Global, page: &Page<'_>, lane: &LaneBand) -> Shapes
     let mut shapes = Vec::new(alloc);
     for (bar, level) in &lane.bars.laid {
         let top = lane.bar_place(bar.what, *level);
-        shapes.append(&mut one_bar(alloc, page, *bar, top)?)?;
+        add_all(&mut shapes, one_bar(alloc, page, *bar, top)?)?;
     }
     Ok(shapes)
 }
@@ -43,59 +44,49 @@ fn said_of(alloc: Global, page: &Page<'_>, bar: Bar) -> Result<Vec<u8>, AllocErr
     ensures { IfOk result (λ said. said.items ≡ bar_title page.now.plan.now page.now.chart.now bar) }
 {
     let mut said = Vec::from_slice(alloc, page.plan.thread_name(bar.thread))?;
-    said.extend_from_slice(b" ")?;
+    push_words(&mut said, b" ")?;
     push_bar(&mut said, page.plan, bar.what)?;
     push_lasting(&mut said, page.chart, bar)?;
     Ok(said)
 }
 
 // How long a bar lasts, as far as the window shows its begin and its end.
-fn push_lasting(out: &mut Vec<u8>, chart: &Chart, bar: Bar) -> Result<(), AllocError>
+fn push_lasting(out: &mut Vec<u8>, chart: &Chart, bar: Bar) -> Pushed
     ensures { OnOk result (out.new.items ≡ out.old.items ++ lasting_words chart.now bar) }
 {
-    let begin = u64::from(bar.first.saturating_sub(1));
-    let end = u64::from(bar.last);
+    let begin = bar.first.saturating_sub(1);
     match (chart.first < bar.first, bar.last < chart.last) {
         (true, true) => {
-            out.extend_from_slice(b", turn")?;
-            push_number(out, begin)?;
-            out.extend_from_slice(b" to")?;
-            push_number(out, end)
+            push_counted(out, b", turn", begin)?;
+            push_counted(out, b" to", bar.last)
         }
         (true, false) => {
-            out.extend_from_slice(b", from turn")?;
-            push_number(out, begin)?;
-            out.extend_from_slice(b" on")
+            push_counted(out, b", from turn", begin)?;
+            push_words(out, b" on")
         }
-        (false, true) => {
-            out.extend_from_slice(b", up to turn")?;
-            push_number(out, end)
-        }
-        (false, false) => out.extend_from_slice(b", throughout"),
+        (false, true) => push_counted(out, b", up to turn", bar.last),
+        (false, false) => push_words(out, b", throughout"),
     }
 }
 
 fn one_bar(alloc: Global, page: &Page<'_>, bar: Bar, top: Px) -> Shapes
     ensures { IfOk result (λ shapes. IsDrawnAt page.now (shapes_bytes shapes.items) top.0 bar) }
 {
-    let mut shapes = ground_of(alloc, page, bar, top)?;
-    shapes.push(shape_of(alloc, page, bar, top)?)?;
-    let mut words = if is_walk(bar.what) {
-        walk_words(alloc, page, bar, top)?
-    } else {
-        own_words(alloc, page, bar, top)?
-    };
-    shapes.append(&mut words)?;
+    let mut shapes = Vec::new(alloc);
+    add_some(&mut shapes, ground_of(page, bar, top))?;
+    add(&mut shapes, shape_of(alloc, page, bar, top)?)?;
+    add_some(&mut shapes, label_of(alloc, page, bar, top)?)?;
+    add_some(&mut shapes, words_behind(alloc, page, bar, top)?)?;
     Ok(shapes)
 }
 
 // The paper below a bar. A walk has none.
-fn ground_of(alloc: Global, page: &Page<'_>, bar: Bar, top: Px) -> Shapes {
-    let mut shapes = Vec::new(alloc);
-    if !is_walk(bar.what) {
-        shapes.push(Shape(Word("paper"), Form::Rect(area_of(page, bar, top), None)))?;
+fn ground_of(page: &Page<'_>, bar: Bar, top: Px) -> Option<Shape> {
+    if is_walk(bar.what) {
+        None
+    } else {
+        Some(Shape(Word("paper"), Form::Rect(area_of(page, bar, top), None)))
     }
-    Ok(shapes)
 }
 
 // A bar without the words on it.
@@ -108,26 +99,39 @@ fn shape_of(alloc: Global, page: &Page<'_>, bar: Bar, top: Px) -> Result<Shape, 
     ))
 }
 
-// The words on it, where it has room for them, and those behind it.
-fn own_words(alloc: Global, page: &Page<'_>, bar: Bar, top: Px) -> Shapes {
-    let mut shapes = Vec::new(alloc);
+// The words on it, or what it is called in short, where it has room for that.
+fn label_of(alloc: Global, page: &Page<'_>, bar: Bar, top: Px) -> MaybeShape {
     let area = area_of(page, bar, top);
+    if is_walk(bar.what) {
+        return walk_label(alloc, area);
+    }
     let words = words_of(alloc, page, bar)?;
     let room = area.width.saturating_sub(8);
-    let fitting = if width_of(words.len(), 72) <= room {
-        words.as_slice()
+    let fitting = fitting(&words, short_name(page, bar.what), room);
+    if width_of(fitting.len(), 72) > room {
+        return Ok(None);
+    }
+    let at = (area.x.plus(6), top.plus(13));
+    Ok(Some(Shape::words(alloc, words_class(bar.what), at, fitting)?))
+}
+
+// All words where there is room for them, and else the short name.
+fn fitting<'w>(words: &'w [u8], short: &'w [u8], room: u32) -> &'w [u8] {
+    if width_of(words.len(), 72) <= room {
+        words
     } else {
-        short_name(page, bar.what)
-    };
-    if width_of(fitting.len(), 72) <= room {
-        let at = (area.x.plus(6), top.plus(13));
-        shapes.push(Shape::words(alloc, words_class(bar.what), at, fitting)?)?;
+        short
     }
-    if is_left(page, bar) {
-        let at = (area.x.plus(area.width).plus(6), top.plus(13));
-        shapes.push(Shape::words(alloc, Word("never"), at, b"never woken")?)?;
+}
+
+// Behind a wait that the run's end leaves: that it isn't woken.
+fn words_behind(alloc: Global, page: &Page<'_>, bar: Bar, top: Px) -> MaybeShape {
+    if !is_left(page, bar) {
+        return Ok(None);
     }
-    Ok(shapes)
+    let area = area_of(page, bar, top);
+    let at = (area.x.plus(area.width).plus(6), top.plus(13));
+    Ok(Some(Shape::words(alloc, Word("never"), at, b"never woken")?))
 }
 
 // Where a bar is, whose top is there.
@@ -154,23 +158,24 @@ fn words_of(alloc: Global, page: &Page<'_>, bar: Bar) -> Result<Vec<u8>, AllocEr
     let mut words = Vec::new(alloc);
     push_bar(&mut words, page.plan, bar.what)?;
     if let Some(writer) = writer_before(page, bar) {
-        words.extend_from_slice(b", behind ")?;
-        words.extend_from_slice(page.plan.thread_name(writer))?;
+        push_words(&mut words, b", behind ")?;
+        push_words(&mut words, page.plan.thread_name(writer))?;
     }
     Ok(words)
 }
 
-// The writer behind which a bar's thread waits, if it waits, as the sentence of the turn says that began it.
+// The writer behind which a bar's thread waits, if it waits.
 fn writer_before(page: &Page<'_>, bar: Bar) -> Option<ThreadNo> {
     match bar.what {
-        BarKind::Waits { .. } => {}
+        BarKind::Waits { .. } => writer_said(page, bar.first.checked_sub(1)?),
         BarKind::Holds { .. } | BarKind::TakenOff { .. } | BarKind::Woken { .. } | BarKind::Walks =>
-            {
-                return None;
-            }
+            None,
     }
-    let sentence = page.sentence_at(bar.first.checked_sub(1)?)?;
-    match &sentence.saying {
+}
+
+// The one of whom the sentence of the turn says that the turn's thread waits behind it.
+fn writer_said(page: &Page<'_>, turn: u32) -> Option<ThreadNo> {
+    match &page.sentence_at(turn)?.saying {
         Saying::Waits { behind, .. } => *behind,
         Saying::Lends { .. }
         | Saying::Sorts { .. }
@@ -250,17 +255,15 @@ fn is_left(page: &Page<'_>, bar: Bar) -> bool {
 }
 
 // What a walk is called, where it has room.
-fn walk_words(alloc: Global, page: &Page<'_>, bar: Bar, top: Px) -> Shapes {
-    let mut shapes = Vec::new(alloc);
-    let area = area_of(page, bar, top);
+fn walk_label(alloc: Global, area: Area) -> MaybeShape {
+    if area.width <= 34 {
+        return Ok(None);
+    }
     let words: &[u8] = if area.width > 90 {
         b"walks the chain"
     } else {
         b"walks"
     };
-    if area.width > 34 {
-        let at = (area.x.plus(4), top.plus(12));
-        shapes.push(Shape::words(alloc, Word("walk"), at, words)?)?;
-    }
-    Ok(shapes)
+    let at = (area.x.plus(4), area.y.plus(12));
+    Ok(Some(Shape::words(alloc, Word("walk"), at, words)?))
 }

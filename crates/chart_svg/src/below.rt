@@ -1,10 +1,11 @@
 //! What stands below the lanes: numbered sentences, and the printed end.
-use crate::lines::{Line, lines_at, widest, wrap};
+use crate::lines::{Line, add_lines, widest, wrap};
 use crate::page::Page;
 use crate::pixels::{Px, count};
 use crate::shapes::Class::Word;
-use crate::shapes::{Class, Shape, Shapes};
-use chart_layout::End;
+use crate::shapes::{Class, Shapes, add_words};
+use crate::wording::Pushed;
+use chart_layout::{End, Sentence};
 use chart_words::{push_end, push_sentence};
 use std::alloc::{AllocError, Global};
 
@@ -50,14 +51,27 @@ impl Below {
 fn said_of(alloc: Global, page: &Page<'_>) -> Result<Vec<Line>, AllocError> {
     let mut said = Vec::new(alloc);
     for sentence in page.chart.sentences.as_slice() {
-        let mut words = Vec::new(alloc);
-        push_sentence(&mut words, page.plan, sentence)?;
-        said.append(&mut wrap(alloc, Word("said"), Some(sentence.turn), &words, MOST)?)?;
+        add_sentence(alloc, &mut said, page, sentence)?;
     }
-    let mut end = Vec::new(alloc);
-    push_end(&mut end, page.plan, &page.chart.end)?;
-    said.append(&mut wrap(alloc, Word("end"), None, &end, MOST)?)?;
+    add_end(alloc, &mut said, page)?;
     Ok(said)
+}
+
+fn add_sentence(
+    alloc: Global,
+    said: &mut Vec<Line>,
+    page: &Page<'_>,
+    sentence: &Sentence,
+) -> Pushed {
+    let mut words = Vec::new(alloc);
+    push_sentence(&mut words, page.plan, sentence)?;
+    wrap(alloc, said, Word("said"), Some(sentence.turn), &words, MOST)
+}
+
+fn add_end(alloc: Global, said: &mut Vec<Line>, page: &Page<'_>) -> Pushed {
+    let mut words = Vec::new(alloc);
+    push_end(&mut words, page.plan, &page.chart.end)?;
+    wrap(alloc, said, Word("end"), None, &words, MOST)
 }
 
 fn printed_of(alloc: Global, page: &Page<'_>) -> Result<Vec<Line>, AllocError> {
@@ -65,7 +79,7 @@ fn printed_of(alloc: Global, page: &Page<'_>) -> Result<Vec<Line>, AllocError> {
     for line in page.chart.printed.as_slice().split(|byte| *byte == b'\n') {
         if !line.is_empty() {
             let class = line_class(&page.chart.end, line);
-            printed.append(&mut wrap(alloc, class, None, line, MOST)?)?;
+            wrap(alloc, &mut printed, class, None, line, MOST)?;
         }
     }
     Ok(printed)
@@ -88,12 +102,24 @@ fn line_class(end: &End, line: &[u8]) -> Class {
 
 /// What stands below the lanes.
 pub fn shapes_below(alloc: Global, below: &Below) -> Shapes {
-    let (left, middle, top) = (Px(24), below.middle, below.top);
+    let (middle, top) = (below.middle, below.top);
     let first = top.plus(20);
     let mut shapes = Vec::new(alloc);
-    shapes.push(Shape::words(alloc, Word("head"), (left, top), b"What happened")?)?;
-    shapes.append(&mut lines_at(alloc, &below.said, Px(56), first, 18)?)?;
-    shapes.push(Shape::words(alloc, Word("head"), (middle, top), b"At the end")?)?;
-    shapes.append(&mut lines_at(alloc, &below.printed, middle, first, 16)?)?;
+    add_words(
+        alloc,
+        &mut shapes,
+        Word("head"),
+        (Px(24), top),
+        b"What happened",
+    )?;
+    add_lines(alloc, &mut shapes, &below.said, (Px(56), first), 18)?;
+    add_words(
+        alloc,
+        &mut shapes,
+        Word("head"),
+        (middle, top),
+        b"At the end",
+    )?;
+    add_lines(alloc, &mut shapes, &below.printed, (middle, first), 16)?;
     Ok(shapes)
 }

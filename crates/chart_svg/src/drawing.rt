@@ -10,12 +10,12 @@ use crate::arrows::arrows;
 use crate::bars::bars;
 use crate::below::{Below, shapes_below};
 use crate::frame::{frame, heading, paper};
-use crate::head::{TitleBlock, shapes_above};
+use crate::head::{TitleBlock, add_above};
 use crate::marks::{marks, reasons};
 use crate::page::Page;
-use crate::shapes::{Shapes, picture_of};
+use crate::shapes::{Shape, Shapes, add, add_all, picture_of};
 use crate::strips::{strip_words, strips};
-use crate::style::style;
+use crate::style::add_style;
 use chart_layout::Chart;
 use lock_model::Plan;
 use std::alloc::{AllocError, Global};
@@ -39,16 +39,32 @@ pub fn svg(
     let head = TitleBlock::make(alloc, title, subtitle)?;
     let page = Page::make(alloc, plan, chart, head.bottom)?;
     let below = Below::make(alloc, &page)?;
+    let heading = heading(alloc, &page, title, subtitle)?;
+    picture_with(alloc, &page, heading, &head, &below)
+}
+
+// The picture of a page, what is read aloud of it, and what stands above and below its lanes.
+fn picture_with(
+    alloc: Global,
+    page: &Page<'_>,
+    heading: Shape,
+    head: &TitleBlock,
+    below: &Below,
+) -> Result<Vec<u8>, AllocError>
+    requires { IsLaidOut page.now }
+    ensures whole { IfOk result (λ picture. IsWellFormed picture.items) }
+    ensures drawn { IfOk result (λ picture. LanesAreDrawn page.now picture.items) }
+{
     let width = page.right().plus(118).max(below.right).max(head.width());
     let size = (width.0, below.bottom.0);
     let mut shapes = Vec::new(alloc);
-    shapes.push(heading(alloc, &page, title, subtitle)?)?;
-    shapes.append(&mut style(alloc, plan)?)?;
-    shapes.push(paper(size))?;
-    shapes.append(&mut shapes_above(alloc, &page, &head, width.minus(24))?)?;
-    shapes.append(&mut shapes_in_lanes(alloc, &page)?)?;
-    shapes.append(&mut shapes_below(alloc, &below)?)?;
-    picture_of(alloc, &page, size, &shapes)
+    add(&mut shapes, heading)?;
+    add_style(alloc, &mut shapes, page.plan)?;
+    add(&mut shapes, paper(size))?;
+    add_above(alloc, &mut shapes, page, head, width.minus(24))?;
+    add_all(&mut shapes, shapes_in_lanes(alloc, page)?)?;
+    add_all(&mut shapes, shapes_below(alloc, below)?)?;
+    picture_of(alloc, page, size, &shapes)
 }
 
 // What stands in the lanes and beside them, the words in front.
@@ -56,14 +72,14 @@ fn shapes_in_lanes(alloc: Global, page: &Page<'_>) -> Shapes
     requires { IsLaidOut page.now }
     ensures { IfOk result (λ shapes. LanesAreDrawn page.now (shapes_bytes shapes.items)) }
 {
-    let mut arrows = arrows(alloc, page)?;
+    let arrows = arrows(alloc, page)?;
     let mut shapes = frame(alloc, page)?;
-    shapes.append(&mut strips(alloc, page)?)?;
-    shapes.append(&mut arrows.lines)?;
-    shapes.append(&mut bars(alloc, page)?)?;
-    shapes.append(&mut strip_words(alloc, page)?)?;
-    shapes.append(&mut arrows.heads)?;
-    shapes.append(&mut marks(alloc, page)?)?;
-    shapes.append(&mut reasons(alloc, page)?)?;
+    add_all(&mut shapes, strips(alloc, page)?)?;
+    add_all(&mut shapes, arrows.lines)?;
+    add_all(&mut shapes, bars(alloc, page)?)?;
+    add_all(&mut shapes, strip_words(alloc, page)?)?;
+    add_all(&mut shapes, arrows.heads)?;
+    add_all(&mut shapes, marks(alloc, page)?)?;
+    add_all(&mut shapes, reasons(alloc, page)?)?;
     Ok(shapes)
 }

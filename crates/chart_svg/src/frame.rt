@@ -1,16 +1,19 @@
 //! What stands round the lanes: what is read aloud, the names of the threads and the numbers of the turns.
-ghost use Rattle.std.specs.Prelude.{◌≡◌, ◌+◌, ◌<◌, [], ◌∷◌, ◌++◌, codes, option_map, Some, All, IfOk, OnOk};
+ghost use Rattle.std.specs.Prelude.{◌≡◌, ◌+◌, ◌<◌, codes, option_map, Some, All, IfOk};
 ghost use Rattle.chart_svg.specs.Drawn.{line_bytes, pixels, prio_words};
 ghost use Rattle.chart_svg.specs.Pages.{shown_words, stop_at, FrameIsOn, PrioIsOn, StopsAt};
-ghost use Rattle.chart_svg.specs.Shapes.{shape_bytes, shapes_bytes};
+ghost use Rattle.chart_svg.specs.Shapes.{shape_bytes, shapes_bytes, shapes_in};
 
 use crate::page::{LaneBand, Page};
 use crate::pixels::{Px, width_of};
 use crate::shapes::Class::Word;
-use crate::shapes::{Area, Class, Form, Shape, Shapes};
+use crate::shapes::{
+    Area, Class, Form, MaybeShape, Shape, Shapes, add, add_all, add_some, add_words,
+};
+use crate::wording::{Pushed, push_counted};
 use chart_layout::PrioSpan;
-use chart_words::end_headline;
-use lock_model::{Prio, ThreadNo, push_number};
+use chart_words::{end_headline, push_words};
+use lock_model::{Prio, ThreadNo};
 use std::alloc::{AllocError, Global};
 
 /// What is read aloud of the picture.
@@ -20,13 +23,11 @@ pub fn heading(
     title: &str,
     subtitle: &str,
 ) -> Result<Shape, AllocError> {
+    let title = Vec::from_slice(alloc, title.as_bytes())?;
     let mut words = Vec::from_slice(alloc, subtitle.as_bytes())?;
-    words.extend_from_slice(b" The run ended so: ")?;
-    words.extend_from_slice(end_headline(&page.chart.end).as_bytes())?;
-    Ok(Shape(
-        Class::None,
-        Form::Heading(Vec::from_slice(alloc, title.as_bytes())?, words),
-    ))
+    push_words(&mut words, b" The run ended so: ")?;
+    push_words(&mut words, end_headline(&page.chart.end).as_bytes())?;
+    Ok(Shape(Class::None, Form::Heading(title, words)))
 }
 
 /// The paper, of that size.
@@ -45,52 +46,60 @@ pub fn frame(alloc: Global, page: &Page<'_>) -> Shapes
     ensures { IfOk result (λ shapes.
         All (FrameIsOn page.now (shapes_bytes shapes.items)) page.now.lanes.items) }
 {
-    let mut shapes = zebra(alloc, page)?;
-    shapes.append(&mut turns(alloc, page)?)?;
+    let mut shapes = Vec::new(alloc);
+    add_zebra(&mut shapes, page)?;
+    add_turns(alloc, &mut shapes, page)?;
     for lane in &page.lanes {
-        shapes.append(&mut lane_frame(alloc, page, lane)?)?;
+        add_all(&mut shapes, lane_frame(alloc, page, lane)?)?;
     }
-    shapes.append(&mut hint(alloc, page)?)?;
+    add_some(&mut shapes, hint(alloc, page)?)?;
     Ok(shapes)
 }
 
 // Every other column is shaded.
-fn zebra(alloc: Global, page: &Page<'_>) -> Shapes {
-    let mut shapes = Vec::new(alloc);
+fn add_zebra(shapes: &mut Vec<Shape>, page: &Page<'_>) -> Pushed {
     if !page.has_words {
-        return Ok(shapes);
+        return Ok(());
     }
     for turn in page.chart.first..page.chart.last {
         if turn % 2 == 0 {
-            let area = Area {
-                x: page.turn_at(turn).minus(page.column / 2),
-                y: page.top.minus(6),
-                width: page.column,
-                height: page.bottom.plus(2).from(page.top),
-            };
-            shapes.push(Shape(Word("zebra"), Form::Rect(area, None)))?;
+            add(
+                shapes,
+                Shape(Word("zebra"), Form::Rect(column_of(page, turn), None)),
+            )?;
         }
     }
-    Ok(shapes)
+    Ok(())
+}
+
+fn column_of(page: &Page<'_>, turn: u32) -> Area {
+    Area {
+        x: page.turn_at(turn).minus(page.column / 2),
+        y: page.top.minus(6),
+        width: page.column,
+        height: page.bottom.plus(2).from(page.top),
+    }
 }
 
 // The line below the lanes, and the numbers of the turns below it.
-fn turns(alloc: Global, page: &Page<'_>) -> Shapes {
+fn add_turns(alloc: Global, shapes: &mut Vec<Shape>, page: &Page<'_>) -> Pushed {
     let (top, y) = (page.bottom, page.bottom.plus(15));
-    let mut shapes = Vec::new(alloc);
-    shapes.push(Shape(
-        Word("axis"),
-        Form::Line((page.left, top), (page.right(), top)),
-    ))?;
-    shapes.push(Shape::words(alloc, Word("gray"), (Px(24), y), b"turn")?)?;
+    add(
+        shapes,
+        Shape(
+            Word("axis"),
+            Form::Line((page.left, top), (page.right(), top)),
+        ),
+    )?;
+    add_words(alloc, shapes, Word("gray"), (Px(24), y), b"turn")?;
     let every = turns_apart(page);
     for turn in page.chart.first..page.chart.last {
         if turn % every == 0 {
             let at = (page.turn_at(turn), y);
-            shapes.push(Shape::number(alloc, Word("turn"), at, turn)?)?;
+            add(shapes, Shape::number(alloc, Word("turn"), at, turn)?)?;
         }
     }
-    Ok(shapes)
+    Ok(())
 }
 
 // How many turns lie from one number to the next, so that they have room.
@@ -113,9 +122,12 @@ fn lane_frame(alloc: Global, page: &Page<'_>, lane: &LaneBand) -> Shapes
 {
     let name = page.plan.thread_name(lane.thread);
     let mut shapes = Vec::new(alloc);
-    shapes.push(Shape::words(alloc, Word("name"), (Px(24), lane.line().plus(4)), name)?)?;
-    shapes.append(&mut priority(alloc, lane)?)?;
-    shapes.append(&mut own_line(alloc, page, lane)?)?;
+    add(
+        &mut shapes,
+        Shape::words(alloc, Word("name"), (Px(24), lane.line().plus(4)), name)?,
+    )?;
+    add_some(&mut shapes, priority(alloc, lane)?)?;
+    add_all(&mut shapes, own_line(alloc, page, lane)?)?;
     Ok(shapes)
 }
 
@@ -127,23 +139,32 @@ fn own_line(alloc: Global, page: &Page<'_>, lane: &LaneBand) -> Shapes
     match end_of(page, lane.thread) {
         Some(x) => ended_line(alloc, page, lane, x),
         None => {
-            let y = lane.line();
             let mut shapes = Vec::new(alloc);
-            shapes.push(Shape(Word("line"), Form::Line((page.left, y), (page.right(), y))))?;
+            add(&mut shapes, line_to(page, lane, page.right()))?;
             Ok(shapes)
         }
     }
+}
+
+fn line_to(page: &Page<'_>, lane: &LaneBand, x: Px) -> Shape {
+    let y = lane.line();
+    Shape(Word("line"), Form::Line((page.left, y), (x, y)))
 }
 
 // One that ends there: a stroke across it, and a word.
 fn ended_line(alloc: Global, page: &Page<'_>, lane: &LaneBand, x: Px) -> Shapes
     ensures { IfOk result (λ shapes. StopsAt (shapes_bytes shapes.items) lane.now (Some x.0)) }
 {
-    let y = lane.line();
     let mut shapes = Vec::new(alloc);
-    shapes.push(Shape(Word("line"), Form::Line((page.left, y), (x, y))))?;
-    shapes.push(Shape::words(alloc, Word("gray"), (x.plus(5), y.plus(4)), b"done")?)?;
-    shapes.push(stroke(lane, x))?;
+    add(&mut shapes, line_to(page, lane, x))?;
+    add_words(
+        alloc,
+        &mut shapes,
+        Word("gray"),
+        (x.plus(5), lane.line().plus(4)),
+        b"done",
+    )?;
+    add(&mut shapes, stroke(lane, x))?;
     Ok(shapes)
 }
 
@@ -158,13 +179,12 @@ fn stroke(lane: &LaneBand, x: Px) -> Shape
 }
 
 // Below the first lane's priority: which of two goes first.
-fn hint(alloc: Global, page: &Page<'_>) -> Shapes {
-    let mut shapes = Vec::new(alloc);
-    if let Some(lane) = page.lanes.first() {
-        let at = (Px(24), lane.line().plus(32));
-        shapes.push(Shape::words(alloc, Word("hint"), at, b"smaller goes first")?)?;
-    }
-    Ok(shapes)
+fn hint(alloc: Global, page: &Page<'_>) -> MaybeShape {
+    let Some(lane) = page.lanes.first() else {
+        return Ok(None);
+    };
+    let at = (Px(24), lane.line().plus(32));
+    Ok(Some(Shape::words(alloc, Word("hint"), at, b"smaller goes first")?))
 }
 
 /// Where a thread came to its end, where that is on the page.
@@ -181,19 +201,15 @@ pub fn end_of(page: &Page<'_>, t: ThreadNo) -> Option<Px>
 }
 
 // Its priority, as the lane's first step says it.
-fn priority(alloc: Global, lane: &LaneBand) -> Shapes
-    ensures { IfOk result (λ shapes. PrioIsOn (shapes_bytes shapes.items) lane.now) }
+fn priority(alloc: Global, lane: &LaneBand) -> MaybeShape
+    ensures { IfOk result (λ shape. PrioIsOn (shapes_bytes (shapes_in shape)) lane.now) }
 {
-    let mut shapes = Vec::new(alloc);
     let Some(step) = lane.steps.first() else {
-        return Ok(shapes);
+        return Ok(None);
     };
     let words = prio_words(alloc, shown_prio(lane.strip, *step), step.base)?;
-    shapes.push(Shape(
-        Word("gray"),
-        Form::Words((Px(24), lane.line().plus(20)), words),
-    ))?;
-    Ok(shapes)
+    let at = (Px(24), lane.line().plus(20));
+    Ok(Some(Shape(Word("gray"), Form::Words(at, words))))
 }
 
 // The one by which it runs, or its own one where a strip shows the other.
@@ -209,12 +225,11 @@ fn shown_prio(strip: Option<Px>, step: PrioSpan) -> Prio
 fn prio_words(alloc: Global, prio: Prio, base: Prio) -> Result<Vec<u8>, AllocError>
     ensures { IfOk result (λ words. words.items ≡ prio_words prio.0 base.0) }
 {
-    let mut words = Vec::from_slice(alloc, b"priority")?;
-    push_number(&mut words, u64::from(prio.0))?;
+    let mut words = Vec::new(alloc);
+    push_counted(&mut words, b"priority", u32::from(prio.0))?;
     if prio != base {
-        words.extend_from_slice(b" (base")?;
-        push_number(&mut words, u64::from(base.0))?;
-        words.push(b')')?;
+        push_counted(&mut words, b" (base", u32::from(base.0))?;
+        push_words(&mut words, b")")?;
     }
     Ok(words)
 }

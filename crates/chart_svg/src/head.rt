@@ -1,12 +1,12 @@
 //! What stands above the lanes: the titles, how the run ended, and which of its turns are shown.
-use crate::lines::{Line, lines_at, widest, wrap};
+use crate::lines::{Line, add_lines, widest, wrap};
 use crate::page::Page;
 use crate::pixels::{Px, count};
 use crate::shapes::Class::Word;
-use crate::shapes::{Class, Form, Shape, Shapes};
-use chart_layout::End;
+use crate::shapes::{Class, Form, MaybeShape, Shape, add_some, add_words};
+use crate::wording::{Pushed, push_counted};
+use chart_layout::{Chart, End};
 use chart_words::end_headline;
-use lock_model::push_number;
 use std::alloc::{AllocError, Global};
 
 /// The titles, in lines.
@@ -21,8 +21,24 @@ pub struct TitleBlock {
 
 impl TitleBlock {
     pub fn make(alloc: Global, title: &str, subtitle: &str) -> Result<TitleBlock, AllocError> {
-        let titles = wrap(alloc, Word("title"), None, title.as_bytes(), 90)?;
-        let subtitles = wrap(alloc, Word("sub"), None, subtitle.as_bytes(), 150)?;
+        let mut titles = Vec::new(alloc);
+        wrap(
+            alloc,
+            &mut titles,
+            Word("title"),
+            None,
+            title.as_bytes(),
+            90,
+        )?;
+        let mut subtitles = Vec::new(alloc);
+        wrap(
+            alloc,
+            &mut subtitles,
+            Word("sub"),
+            None,
+            subtitle.as_bytes(),
+            150,
+        )?;
         let under = Px(32).plus_times(count(titles.len()), 24);
         let bottom = under.plus_times(count(subtitles.len()), 18).plus(4);
         Ok(TitleBlock {
@@ -41,17 +57,28 @@ impl TitleBlock {
     }
 }
 
-/// The titles, and at the right how the run ended.
-pub fn shapes_above(alloc: Global, page: &Page<'_>, head: &TitleBlock, right: Px) -> Shapes {
-    let mut shapes = lines_at(alloc, &head.titles, Px(24), Px(34), 24)?;
-    shapes.append(&mut lines_at(alloc, &head.subtitles, Px(24), head.under, 18)?)?;
-    let end = end_headline(&page.chart.end).as_bytes();
-    let class = end_class(&page.chart.end);
-    shapes.push(Shape::words(alloc, class, (right, Px(34)), end)?)?;
-    if let Some(words) = window_words(alloc, page)? {
-        shapes.push(Shape(Word("right"), Form::Words((right, head.under), words)))?;
-    }
-    Ok(shapes)
+/// Adds the titles, and at the right how the run ended.
+pub fn add_above(
+    alloc: Global,
+    shapes: &mut Vec<Shape>,
+    page: &Page<'_>,
+    head: &TitleBlock,
+    right: Px,
+) -> Pushed {
+    let end = &page.chart.end;
+    add_lines(alloc, shapes, &head.titles, (Px(24), Px(34)), 24)?;
+    add_lines(alloc, shapes, &head.subtitles, (Px(24), head.under), 18)?;
+    add_words(
+        alloc,
+        shapes,
+        end_class(end),
+        (right, Px(34)),
+        end_headline(end).as_bytes(),
+    )?;
+    add_some(
+        shapes,
+        window_words(alloc, page.chart, (right, head.under))?,
+    )
 }
 
 fn end_class(end: &End) -> Class {
@@ -63,20 +90,21 @@ fn end_class(end: &End) -> Class {
 }
 
 // Which turns are shown, where they aren't all.
-fn window_words(alloc: Global, page: &Page<'_>) -> Result<Option<Vec<u8>>, AllocError> {
-    let chart = page.chart;
+fn window_words(alloc: Global, chart: &Chart, at: (Px, Px)) -> MaybeShape {
     if chart.first == 0 && chart.last >= chart.turns {
         return Ok(None);
     }
-    let has_turns = chart.first < chart.last;
-    let begin: &[u8] = if has_turns { b"turns" } else { b"row" };
-    let mut words = Vec::from_slice(alloc, begin)?;
-    push_number(&mut words, u64::from(chart.first))?;
-    if has_turns {
-        words.extend_from_slice(b" to")?;
-        push_number(&mut words, u64::from(chart.last.saturating_sub(1)))?;
+    let mut words = Vec::new(alloc);
+    push_shown(&mut words, chart)?;
+    push_counted(&mut words, b" of", chart.turns)?;
+    Ok(Some(Shape(Word("right"), Form::Words(at, words))))
+}
+
+// The turns between two rows, or else the one row.
+fn push_shown(out: &mut Vec<u8>, chart: &Chart) -> Pushed {
+    if chart.first >= chart.last {
+        return push_counted(out, b"row", chart.first);
     }
-    words.extend_from_slice(b" of")?;
-    push_number(&mut words, u64::from(chart.turns))?;
-    Ok(Some(words))
+    push_counted(out, b"turns", chart.first)?;
+    push_counted(out, b" to", chart.last.saturating_sub(1))
 }

@@ -5,8 +5,10 @@
 //! - `pixels`: places on the page, and what text takes of it.
 //! - `packing`: which bars of a lane stand below others, so that none overlap.
 //! - `page`: where all columns and lanes are.
-//! - `shapes`: the few shapes that a picture is a list of, and the elements as which they are written.
+//! - `shapes`: the few shapes that a picture is a list of.
+//! - `elements`: the elements as which they are written.
 //! - `style`: colours and fonts, for light and dark.
+//! - `wording`: words, piece by piece.
 //! - `lines`: text in lines, which are broken at blanks.
 //! - `head`: what stands above the lanes: titles, and how it ended.
 //! - `frame`: what stands round the lanes: names and turns.
@@ -18,6 +20,7 @@ mod arrows;
 mod bars;
 mod below;
 mod drawing;
+mod elements;
 mod frame;
 mod head;
 mod lines;
@@ -28,5 +31,6 @@ mod pixels;
 mod shapes;
 mod strips;
 mod style;
+mod wording;
 
 pub use drawing::svg;

@@ -1,7 +1,10 @@
 //! Text in lines, which are broken at blanks.
 use crate::pixels::{Px, width_of};
 use crate::shapes::Class::Word;
-use crate::shapes::{Class, Shape, Shapes};
+use crate::shapes::{Class, Shape, add, add_words};
+use crate::wording::Pushed;
+use chart_words::push_words;
+use lock_model::push_word;
 use std::alloc::{AllocError, Global};
 use std::mem;
 
@@ -13,38 +16,50 @@ pub struct Line {
     words: Vec<u8>,
 }
 
-/// Text in lines of at most so many bytes, the first with the number. A longer word is cut.
+impl Line {
+    // Whether a word more would make it too long.
+    fn has_no_room(&self, word: &[u8], most: usize) -> bool {
+        !self.words.is_empty() && self.words.len().saturating_add(word.len()) >= most
+    }
+
+    // Pushes a word, behind a blank where others stand before it.
+    fn push_word(&mut self, word: &[u8]) -> Pushed {
+        if self.words.is_empty() {
+            push_words(&mut self.words, word)
+        } else {
+            push_word(&mut self.words, word)
+        }
+    }
+}
+
+/// Adds text in lines of at most so many bytes, the first with the number. A longer word is cut.
 pub fn wrap(
     alloc: Global,
+    lines: &mut Vec<Line>,
     class: Class,
     number: Option<u32>,
     text: &[u8],
     most: usize,
-) -> Result<Vec<Line>, AllocError> {
-    let mut lines = Vec::new(alloc);
-    let mut number = number;
-    let mut words = Vec::new(alloc);
+) -> Pushed {
     let text = with_blanks(alloc, text, most)?;
-    for word in text.split(|byte| *byte == b' ') {
-        if !words.is_empty() && words.len().saturating_add(word.len()) >= most {
-            lines.push(Line {
-                class,
-                number,
-                words: mem::replace(&mut words, Vec::new(alloc)),
-            })?;
-            number = None;
-        }
-        if !words.is_empty() {
-            words.push(b' ')?;
-        }
-        words.extend_from_slice(word)?;
-    }
-    lines.push(Line {
+    let mut line = Line {
         class,
         number,
-        words,
-    })?;
-    Ok(lines)
+        words: Vec::new(alloc),
+    };
+    for word in text.split(|byte| *byte == b' ') {
+        if line.has_no_room(word, most) {
+            let next = Line {
+                class,
+                number: None,
+                words: Vec::new(alloc),
+            };
+            lines.push(mem::replace(&mut line, next))?;
+        }
+        line.push_word(word)?;
+    }
+    lines.push(line)?;
+    Ok(())
 }
 
 // The text with blanks in words of more bytes than so many. No letter is cut.
@@ -80,16 +95,27 @@ pub fn widest(lines: &[Line], tenths: u32) -> u32 {
     most
 }
 
-/// Lines that lie so far apart, the first of them there.
-pub fn lines_at(alloc: Global, lines: &[Line], x: Px, y: Px, pitch: u32) -> Shapes {
-    let mut shapes = Vec::new(alloc);
-    let mut y = y;
+/// Adds lines that lie so far apart, the first of them there.
+pub fn add_lines(
+    alloc: Global,
+    shapes: &mut Vec<Shape>,
+    lines: &[Line],
+    first: (Px, Px),
+    pitch: u32,
+) -> Pushed {
+    let (x, mut y) = first;
     for line in lines {
-        if let Some(number) = line.number {
-            shapes.push(Shape::number(alloc, Word("nr"), (x.minus(10), y), number)?)?;
-        }
-        shapes.push(Shape::words(alloc, line.class, (x, y), &line.words)?)?;
+        add_line(alloc, shapes, line, (x, y))?;
         y = y.plus(pitch);
     }
-    Ok(shapes)
+    Ok(())
+}
+
+// One line there, behind its number.
+fn add_line(alloc: Global, shapes: &mut Vec<Shape>, line: &Line, at: (Px, Px)) -> Pushed {
+    if let Some(number) = line.number {
+        let before = (at.0.minus(10), at.1);
+        add(shapes, Shape::number(alloc, Word("nr"), before, number)?)?;
+    }
+    add_words(alloc, shapes, line.class, at, &line.words)
 }

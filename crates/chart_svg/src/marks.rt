@@ -5,13 +5,14 @@ ghost use Rattle.chart_svg.specs.Lanes.{IsLaidOut};
 ghost use Rattle.chart_svg.specs.Pages.{MarkIsOn};
 ghost use Rattle.chart_svg.specs.Shapes.{shape_bytes, shapes_bytes};
 
-use crate::lines::{Line, lines_at, wrap};
+use crate::lines::{Line, add_lines, wrap};
 use crate::page::Page;
 use crate::pixels::{Px, count, width_of};
 use crate::shapes::Class::Word;
-use crate::shapes::{Class, Figure, Form, Shape, Shapes};
+use crate::shapes::{Class, Figure, Form, MaybeShape, Shape, Shapes, add, add_all, add_some};
+use crate::wording::Pushed;
 use chart_layout::{MarkKind, TurnMark};
-use chart_words::{push_lost, push_mark, push_note, push_refusal};
+use chart_words::{push_lost, push_mark, push_note, push_refusal, push_words};
 use lock_model::push_digits;
 use std::alloc::{AllocError, Global};
 
@@ -26,7 +27,7 @@ pub fn marks(alloc: Global, page: &Page<'_>) -> Shapes
 {
     let mut shapes = Vec::new(alloc);
     for mark in page.chart.marks.as_slice() {
-        shapes.append(&mut one_mark(alloc, page, *mark)?)?;
+        add_all(&mut shapes, one_mark(alloc, page, *mark)?)?;
     }
     Ok(shapes)
 }
@@ -40,21 +41,23 @@ fn one_mark(alloc: Global, page: &Page<'_>, mark: TurnMark) -> Shapes
     };
     let x = page.turn_at(mark.turn);
     let mut shapes = Vec::new(alloc);
-    shapes.push(shape_of(alloc, page, mark, (x, lane.marks()))?)?;
-    shapes.append(&mut own_words(alloc, page, mark, (x, lane.words()))?)?;
+    add(&mut shapes, shape_of(alloc, page, mark, (x, lane.marks()))?)?;
+    add_some(
+        &mut shapes,
+        own_words(alloc, page, mark, (x, lane.words()))?,
+    )?;
     Ok(shapes)
 }
 
 // The words of a mark, where there is room for words, and where they don't stand before its reason.
-fn own_words(alloc: Global, page: &Page<'_>, mark: TurnMark, at: (Px, Px)) -> Shapes {
-    let mut shapes = Vec::new(alloc);
-    if page.has_words && !page.has_reason(mark) {
-        let mut words = Vec::new(alloc);
-        push_mark(&mut words, page.plan, mark.what)?;
-        let fitting = fitting(&words, page.column);
-        shapes.push(Shape::words(alloc, word_class(mark.what), at, fitting)?)?;
+fn own_words(alloc: Global, page: &Page<'_>, mark: TurnMark, at: (Px, Px)) -> MaybeShape {
+    if !page.has_words || page.has_reason(mark) {
+        return Ok(None);
     }
-    Ok(shapes)
+    let mut words = Vec::new(alloc);
+    push_mark(&mut words, page.plan, mark.what)?;
+    let fitting = fitting(&words, page.column);
+    Ok(Some(Shape::words(alloc, word_class(mark.what), at, fitting)?))
 }
 
 // A mark without its words.
@@ -109,22 +112,22 @@ fn said_of(alloc: Global, page: &Page<'_>, mark: TurnMark) -> Result<Vec<u8>, Al
 {
     let mut said = Vec::from_slice(alloc, b"turn ")?;
     push_digits(&mut said, u64::from(mark.turn))?;
-    said.extend_from_slice(b", ")?;
-    said.extend_from_slice(page.plan.thread_name(mark.thread))?;
-    said.extend_from_slice(b": ")?;
+    push_words(&mut said, b", ")?;
+    push_words(&mut said, page.plan.thread_name(mark.thread))?;
+    push_words(&mut said, b": ")?;
     push_mark(&mut said, page.plan, mark.what)?;
     push_own_note(&mut said, page, mark.what)?;
     Ok(said)
 }
 
 // What it says behind the word of what was done.
-fn push_own_note(out: &mut Vec<u8>, page: &Page<'_>, what: MarkKind) -> Result<(), AllocError>
+fn push_own_note(out: &mut Vec<u8>, page: &Page<'_>, what: MarkKind) -> Pushed
     ensures { OnOk result (out.new.items ≡ out.old.items ++ note_of page.now.plan.now what) }
 {
     match what {
         MarkKind::Noted(event) => push_note(out, page.plan, event),
         MarkKind::Did(_) => Ok(()),
-        MarkKind::Idle => out.extend_from_slice(b"idle"),
+        MarkKind::Idle => push_words(out, b"idle"),
     }
 }
 
@@ -132,18 +135,24 @@ fn push_own_note(out: &mut Vec<u8>, page: &Page<'_>, what: MarkKind) -> Result<(
 pub fn reasons(alloc: Global, page: &Page<'_>) -> Shapes {
     let mut shapes = Vec::new(alloc);
     for mark in &page.reasons {
-        shapes.append(&mut one_reason(alloc, page, *mark)?)?;
+        add_reason(alloc, &mut shapes, page, *mark)?;
     }
     Ok(shapes)
 }
 
-fn one_reason(alloc: Global, page: &Page<'_>, mark: TurnMark) -> Shapes {
+fn add_reason(alloc: Global, shapes: &mut Vec<Shape>, page: &Page<'_>, mark: TurnMark) -> Pushed {
     let Some(lane) = page.lane_of(mark.thread) else {
-        return Ok(Vec::new(alloc));
+        return Ok(());
     };
     let lines = reason_lines(alloc, page, mark)?;
     let first = lane.begin.minus(height_of(&lines)).plus(11);
-    lines_at(alloc, &lines, page.turn_at(mark.turn), first, LINE_HEIGHT)
+    add_lines(
+        alloc,
+        shapes,
+        &lines,
+        (page.turn_at(mark.turn), first),
+        LINE_HEIGHT,
+    )
 }
 
 /// How high lines of reasons are.
@@ -151,23 +160,30 @@ pub fn height_of(lines: &[Line]) -> u32 {
     count(lines.len()).saturating_mul(LINE_HEIGHT)
 }
 
-/// What was refused, and why: `refused fork1: its class must come before that of fork3, which is held`. The lines are
-/// narrower than the columns from the turn before to the turn behind, so no arrow of another turn goes through them.
+/// What was refused, and why. The lines are narrower than the columns from the turn before to the turn behind, so no
+/// arrow of another turn goes through them.
 pub fn reason_lines(
     alloc: Global,
     page: &Page<'_>,
     mark: TurnMark,
 ) -> Result<Vec<Line>, AllocError> {
     let mut words = Vec::new(alloc);
-    push_mark(&mut words, page.plan, mark.what)?;
-    if let Some((lock, class, held)) = page.refusal_at(mark.turn) {
-        push_refusal(&mut words, page.plan, lock, class, held)?;
-    }
-    match mark.what {
-        MarkKind::Noted(event) => push_lost(&mut words, event)?,
-        MarkKind::Did(_) | MarkKind::Idle => (),
-    }
+    push_reason(&mut words, page, mark)?;
     let room = page.column.saturating_mul(2).saturating_sub(12);
     let most = room.saturating_mul(10) / 58;
-    wrap(alloc, Word("no"), None, &words, most as usize)
+    let mut lines = Vec::new(alloc);
+    wrap(alloc, &mut lines, Word("no"), None, &words, most as usize)?;
+    Ok(lines)
+}
+
+// `refused fork1: its class must come before that of fork3, which is held`.
+fn push_reason(out: &mut Vec<u8>, page: &Page<'_>, mark: TurnMark) -> Pushed {
+    push_mark(out, page.plan, mark.what)?;
+    if let Some((lock, class, held)) = page.refusal_at(mark.turn) {
+        push_refusal(out, page.plan, lock, class, held)?;
+    }
+    match mark.what {
+        MarkKind::Noted(event) => push_lost(out, event),
+        MarkKind::Did(_) | MarkKind::Idle => Ok(()),
+    }
 }

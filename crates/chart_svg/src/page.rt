@@ -1,6 +1,6 @@
 //! Where all columns and lanes are. A column is a turn, and its mark stands in the middle of it; a row of the run goes
 //! from the middle of one column to the middle of the next.
-ghost use Rattle.std.specs.Prelude.{◌≡◌, ◌↔◌, false, ℕ, ◌+◌, ◌-◌, ◌*◌, ◌≤◌, length, All, IfOk, OnOk, slice_get, MatchOption, None, Some};
+ghost use Rattle.std.specs.Prelude.{◌≡◌, ◌↔◌, false, ℕ, ◌+◌, ◌-◌, ◌*◌, ◌≤◌, ◌++◌, ◌∷◌, [], length, All, IfOk, OnOk, slice_get, MatchOption, None, Some};
 ghost use Rattle.chart_svg.specs.Drawn.{pixels, right_edge, row_begin, row_end, turn_at, SaysAs};
 ghost use Rattle.chart_svg.specs.Lanes.{bar_bottom, bar_place, bar_top, pitch_of, rank_in, scale_of, of_thread, AreSame, Fits, HasPrios, IsLaidOut, IsLane};
 
@@ -191,7 +191,7 @@ impl<'c> Page<'c> {
         for (t, own) in lanes.iter().enumerate() {
             let lane = self.lane(alloc, t, own)?;
             self.bottom = lane.bottom;
-            self.lanes.push(lane)?;
+            add_lane(&mut self.lanes, lane)?;
         }
         Ok(())
     }
@@ -240,7 +240,7 @@ impl<'c> Page<'c> {
 
     /// Whether the words of a mark have their reason with them.
     pub fn has_reason(&self, mark: TurnMark) -> bool {
-        self.reasons.iter().any(|other| *other == mark)
+        self.reasons.contains(&mark)
     }
 
     /// What is said of a turn.
@@ -341,6 +341,13 @@ impl<'c> Page<'c> {
     {
         self.prios.iter().filter(|other| other.0 < prio.0).count()
     }
+}
+
+fn add_lane(lanes: &mut Vec<LaneBand>, lane: LaneBand) -> Result<(), AllocError>
+    ensures { OnOk result (lanes.new.items ≡ lanes.old.items ++ lane ∷ []) }
+{
+    lanes.push(lane)?;
+    Ok(())
 }
 
 // The bars and the steps of a thread.

@@ -1,19 +1,20 @@
-//! The few shapes that a picture is a list of: first values, and then elements. One function writes them all, and alone
-//! promises that what it writes is whole.
+//! The few shapes that a picture is a list of: first values, and then elements.
 ghost use Rattle.std.specs.Prelude.{◌≡◌, [], ◌++◌, ◌∷◌, codes, decimal, IfOk, OnOk};
 ghost use Rattle.chart_escape.specs.Reader.{at, read, AddsElements, Between, InText, IsBetweenTags, IsWellFormed};
 ghost use Rattle.chart_svg.specs.Drawn.{class_bytes, figure_bytes, outline, words_bytes, Stands};
-ghost use Rattle.chart_svg.specs.Shapes.{form_bytes, picture, shape_bytes, shapes_bytes};
+ghost use Rattle.chart_svg.specs.Shapes.{picture, shape_bytes, shapes_bytes, shapes_in};
 
+use crate::elements::push_form;
 use crate::page::Page;
 use crate::pixels::Px;
-use chart_escape::{Piece, push_elements, push_pieces};
+use crate::wording::Pushed;
+use chart_escape::{Piece, push_pieces};
 use lock_model::{LockNo, push_digits, push_number};
 use std::alloc::{AllocError, Global};
 
 /// A class of the style: a word, and for what has a lock's colour the lock's number behind it. What isn't drawn has
 /// none.
-#[derive(Clone, Copy, Debug)]
+#[derive(Clone, Copy)]
 pub enum Class {
     None,
     Word(&'static str),
@@ -37,7 +38,7 @@ impl Class {
 }
 
 /// A rectangle.
-#[derive(Clone, Copy, Debug)]
+#[derive(Clone, Copy)]
 pub struct Area {
     pub x: Px,
     pub y: Px,
@@ -46,7 +47,7 @@ pub struct Area {
 }
 
 /// A small figure at a point.
-#[derive(Clone, Copy, Debug)]
+#[derive(Clone, Copy)]
 pub enum Figure {
     /// The head of an arrow that points up, with its tip there.
     Up,
@@ -96,6 +97,46 @@ pub enum Form {
 
 /// Shapes, or want of memory.
 pub type Shapes = Result<Vec<Shape>, AllocError>;
+
+/// A shape or none, or want of memory.
+pub type MaybeShape = Result<Option<Shape>, AllocError>;
+
+/// Adds a shape behind others.
+pub fn add(shapes: &mut Vec<Shape>, shape: Shape) -> Pushed
+    ensures { OnOk result (shapes.new.items ≡ shapes.old.items ++ shape ∷ []) }
+{
+    shapes.push(shape)?;
+    Ok(())
+}
+
+/// Adds a shape, if there is one.
+pub fn add_some(shapes: &mut Vec<Shape>, shape: Option<Shape>) -> Pushed
+    ensures { OnOk result (shapes.new.items ≡ shapes.old.items ++ shapes_in shape) }
+{
+    match shape {
+        Some(shape) => add(shapes, shape),
+        None => Ok(()),
+    }
+}
+
+/// Adds shapes behind others.
+pub fn add_all(shapes: &mut Vec<Shape>, more: Vec<Shape>) -> Pushed
+    ensures { OnOk result (shapes.new.items ≡ shapes.old.items ++ more.items) }
+{
+    let mut more = more;
+    shapes.append(&mut more)
+}
+
+/// Adds a copy of words at a point.
+pub fn add_words(
+    alloc: Global,
+    shapes: &mut Vec<Shape>,
+    class: Class,
+    at: (Px, Px),
+    words: &[u8],
+) -> Pushed {
+    add(shapes, Shape::words(alloc, class, at, words)?)
+}
 
 impl Shape {
     /// A copy of words at a point.
@@ -167,7 +208,7 @@ pub fn picture_of(
     Ok(out)
 }
 
-fn open_picture(out: &mut Vec<u8>, page: &Page<'_>, size: (u32, u32)) -> Result<(), AllocError>
+fn open_picture(out: &mut Vec<u8>, page: &Page<'_>, size: (u32, u32)) -> Pushed
     requires { out.old.items ≡ [] }
     ensures { OnOk result (read out.new.items ≡ at (InText Between) (picture ∷ [])) }
 {
@@ -197,7 +238,7 @@ fn open_picture(out: &mut Vec<u8>, page: &Page<'_>, size: (u32, u32)) -> Result<
 }
 
 // Each shape is written whole, so that behind it a reader is between tags again.
-fn push_shapes(alloc: Global, out: &mut Vec<u8>, shapes: &[Shape]) -> Result<(), AllocError>
+fn push_shapes(alloc: Global, out: &mut Vec<u8>, shapes: &[Shape]) -> Pushed
     requires { IsBetweenTags out.old.items }
     ensures whole { OnOk result (AddsElements out.old.items out.new.items) }
     ensures pushed { OnOk result (out.new.items ≡ out.old.items ++ shapes_bytes shapes.now) }
@@ -206,138 +247,4 @@ fn push_shapes(alloc: Global, out: &mut Vec<u8>, shapes: &[Shape]) -> Result<(),
         push_form(out, &shape.0.text(alloc)?, &shape.1)?;
     }
     Ok(())
-}
-
-#[tactic(auto, unfolding(crate::specs::Drawn::curve_bytes, crate::specs::Drawn::stroke_bytes, crate::specs::Drawn::words_bytes))]
-fn push_form<'a>(out: &mut Vec<u8>, class: &'a [u8], form: &'a Form) -> Result<(), AllocError>
-    requires { IsBetweenTags out.old.items }
-    ensures whole { OnOk result (AddsElements out.old.items out.new.items) }
-    ensures pushed { OnOk result (out.new.items ≡ out.old.items ++ form_bytes class.now form.now) }
-{
-    match form {
-        Form::Rect(area, said) => match said {
-            None => push_elements(
-                out,
-                &[
-                    Piece::Own("<rect class='"),
-                    Piece::Text(class),
-                    Piece::Own("' x='"),
-                    Piece::Number(area.x.0 as u64),
-                    Piece::Own("' y='"),
-                    Piece::Number(area.y.0 as u64),
-                    Piece::Own("' width='"),
-                    Piece::Number(area.width as u64),
-                    Piece::Own("' height='"),
-                    Piece::Number(area.height as u64),
-                    Piece::Own("' rx='3'></rect>\n"),
-                ],
-            ),
-            Some(said) => push_elements(
-                out,
-                &[
-                    Piece::Own("<rect class='"),
-                    Piece::Text(class),
-                    Piece::Own("' x='"),
-                    Piece::Number(area.x.0 as u64),
-                    Piece::Own("' y='"),
-                    Piece::Number(area.y.0 as u64),
-                    Piece::Own("' width='"),
-                    Piece::Number(area.width as u64),
-                    Piece::Own("' height='"),
-                    Piece::Number(area.height as u64),
-                    Piece::Own("' rx='3'><title>"),
-                    Piece::Text(said),
-                    Piece::Own("</title></rect>\n"),
-                ],
-            ),
-        },
-        Form::Dot(at, said) => push_elements(
-            out,
-            &[
-                Piece::Own("<circle class='"),
-                Piece::Text(class),
-                Piece::Own("' cx='"),
-                Piece::Number(at.0.0 as u64),
-                Piece::Own("' cy='"),
-                Piece::Number(at.1.0 as u64),
-                Piece::Own("' r='3'><title>"),
-                Piece::Text(said),
-                Piece::Own("</title></circle>\n"),
-            ],
-        ),
-        Form::Line(from, to) => push_elements(
-            out,
-            &[
-                Piece::Own("<line class='"),
-                Piece::Text(class),
-                Piece::Own("' x1='"),
-                Piece::Number(from.0.0 as u64),
-                Piece::Own("' y1='"),
-                Piece::Number(from.1.0 as u64),
-                Piece::Own("' x2='"),
-                Piece::Number(to.0.0 as u64),
-                Piece::Own("' y2='"),
-                Piece::Number(to.1.0 as u64),
-                Piece::Own("'></line>\n"),
-            ],
-        ),
-        Form::Curve(path, said) => push_elements(
-            out,
-            &[
-                Piece::Own("<path class='"),
-                Piece::Text(class),
-                Piece::Own("' d='"),
-                Piece::Text(path),
-                Piece::Own("'><title>"),
-                Piece::Text(said),
-                Piece::Own("</title></path>\n"),
-            ],
-        ),
-        Form::Words(at, words) => push_elements(
-            out,
-            &[
-                Piece::Own("<text class='"),
-                Piece::Text(class),
-                Piece::Own("' x='"),
-                Piece::Number(at.0.0 as u64),
-                Piece::Own("' y='"),
-                Piece::Number(at.1.0 as u64),
-                Piece::Own("'>"),
-                Piece::Text(words),
-                Piece::Own("</text>\n"),
-            ],
-        ),
-        Form::Heading(title, words) => push_elements(
-            out,
-            &[
-                Piece::Own("<title>"),
-                Piece::Text(title),
-                Piece::Own("</title>\n<desc>"),
-                Piece::Text(words),
-                Piece::Own("</desc>\n"),
-            ],
-        ),
-        Form::Style(rules) => push_elements(
-            out,
-            &[
-                Piece::Own("<style>\n"),
-                Piece::Text(rules),
-                Piece::Own("</style>\n"),
-            ],
-        ),
-        Form::Hatch(name) => push_elements(
-            out,
-            &[
-                Piece::Own("<pattern id='h"),
-                Piece::Text(name),
-                Piece::Own(
-                    "' width='7' height='7' patternTransform='rotate(45)' \
-                    patternUnits='userSpaceOnUse'>\
-                    <path class='paper' d='M0 0H7V7H0z'/><path class='hatch",
-                ),
-                Piece::Text(name),
-                Piece::Own("' d='M0 0V7'/></pattern>\n"),
-            ],
-        ),
-    }
 }

@@ -9,9 +9,11 @@ use crate::frame::end_of;
 use crate::page::{LaneBand, Page, prios_of};
 use crate::pixels::{Px, width_of};
 use crate::shapes::Class::Word;
-use crate::shapes::{Area, Form, Shape, Shapes, begin_path};
+use crate::shapes::{Area, Form, MaybeShape, Shape, Shapes, add, add_all, add_some, begin_path};
+use crate::wording::{Pushed, push_counted};
 use chart_layout::PrioSpan;
-use lock_model::{Prio, push_digits, push_number};
+use chart_words::push_words;
+use lock_model::{Prio, push_digits};
 use std::alloc::{AllocError, Global};
 
 /// The strips of all lanes, without the words of their loans.
@@ -21,7 +23,7 @@ pub fn strips(alloc: Global, page: &Page<'_>) -> Shapes
 {
     let mut shapes = Vec::new(alloc);
     for lane in &page.lanes {
-        shapes.append(&mut strip_of(alloc, page, lane)?)?;
+        add_all(&mut shapes, strip_of(alloc, page, lane)?)?;
     }
     Ok(shapes)
 }
@@ -34,8 +36,8 @@ fn strip_of(alloc: Global, page: &Page<'_>, lane: &LaneBand) -> Shapes
         return Ok(Vec::new(alloc));
     };
     let mut shapes = ticks(alloc, page, lane, strip)?;
-    shapes.append(&mut loans(alloc, page, lane, strip)?)?;
-    shapes.append(&mut run(alloc, page, strip, &lane.steps)?)?;
+    add_all(&mut shapes, loans(alloc, page, lane, strip)?)?;
+    add_some(&mut shapes, run(alloc, page, strip, &lane.steps)?)?;
     Ok(shapes)
 }
 
@@ -56,7 +58,11 @@ fn ticks_of(alloc: Global, page: &Page<'_>, strip: Px, prios: &[Prio]) -> Shapes
     for prio in prios {
         let y = page.prio_at(strip, *prio);
         if free <= y {
-            shapes.push(Shape::number(alloc, Word("tick"), (x, y.plus(3)), u32::from(prio.0))?)?;
+            let at = (x, y.plus(3));
+            add(
+                &mut shapes,
+                Shape::number(alloc, Word("tick"), at, u32::from(prio.0))?,
+            )?;
             free = y.plus(9);
         }
     }
@@ -70,7 +76,7 @@ fn loans(alloc: Global, page: &Page<'_>, lane: &LaneBand, strip: Px) -> Shapes
 {
     let mut shapes = Vec::new(alloc);
     for step in &lane.steps {
-        shapes.append(&mut one_loan(alloc, page, strip, *step)?)?;
+        add_all(&mut shapes, one_loan(alloc, page, strip, *step)?)?;
     }
     Ok(shapes)
 }
@@ -83,13 +89,19 @@ fn one_loan(alloc: Global, page: &Page<'_>, strip: Px, step: PrioSpan) -> Shapes
         return Ok(shapes);
     }
     let area = loan_area(page, strip, step);
-    let (right, base) = (area.x.plus(area.width), area.y.plus(area.height));
-    shapes.push(Shape(
-        Word("loan"),
-        Form::Rect(area, Some(loan_words(alloc, step)?)),
-    ))?;
-    shapes.push(Shape(Word("base"), Form::Line((area.x, base), (right, base))))?;
+    let words = loan_words(alloc, step)?;
+    add(
+        &mut shapes,
+        Shape(Word("loan"), Form::Rect(area, Some(words))),
+    )?;
+    add(&mut shapes, base_of(area))?;
     Ok(shapes)
+}
+
+// The line of its own priority, at the bottom of a loan.
+fn base_of(area: Area) -> Shape {
+    let (right, base) = (area.x.plus(area.width), area.y.plus(area.height));
+    Shape(Word("base"), Form::Line((area.x, base), (right, base)))
 }
 
 // From the priority as which it runs, down to its own.
@@ -110,8 +122,8 @@ fn loan_area(page: &Page<'_>, strip: Px, step: PrioSpan) -> Area
 fn loan_words(alloc: Global, step: PrioSpan) -> Result<Vec<u8>, AllocError>
     ensures { IfOk result (λ words. words.items ≡ codes "runs as " ++ decimal step.effective.0) }
 {
-    let mut words = Vec::from_slice(alloc, b"runs as")?;
-    push_number(&mut words, u64::from(step.effective.0))?;
+    let mut words = Vec::new(alloc);
+    push_counted(&mut words, b"runs as", u32::from(step.effective.0))?;
     Ok(words)
 }
 
@@ -119,47 +131,54 @@ fn loan_words(alloc: Global, step: PrioSpan) -> Result<Vec<u8>, AllocError>
 pub fn strip_words(alloc: Global, page: &Page<'_>) -> Shapes {
     let mut shapes = Vec::new(alloc);
     for lane in &page.lanes {
-        shapes.append(&mut own_words(alloc, page, lane)?)?;
-    }
-    Ok(shapes)
-}
-
-fn own_words(alloc: Global, page: &Page<'_>, lane: &LaneBand) -> Shapes {
-    let mut shapes = Vec::new(alloc);
-    let Some(strip) = lane.strip else {
-        return Ok(shapes);
-    };
-    for step in &lane.steps {
-        let area = loan_area(page, strip, *step);
-        let words = loan_words(alloc, *step)?;
-        if area.height >= 12 && width_of(words.len(), 68) <= area.width {
-            let middle = area.y.plus(area.height / 2).plus(4);
-            shapes.push(Shape(Word("as"), Form::Words((area.x.plus(6), middle), words)))?;
+        if let Some(strip) = lane.strip {
+            add_labels(alloc, &mut shapes, page, strip, &lane.steps)?;
         }
     }
     Ok(shapes)
 }
 
+fn add_labels(
+    alloc: Global,
+    shapes: &mut Vec<Shape>,
+    page: &Page<'_>,
+    strip: Px,
+    steps: &[PrioSpan],
+) -> Pushed {
+    for step in steps {
+        add_some(shapes, label_of(alloc, page, strip, *step)?)?;
+    }
+    Ok(())
+}
+
+// The words of a loan, where it has room for them. A step without one has no height.
+fn label_of(alloc: Global, page: &Page<'_>, strip: Px, step: PrioSpan) -> MaybeShape {
+    let area = loan_area(page, strip, step);
+    let words = loan_words(alloc, step)?;
+    if area.height < 12 || width_of(words.len(), 68) > area.width {
+        return Ok(None);
+    }
+    let at = (area.x.plus(6), area.y.plus(area.height / 2).plus(4));
+    Ok(Some(Shape(Word("as"), Form::Words(at, words))))
+}
+
 // The line along which the thread runs, to its end.
-fn run(alloc: Global, page: &Page<'_>, strip: Px, steps: &[PrioSpan]) -> Shapes {
-    let mut shapes = Vec::new(alloc);
+fn run(alloc: Global, page: &Page<'_>, strip: Px, steps: &[PrioSpan]) -> MaybeShape {
     let Some((first, others)) = steps.split_first() else {
-        return Ok(shapes);
+        return Ok(None);
     };
-    let begin = page.prio_at(strip, first.effective);
-    let mut path = begin_path(alloc, page.left, begin)?;
+    let mut path = begin_path(alloc, page.left, page.prio_at(strip, first.effective))?;
     for step in others {
         push_corner(&mut path, b"H", page.row_begin(step.first))?;
         push_corner(&mut path, b"V", page.prio_at(strip, step.effective))?;
     }
     let end = end_of(page, first.thread).unwrap_or(page.right());
     push_corner(&mut path, b"H", end)?;
-    shapes.push(Shape(Word("runs"), Form::Curve(path, Vec::new(alloc))))?;
-    Ok(shapes)
+    Ok(Some(Shape(Word("runs"), Form::Curve(path, Vec::new(alloc)))))
 }
 
 // A piece of the line, to that x or y.
-fn push_corner(path: &mut Vec<u8>, letter: &[u8], to: Px) -> Result<(), AllocError> {
-    path.extend_from_slice(letter)?;
+fn push_corner(path: &mut Vec<u8>, letter: &[u8], to: Px) -> Pushed {
+    push_words(path, letter)?;
     push_digits(path, u64::from(to.0))
 }

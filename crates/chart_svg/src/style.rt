@@ -1,5 +1,7 @@
 //! Colours and fonts, for light and for dark. Each lock has one hue in all lanes; what waits is hatched in it.
-use crate::shapes::{Class, Form, Shape, Shapes};
+use crate::shapes::{Class, Form, Shape, add};
+use crate::wording::Pushed;
+use chart_words::push_words;
 use lock_model::{Plan, push_digits};
 use std::alloc::{AllocError, Global};
 
@@ -78,27 +80,37 @@ const HUES: [(&str, &str); 10] = [
     ("#3c3c46", "#d4d4dc"),
 ];
 
-/// The style, and the hatchings of those who wait for a lock, or who sleep on channels.
-pub fn style(alloc: Global, plan: &Plan) -> Shapes {
+/// Adds the style, and the hatchings of those who wait for a lock, or who sleep on channels.
+pub fn add_style(alloc: Global, shapes: &mut Vec<Shape>, plan: &Plan) -> Pushed {
     let locks = plan.locks.as_slice().len();
+    add(
+        shapes,
+        Shape(Class::None, Form::Style(rules_of(alloc, locks)?)),
+    )?;
+    add(shapes, hatch(Vec::from_slice(alloc, b"q")?))?;
+    for l in 0..locks {
+        let mut number = Vec::new(alloc);
+        push_digits(&mut number, l as u64)?;
+        add(shapes, hatch(number))?;
+    }
+    Ok(())
+}
+
+fn hatch(name: Vec<u8>) -> Shape {
+    Shape(Class::None, Form::Hatch(name))
+}
+
+fn rules_of(alloc: Global, locks: usize) -> Result<Vec<u8>, AllocError> {
     let mut rules = Vec::from_slice(alloc, LIGHT)?;
     for l in 0..locks {
         push_hue(&mut rules, l as u64, HUES[l % 10].0)?;
     }
-    rules.extend_from_slice(DARK)?;
+    push_words(&mut rules, DARK)?;
     for l in 0..locks {
         push_hue(&mut rules, l as u64, HUES[l % 10].1)?;
     }
-    rules.extend_from_slice(b"}\n")?;
-    let mut shapes = Vec::new(alloc);
-    shapes.push(Shape(Class::None, Form::Style(rules)))?;
-    shapes.push(Shape(Class::None, Form::Hatch(Vec::from_slice(alloc, b"q")?)))?;
-    for l in 0..locks {
-        let mut number = Vec::new(alloc);
-        push_digits(&mut number, l as u64)?;
-        shapes.push(Shape(Class::None, Form::Hatch(number)))?;
-    }
-    Ok(shapes)
+    push_words(&mut rules, b"}\n")?;
+    Ok(rules)
 }
 
 // A lock's colour: held, read, waited for, taken off its queue, the hatching, and the words of a wait.
@@ -115,17 +127,25 @@ const OF_LOCKS: [(&str, &str); 7] = [
     (".of", "{font-size:11.5px;font-weight:600;fill:"),
 ];
 
-fn push_hue(rules: &mut Vec<u8>, l: u64, hue: &'static str) -> Result<(), AllocError> {
+fn push_hue(rules: &mut Vec<u8>, l: u64, hue: &'static str) -> Pushed {
     for (class, words) in &OF_LOCKS {
-        rules.extend_from_slice(class.as_bytes())?;
-        push_digits(rules, l)?;
-        rules.extend_from_slice(words.as_bytes())?;
-        rules.extend_from_slice(hue.as_bytes())?;
-        rules.extend_from_slice(b"}")?;
+        push_of(rules, class, l)?;
+        push_rule(rules, words, hue)?;
     }
-    rules.extend_from_slice(b".waits")?;
-    push_digits(rules, l)?;
-    rules.extend_from_slice(b"{fill:url(#h")?;
-    push_digits(rules, l)?;
-    rules.extend_from_slice(b")}\n")
+    push_of(rules, ".waits", l)?;
+    push_of(rules, "{fill:url(#h", l)?;
+    push_words(rules, b")}\n")
+}
+
+// A name, and a lock's number behind it.
+fn push_of(rules: &mut Vec<u8>, name: &'static str, l: u64) -> Pushed {
+    push_words(rules, name.as_bytes())?;
+    push_digits(rules, l)
+}
+
+// The rest of a rule, up to a hue.
+fn push_rule(rules: &mut Vec<u8>, words: &'static str, hue: &'static str) -> Pushed {
+    push_words(rules, words.as_bytes())?;
+    push_words(rules, hue.as_bytes())?;
+    push_words(rules, b"}")
 }

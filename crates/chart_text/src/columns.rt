@@ -2,6 +2,7 @@
 ghost use Rattle.std.specs.Prelude.{◌≡◌, ◌++◌, OnOk};
 ghost use Rattle.chart_text.specs.Lines.{at_left, at_right, name_width, spaces};
 
+use chart_words::push_words;
 use lock_model::ThreadDecl;
 use std::alloc::AllocError;
 
@@ -21,14 +22,14 @@ pub fn push_right(out: &mut Vec<u8>, width: usize, word: &[u8]) -> Result<(), Al
     ensures { OnOk result (out.new.items ≡ out.old.items ++ at_right width word.now) }
 {
     push_spaces(out, width.saturating_sub(word.len()))?;
-    out.extend_from_slice(word)
+    push_words(out, word)
 }
 
 /// Pushes a word at the left of a column so wide.
 pub fn push_left(out: &mut Vec<u8>, width: usize, word: &[u8]) -> Result<(), AllocError>
     ensures { OnOk result (out.new.items ≡ out.old.items ++ at_left width word.now) }
 {
-    out.extend_from_slice(word)?;
+    push_words(out, word)?;
     push_spaces(out, width.saturating_sub(word.len()))
 }
 

@@ -6,7 +6,7 @@ use crate::columns::{name_width, push_left};
 use crate::said::{Said, said_by_turn, words_of};
 use crate::turns::push_turn;
 use chart_layout::{Chart, End};
-use chart_words::push_end;
+use chart_words::{push_end, push_words};
 use lock_model::Plan;
 use run_tracks::Rows;
 use std::alloc::{AllocError, Global};
@@ -40,11 +40,11 @@ pub fn text(
 fn push_head(out: &mut Vec<u8>, width: usize, title: &[u8]) -> Result<(), AllocError>
     ensures { OnOk result (out.new.items ≡ out.old.items ++ head_lines width title.now) }
 {
-    out.extend_from_slice(b"# ")?;
+    push_words(out, b"# ")?;
     push_shown(out, title)?;
-    out.extend_from_slice(b"\n# turn entry ")?;
+    push_words(out, b"\n# turn entry ")?;
     push_left(out, width, b"thread")?;
-    out.extend_from_slice(b" what the turn did\n")
+    push_words(out, b" what the turn did\n")
 }
 
 fn push_shown(out: &mut Vec<u8>, title: &[u8]) -> Result<(), AllocError>
@@ -87,7 +87,7 @@ fn push_lines(
 fn push_end_line(out: &mut Vec<u8>, plan: &Plan, end: &End) -> Result<(), AllocError>
     ensures { OnOk result (out.new.items ≡ out.old.items ++ end_line plan.now end.now) }
 {
-    out.extend_from_slice(b"# ")?;
+    push_words(out, b"# ")?;
     push_end(out, plan, end)?;
-    out.extend_from_slice(b"\n")
+    push_words(out, b"\n")
 }

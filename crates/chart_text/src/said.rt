@@ -4,7 +4,7 @@ ghost use Rattle.lock_model.specs.Text.{thread_name};
 ghost use Rattle.chart_text.specs.Lines.{said_by, said_of, told_by, told_words, words_at};
 
 use chart_layout::{Arrow, ArrowKind, Chart, Sentence};
-use chart_words::{push_named, push_prio, push_saying};
+use chart_words::{push_named, push_prio, push_saying, push_words};
 use lock_model::{Plan, Prio, ThreadNo};
 use std::alloc::{AllocError, Global};
 use std::collections::HashMap;
@@ -116,7 +116,7 @@ fn push_idle_words(
 {
     push_named(out, b": lends to ", plan.thread_name(to))?;
     push_prio(out, b", which runs as ", prio)?;
-    out.extend_from_slice(b" already")
+    push_words(out, b" already")
 }
 
 // Puts words behind what is said of a turn.

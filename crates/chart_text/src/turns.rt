@@ -4,7 +4,7 @@ ghost use Rattle.chart_text.specs.Lines.{at_right, columns_of, did_words, line_o
 
 use crate::columns::{push_left, push_right};
 use chart_layout::MarkKind;
-use chart_words::{push_mark, push_note};
+use chart_words::{push_mark, push_note, push_words};
 use lock_model::{Entry, Plan, Turn, push_digits};
 use run_tracks::{Rows, TurnRow};
 use std::alloc::{AllocError, Global};
@@ -42,9 +42,8 @@ fn push_line(
 {
     push_columns(alloc, out, plan, width, turn, row)?;
     push_did(out, plan, row)?;
-    out.extend_from_slice(said)?;
-    out.push(b'\n')?;
-    Ok(())
+    push_words(out, said)?;
+    push_words(out, b"\n")
 }
 
 fn push_columns(
@@ -61,16 +60,14 @@ fn push_columns(
     push_cell(out, 6, &number_of(alloc, turn)?)?;
     push_cell(out, 5, &ticket_of(alloc, row.entry)?)?;
     push_left(out, width, plan.thread_name(row.who))?;
-    out.push(b' ')?;
-    Ok(())
+    push_words(out, b" ")
 }
 
 fn push_cell(out: &mut Vec<u8>, width: usize, word: &[u8]) -> Result<(), AllocError>
     ensures { OnOk result (out.new.items ≡ out.old.items ++ at_right width word.now ++ 32 ∷ []) }
 {
     push_right(out, width, word)?;
-    out.push(b' ')?;
-    Ok(())
+    push_words(out, b" ")
 }
 
 fn number_of(alloc: Global, n: u32) -> Result<Vec<u8>, AllocError>
@@ -97,8 +94,8 @@ fn push_did(out: &mut Vec<u8>, plan: &Plan, row: TurnRow) -> Result<(), AllocErr
         ≡ out.old.items ++ did_words plan.now row.answer row.entry) }
 {
     match (row.answer, row.entry) {
-        (Turn::Ended, _) => out.extend_from_slice(b"has ended"),
-        (Turn::Idle, _) => out.extend_from_slice(b"idle"),
+        (Turn::Ended, _) => push_words(out, b"has ended"),
+        (Turn::Idle, _) => push_words(out, b"idle"),
         (Turn::Did(kind), None) => push_mark(out, plan, MarkKind::Did(kind)),
         (Turn::Did(_), Some(entry)) => {
             push_mark(out, plan, MarkKind::Noted(entry.event))?;

@@ -10,6 +10,6 @@ mod names;
 mod sentences;
 mod things;
 
-pub use names::{push_named, push_prio, push_queue, queue_name};
+pub use names::{push_named, push_prio, push_queue, push_words, queue_name};
 pub use sentences::{end_headline, push_end, push_saying, push_sentence};
 pub use things::{push_arrow, push_bar, push_lost, push_mark, push_note, push_refusal, verb_of};

@@ -23,10 +23,10 @@ pub fn push_queue(out: &mut Vec<u8>, plan: &Plan, q: QueueName) -> Result<(), Al
     ensures { OnOk result (out.new.items ≡ out.old.items ++ queue_words plan.now q) }
 {
     match q {
-        QueueName::Lock(_) => out.extend_from_slice(b"waits for ")?,
-        QueueName::Chan(_) => out.extend_from_slice(b"sleeps on ")?,
+        QueueName::Lock(_) => push_words(out, b"waits for ")?,
+        QueueName::Chan(_) => push_words(out, b"sleeps on ")?,
     }
-    out.extend_from_slice(queue_name(plan, q))
+    push_words(out, queue_name(plan, q))
 }
 
 /// Pushes the names of threads: `a`, `a and b`, `a, b and c`.
@@ -38,7 +38,7 @@ pub fn push_threads(out: &mut Vec<u8>, plan: &Plan, threads: &[ThreadNo]) -> Res
     let Some((first, others)) = threads.split_first() else {
         return Ok(());
     };
-    out.extend_from_slice(plan.thread_name(*first))?;
+    push_words(out, plan.thread_name(*first))?;
     push_others(out, plan, others)
 }
 
@@ -64,19 +64,26 @@ fn between(behind: &[ThreadNo]) -> &'static [u8]
     }
 }
 
+/// Pushes words.
+pub fn push_words(out: &mut Vec<u8>, words: &[u8]) -> Result<(), AllocError>
+    ensures { OnOk result (out.new.items ≡ out.old.items ++ words.now) }
+{
+    out.extend_from_slice(words)
+}
+
 /// Pushes words, and a name.
 pub fn push_named(out: &mut Vec<u8>, words: &[u8], name: &[u8]) -> Result<(), AllocError>
     ensures { OnOk result (out.new.items ≡ out.old.items ++ words.now ++ name.now) }
 {
-    out.extend_from_slice(words)?;
-    out.extend_from_slice(name)
+    push_words(out, words)?;
+    push_words(out, name)
 }
 
 /// Pushes words, and a priority.
 pub fn push_prio(out: &mut Vec<u8>, words: &[u8], prio: Prio) -> Result<(), AllocError>
     ensures { OnOk result (out.new.items ≡ out.old.items ++ words.now ++ decimal prio.0) }
 {
-    out.extend_from_slice(words)?;
+    push_words(out, words)?;
     push_digits(out, u64::from(prio.0))
 }
 

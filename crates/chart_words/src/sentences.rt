@@ -2,13 +2,13 @@
 
 ghost use Rattle.std.specs.Prelude.{◌≡◌, ◌++◌, codes, decimal, length, OnOk};
 ghost use Rattle.lock_model.specs.Text.{lock_name, thread_name};
-ghost use Rattle.chart_words.specs.Sentences.{change_words, claim_words, end_words, given_back_words, headline, heard_words, reading_words, saying_words, sentence_words, to_wake_words, waiting_words, walk_words};
+ghost use Rattle.chart_words.specs.Sentences.{change_words, claim_words, end_words, given_back_words, headline, heard_words, reading_words, saying_words, sentence_words, to_wake_words, waiting_words, waits_behind, walk_words};
 ghost use Rattle.chart_words.specs.Words.{thread_names};
 
-use crate::names::{push_named, push_prio, push_queue, push_threads};
+use crate::names::{push_named, push_prio, push_queue, push_threads, push_words};
 use crate::things::push_refusal;
 use chart_layout::{End, Saying, Sentence};
-use lock_model::{LockNo, Plan, Prio, ThreadNo, push_digits};
+use lock_model::{LockNo, Plan, Prio, QueueName, ThreadNo, push_digits};
 use std::alloc::AllocError;
 
 /// Pushes what is said of a turn: `high waits for bus, held by low`.
@@ -17,7 +17,7 @@ pub fn push_sentence(out: &mut Vec<u8>, plan: &Plan, sentence: &Sentence) -> Res
     ensures { OnOk result (out.new.items
         ≡ out.old.items ++ sentence_words plan.now sentence.now) }
 {
-    out.extend_from_slice(plan.thread_name(sentence.thread))?;
+    push_words(out, plan.thread_name(sentence.thread))?;
     push_saying(out, plan, &sentence.saying)
 }
 
@@ -60,7 +60,7 @@ pub fn push_saying(out: &mut Vec<u8>, plan: &Plan, saying: &Saying) -> Result<()
         Saying::Sleeps { chan, lock } => {
             push_named(out, b" sleeps on ", plan.chan_name(*chan))?;
             push_named(out, b" and gives ", plan.lock_name(*lock))?;
-            out.extend_from_slice(b" up")
+            push_words(out, b" up")
         }
         Saying::Wakes { chan, takes_off } => {
             push_named(out, b" signals ", plan.chan_name(*chan))?;
@@ -78,7 +78,7 @@ fn push_walk(out: &mut Vec<u8>, goes_on: bool) -> Result<(), AllocError>
     ensures { OnOk result (out.new.items ≡ out.old.items ++ walk_words goes_on) }
 {
     if goes_on {
-        out.extend_from_slice(b", and the walk goes on")
+        push_words(out, b", and the walk goes on")
     } else {
         Ok(())
     }
@@ -98,7 +98,7 @@ fn push_waits(
     push_named(out, b" waits for ", plan.lock_name(lock))?;
     match behind {
         None => {
-            out.extend_from_slice(b", held by ")?;
+            push_words(out, b", held by ")?;
             push_threads(out, plan, holders)
         }
         Some(writer) => push_behind(out, plan, holders, writer),
@@ -117,10 +117,10 @@ fn push_behind(
         ++ reading_words (length readers.now) ++ thread_name plan.now writer.0
         ++ codes " came first") }
 {
-    out.extend_from_slice(b": ")?;
+    push_words(out, b": ")?;
     push_threads(out, plan, readers)?;
     push_named(out, reading(readers.len()), plan.thread_name(writer))?;
-    out.extend_from_slice(b" came first")
+    push_words(out, b" came first")
 }
 
 #[tactic(auto, unfolding(crate::specs::Sentences::reading_words))]
@@ -160,9 +160,9 @@ fn push_claim(out: &mut Vec<u8>, before: Prio, prio: Prio) -> Result<(), AllocEr
     ensures { OnOk result (out.new.items ≡ out.old.items ++ claim_words before prio) }
 {
     if before == prio {
-        out.extend_from_slice(b" while others wait, who lend it nothing better")
+        push_words(out, b" while others wait, who lend it nothing better")
     } else {
-        out.extend_from_slice(b" while others wait, who lend to it")?;
+        push_words(out, b" while others wait, who lend to it")?;
         push_change(out, before, prio)
     }
 }
@@ -172,11 +172,11 @@ fn push_claim(out: &mut Vec<u8>, before: Prio, prio: Prio) -> Result<(), AllocEr
 fn push_change(out: &mut Vec<u8>, before: Prio, prio: Prio) -> Result<(), AllocError>
     ensures { OnOk result (out.new.items ≡ out.old.items ++ change_words before prio) }
 {
-    out.extend_from_slice(b" (")?;
+    push_words(out, b" (")?;
     push_digits(out, u64::from(before.0))?;
-    out.extend_from_slice(" → ".as_bytes())?;
+    push_words(out, " → ".as_bytes())?;
     push_digits(out, u64::from(prio.0))?;
-    out.extend_from_slice(b")")
+    push_words(out, b")")
 }
 
 fn push_sorts(
@@ -200,7 +200,7 @@ fn push_given_back(out: &mut Vec<u8>, before: Prio, prio: Prio) -> Result<(), Al
     if before == prio {
         return Ok(());
     }
-    out.extend_from_slice(b", gives the loan back")?;
+    push_words(out, b", gives the loan back")?;
     push_change(out, before, prio)
 }
 
@@ -209,7 +209,7 @@ fn push_to_wake(out: &mut Vec<u8>, plan: &Plan, takes_off: &[ThreadNo]) -> Resul
     ensures { OnOk result (out.new.items
         ≡ out.old.items ++ to_wake_words plan.now takes_off.now) }
 {
-    out.extend_from_slice(b", to wake ")?;
+    push_words(out, b", to wake ")?;
     push_threads(out, plan, takes_off)
 }
 
@@ -218,7 +218,7 @@ fn push_heard(out: &mut Vec<u8>, plan: &Plan, takes_off: &[ThreadNo]) -> Result<
     ensures { OnOk result (out.new.items ≡ out.old.items ++ heard_words plan.now takes_off.now) }
 {
     if takes_off.is_empty() {
-        out.extend_from_slice(b", and nobody sleeps there")
+        push_words(out, b", and nobody sleeps there")
     } else {
         push_to_wake(out, plan, takes_off)
     }
@@ -243,23 +243,41 @@ pub fn push_end(out: &mut Vec<u8>, plan: &Plan, end: &End) -> Result<(), AllocEr
     ensures { OnOk result (out.new.items ≡ out.old.items ++ end_words plan.now end.now) }
 {
     match end {
-        End::Done => out.extend_from_slice(b"all threads came to their end"),
+        End::Done => push_words(out, b"all threads came to their end"),
         End::Stuck { waits } => {
-            out.extend_from_slice(b"stuck")?;
-            let mut between: &[u8] = b": ";
-            for (t, q) in waits.as_slice() {
-                push_named(out, between, plan.thread_name(*t))?;
-                out.push(b' ')?;
-                push_queue(out, plan, *q)?;
-                between = b", ";
-            }
-            Ok(())
+            push_words(out, b"stuck")?;
+            push_stuck(out, plan, waits.as_slice())
         }
         End::Reversed => {
-            out.extend_from_slice(b"all threads came to their end, but a lock order was refused")
+            push_words(
+                out,
+                b"all threads came to their end, but a lock order was refused",
+            )
         }
         End::TooLong => {
-            out.extend_from_slice(b"the turns were used up before all threads came to their end")
+            push_words(
+                out,
+                b"the turns were used up before all threads came to their end",
+            )
         }
     }
+}
+
+// Threads, and what each waits for.
+fn push_stuck(
+    out: &mut Vec<u8>,
+    plan: &Plan,
+    waits: &[(ThreadNo, QueueName)],
+) -> Result<(), AllocError>
+    ensures { OnOk result (out.new.items
+        ≡ out.old.items ++ waits_behind plan.now (codes ": ") waits.now) }
+{
+    let mut between: &[u8] = b": ";
+    for (t, q) in waits {
+        push_named(out, between, plan.thread_name(*t))?;
+        push_words(out, b" ")?;
+        push_queue(out, plan, *q)?;
+        between = b", ";
+    }
+    Ok(())
 }

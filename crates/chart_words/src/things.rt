@@ -4,7 +4,7 @@ ghost use Rattle.std.specs.Prelude.{◌≡◌, ◌++◌, OnOk};
 ghost use Rattle.lock_model.specs.Text.{mode_letter, lock_kind, lock_name};
 ghost use Rattle.chart_words.specs.Words.{arrow_words, bar_words, event_word, hold_word, lost_words, mark_words, note_words, order_words, refusal_words, verb};
 
-use crate::names::{push_class, push_named, push_queue};
+use crate::names::{push_class, push_named, push_queue, push_words};
 use chart_layout::{Arrow, ArrowKind, BarKind, MarkKind};
 use lock_model::{ClassNo, Event, Kind, LockNo, Mode, Plan, StepKind, push_number, push_word};
 use std::alloc::AllocError;
@@ -16,13 +16,13 @@ pub fn push_bar(out: &mut Vec<u8>, plan: &Plan, what: BarKind) -> Result<(), All
 {
     match what {
         BarKind::Holds { l, mode } => {
-            out.extend_from_slice(hold_word(plan.lock_kind(l), mode))?;
+            push_words(out, hold_word(plan.lock_kind(l), mode))?;
             push_word(out, plan.lock_name(l))
         }
         BarKind::Waits { q } => push_queue(out, plan, q),
-        BarKind::TakenOff { .. } => out.extend_from_slice(b"taken off"),
-        BarKind::Woken { .. } => out.extend_from_slice(b"woken"),
-        BarKind::Walks => out.extend_from_slice(b"walks"),
+        BarKind::TakenOff { .. } => push_words(out, b"taken off"),
+        BarKind::Woken { .. } => push_words(out, b"woken"),
+        BarKind::Walks => push_words(out, b"walks"),
     }
 }
 
@@ -44,16 +44,16 @@ pub fn push_arrow(out: &mut Vec<u8>, arrow: Arrow) -> Result<(), AllocError>
 {
     match arrow.kind {
         ArrowKind::Lends { before, prio } => {
-            out.extend_from_slice(b"lends")?;
+            push_words(out, b"lends")?;
             if before == prio {
                 return Ok(());
             }
             push_number(out, u64::from(prio.0))
         }
-        ArrowKind::Wakes => out.extend_from_slice(b"wakes"),
-        ArrowKind::BlockedOn => out.extend_from_slice(b"blocks on"),
-        ArrowKind::Behind => out.extend_from_slice(b"waits behind"),
-        ArrowKind::Refused => out.extend_from_slice(b"may not wait for"),
+        ArrowKind::Wakes => push_words(out, b"wakes"),
+        ArrowKind::BlockedOn => push_words(out, b"blocks on"),
+        ArrowKind::Behind => push_words(out, b"waits behind"),
+        ArrowKind::Refused => push_words(out, b"may not wait for"),
     }
 }
 
@@ -64,7 +64,7 @@ pub fn push_mark(out: &mut Vec<u8>, plan: &Plan, what: MarkKind) -> Result<(), A
 {
     match what {
         MarkKind::Noted(event) => push_event(out, plan, event),
-        MarkKind::Did(kind) => out.extend_from_slice(verb_of(kind)),
+        MarkKind::Did(kind) => push_words(out, verb_of(kind)),
         MarkKind::Idle => Ok(()),
     }
 }
@@ -102,16 +102,16 @@ fn push_event(out: &mut Vec<u8>, plan: &Plan, event: Event) -> Result<(), AllocE
         Event::Tried { l, mode } => push_mode(out, plan, b"try", l, mode, b"lock "),
         Event::Unlocked { l, mode } => push_mode(out, plan, b"", l, mode, b"unlock "),
         Event::Busy { l, .. } => push_named(out, b"busy ", plan.lock_name(l)),
-        Event::Set { .. } => out.extend_from_slice(b"set"),
-        Event::Added { .. } => out.extend_from_slice(b"add"),
-        Event::Got { .. } => out.extend_from_slice(b"get"),
-        Event::Base { .. } => out.extend_from_slice(b"prio"),
-        Event::Shown { .. } => out.extend_from_slice(b"show"),
-        Event::Sleeps { .. } => out.extend_from_slice(b"sleep"),
-        Event::Woke { .. } => out.extend_from_slice(b"woke"),
-        Event::HaltedChan { .. } | Event::HaltedLock { .. } => out.extend_from_slice(b"halted"),
-        Event::WokeOne { .. } => out.extend_from_slice(b"signal"),
-        Event::WokeAll { .. } => out.extend_from_slice(b"wake all"),
+        Event::Set { .. } => push_words(out, b"set"),
+        Event::Added { .. } => push_words(out, b"add"),
+        Event::Got { .. } => push_words(out, b"get"),
+        Event::Base { .. } => push_words(out, b"prio"),
+        Event::Shown { .. } => push_words(out, b"show"),
+        Event::Sleeps { .. } => push_words(out, b"sleep"),
+        Event::Woke { .. } => push_words(out, b"woke"),
+        Event::HaltedChan { .. } | Event::HaltedLock { .. } => push_words(out, b"halted"),
+        Event::WokeOne { .. } => push_words(out, b"signal"),
+        Event::WokeAll { .. } => push_words(out, b"wake all"),
         Event::Reversed { l, .. } => push_named(out, b"refused ", plan.lock_name(l)),
     }
 }
@@ -128,8 +128,8 @@ fn push_mode(
         ≡ out.old.items ++ before.now ++ mode_letter (lock_kind plan.now l.0) mode ++ behind.now
         ++ lock_name plan.now l.0) }
 {
-    out.extend_from_slice(before)?;
-    out.extend_from_slice(mode.letter(plan.lock_kind(l)))?;
+    push_words(out, before)?;
+    push_words(out, mode.letter(plan.lock_kind(l)))?;
     push_named(out, behind, plan.lock_name(l))
 }
 
@@ -192,7 +192,7 @@ pub fn push_refusal(
         Some(held) => {
             let is_same = plan.lock_class(lock).0 == class.0;
             push_named(out, order_words(is_same), plan.lock_name(held))?;
-            out.extend_from_slice(b", which is held")
+            push_words(out, b", which is held")
         }
     }
 }
@@ -213,7 +213,7 @@ pub fn push_lost(out: &mut Vec<u8>, event: Event) -> Result<(), AllocError>
     ensures { OnOk result (out.new.items ≡ out.old.items ++ lost_words event) }
 {
     if event.wakes_nobody() {
-        out.extend_from_slice(b": lost, nobody sleeps there")
+        push_words(out, b": lost, nobody sleeps there")
     } else {
         Ok(())
     }

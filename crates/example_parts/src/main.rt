@@ -4,12 +4,11 @@
 //! `docs/LIBRARY.md` goes through it.
 #![tactic(auto)]
 
-ghost use Rattle.std.specs.Prelude.{◌≡◌, IfOk};
-ghost use Rattle.lock_floor.specs.Passes.{first_pass};
+ghost use Rattle.std.specs.Prelude.{◌≡◌, ℕ, ◌<◌, length, slice_index_or, IfOk};
 ghost use Rattle.example_parts.specs.Threads.{IsAdmitted, IsBeginning, IsForTwo, IsThread, behind};
 
 use adaptive_mutex::{Next, begin_lock, begin_unlock, go_on_releasing, go_on_taking};
-use anyhow::{Result, bail};
+use anyhow::Result;
 use floor_table::{Description, LockPart, ThreadPart};
 use lock_floor::{Floor, Pass};
 use lock_model::{ClassNo, Kind, LockNo, Prio, Sequence};
@@ -47,26 +46,9 @@ struct Thread {
 }
 
 fn main(rt: HostRuntime) -> Result<()> {
-    let (floor, first, second) = floor(rt.alloc())?;
-    let mut first = start(first);
-    let mut second = start(second);
-    run(&rt, &floor, &mut first, &mut second)
-}
-
-// The floor, and the passes of its two threads.
-fn floor(alloc: Global) -> Result<(Floor, Pass, Pass)>
-    ensures made { IfOk result (λ made. IsForTwo made.0.description) }
-    ensures first { IfOk result (λ made.
-        made.1 ≡ first_pass made.0.table made.0.description 0) }
-    ensures second { IfOk result (λ made.
-        made.2 ≡ first_pass made.0.table made.0.description 1) }
-{
-    let description = description(alloc)?;
-    let (floor, _keeper, mut passes) = Floor::of_description(alloc, description)?;
-    match (passes.pop(), passes.pop()) {
-        (Some(second), Some(first)) => Ok((floor, first, second)),
-        (_, None) | (None, _) => bail!("a thread has no pass"),
-    }
+    let alloc = rt.alloc();
+    let (floor, _keeper, passes) = Floor::of_description(alloc, description(alloc)?)?;
+    run_both(&rt, &floor, passes)
 }
 
 // What the floor is made for: two threads, each of which makes two entries, and a mutex.
@@ -99,6 +81,18 @@ fn start(pass: Pass) -> Thread
         stage: Stage::Begins,
         sleeps: false,
     }
+}
+
+// Both threads, from their passes on.
+fn run_both<R: Print>(rt: &R, floor: &Floor, mut passes: Vec<Pass>) -> Result<()>
+    requires made { IsForTwo floor.now.description }
+    requires two { length passes.items ≡ 2 }
+    requires begin { (t : ℕ) (d : _) → t < 2
+        → IsBeginning floor.now (slice_index_or passes.items t d) }
+{
+    let mut second = start(passes.pop().unwrap());
+    let mut first = start(passes.pop().unwrap());
+    run(rt, floor, &mut first, &mut second)
 }
 
 // The scheduler: it gives each thread a part in turn.

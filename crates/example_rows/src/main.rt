@@ -33,13 +33,20 @@ const ROOM: usize = 1 << 20;
 fn main(rt: HostRuntime) -> anyhow::Result<()> {
     for line in rt.lines(rt.alloc()) {
         let line = line?;
-        if line.as_str().ends_with(".table") {
-            run_table(&rt, line.as_str())?;
-        } else {
-            run_example(&rt, line.as_str())?;
-        }
+        run_line(&rt, line.as_str())?;
     }
     Ok(())
+}
+
+fn run_line<R: AllocGlobal + Files + Print + Threads + Wait + Sync>(
+    rt: &R,
+    line: &str,
+) -> anyhow::Result<()> {
+    if line.ends_with(".table") {
+        run_table(rt, line)
+    } else {
+        run_example(rt, line)
+    }
 }
 
 // The line is the name of an example and the words of its command line: those of lockrun, or behind the word `lockplan`
@@ -49,24 +56,39 @@ fn run_example<R: AllocGlobal + Files + Print + Threads + Wait + Sync>(
     rt: &R,
     line: &str,
 ) -> anyhow::Result<()> {
-    let alloc = rt.alloc();
     let (name, command) = line.split_once(' ').unwrap_or((line, ""));
     let (source, _) = name.split_once('.').unwrap_or((name, ""));
-    let script = fs::read(rt, format!(in alloc; "{source}.script")?.as_str())?;
-    let text = fs::read(rt, format!(in alloc; "{name}.out")?.as_str())?;
-    let mut sink = MemSink::new(alloc, ROOM, PIECE, Vec::new(alloc))?;
-    let (status, said) = call(rt, command, script, &mut sink)?;
-    let leaves_out = command.split_whitespace().any(|word| word == "run")
-        && text.as_slice().starts_with(b"thread ");
-    let is_written = if leaves_out {
-        sink.bytes().ends_with(text.as_slice())
+    let text = file(rt, name, "out")?;
+    let called = call(rt, command, file(rt, source, "script")?)?;
+    let is_written = is_written(command, &text, called.text.bytes());
+    print_called(rt, line, &called, is_written)
+}
+
+fn file<R: AllocGlobal + Files>(rt: &R, name: &str, kind: &str) -> anyhow::Result<Vec<u8>> {
+    let path = format!(in rt.alloc(); "{name}.{kind}")?;
+    Ok(fs::read(rt, path.as_str())?)
+}
+
+// Whether what a call wrote is the text of its file.
+fn is_written(command: &str, text: &[u8], written: &[u8]) -> bool {
+    let is_run = command.split_whitespace().any(|word| word == "run");
+    if is_run && text.starts_with(b"thread ") {
+        written.ends_with(text)
     } else {
-        sink.bytes() == text.as_slice()
-    };
+        written == text
+    }
+}
+
+fn print_called<R: Print>(
+    rt: &R,
+    line: &str,
+    called: &Called,
+    is_written: bool,
+) -> anyhow::Result<()> {
     let differs = if is_written { "as written" } else { "DIFFERS" };
-    let number = status as u8;
+    let number = called.status as u8;
     println!(rt; "{line}: status {number}, {differs}")?;
-    print_indented(rt, &said)
+    print_indented(rt, called.said.bytes())
 }
 
 // Each row of a table: what is said on standard error of its source.
@@ -74,9 +96,7 @@ fn run_table<R: AllocGlobal + Files + Print + Threads + Wait + Sync>(
     rt: &R,
     name: &str,
 ) -> anyhow::Result<()> {
-    let alloc = rt.alloc();
-    let text = fs::read(rt, name)?;
-    let rows = rows_of(alloc, &text)?;
+    let rows = rows_of(rt.alloc(), &fs::read(rt, name)?)?;
     for row in &rows {
         run_row(rt, row)?;
     }
@@ -88,15 +108,18 @@ fn run_row<R: AllocGlobal + Files + Print + Threads + Wait + Sync>(
     rt: &R,
     row: &Row,
 ) -> anyhow::Result<()> {
-    let alloc = rt.alloc();
-    let mut sink = MemSink::new(alloc, ROOM, PIECE, Vec::new(alloc))?;
-    let source = Vec::from_slice(alloc, &row.source)?;
-    let (_, said) = call(rt, row.command.as_str(), source, &mut sink)?;
-    if said.as_slice() != row.said.as_bytes() {
-        println!(rt; "{}: DIFFERS", row.name)?;
-        print_indented(rt, &said)?;
+    let source = Vec::from_slice(rt.alloc(), &row.source)?;
+    let called = call(rt, row.command.as_str(), source)?;
+    print_row(rt, row, called.said.bytes())
+}
+
+// A row of which something else was said.
+fn print_row<R: Print>(rt: &R, row: &Row, said: &[u8]) -> anyhow::Result<()> {
+    if said == row.said.as_bytes() {
+        return Ok(());
     }
-    Ok(())
+    println!(rt; "{}: DIFFERS", row.name)?;
+    print_indented(rt, said)
 }
 
 fn print_indented<R: Print>(rt: &R, said: &[u8]) -> anyhow::Result<()> {
@@ -106,57 +129,107 @@ fn print_indented<R: Print>(rt: &R, said: &[u8]) -> anyhow::Result<()> {
     Ok(())
 }
 
-// The status of a call, and what belongs on standard error.
+// A call that was made: how it ended, what it wrote, and what belongs on standard error.
+#[derive(Drop)]
+struct Called {
+    status: Status,
+    text: MemSink,
+    said: MemSink,
+}
+
+// Calls the program that the command names, with the script as its source.
 fn call<R: AllocGlobal + Threads + Wait + Sync>(
     rt: &R,
     command: &str,
     script: Vec<u8>,
-    sink: &mut MemSink,
-) -> anyhow::Result<(Status, Vec<u8>)> {
+) -> anyhow::Result<Called> {
     let alloc = rt.alloc();
+    let mut called = Called {
+        status: Status::Done,
+        text: sink(alloc)?,
+        said: sink(alloc)?,
+    };
     let mut source = CopiedSource::new(alloc, MemSource::new(script, PIECE, Vec::new(alloc)));
-    if let Some(("lockplan", words)) = command.split_once(' ') {
-        let words = words_of(alloc, words)?;
-        let ended = lockplan(alloc, &words, &mut source, sink);
-        let wrong = Wrong {
-            mistake: plan_command::mistake(alloc, &words),
-            help: plan_command::HELP,
-        };
-        let said = said_by(
-            alloc,
-            LOCKPLAN,
-            ended.status,
-            wrong,
-            source.copy(),
-            &ended.fault,
-        )?;
-        return Ok((ended.status, said));
+    called.status = make_call(rt, command, &mut source, &mut called)?;
+    Ok(called)
+}
+
+fn make_call<R: AllocGlobal + Threads + Wait + Sync>(
+    rt: &R,
+    command: &str,
+    source: &mut CopiedSource<MemSource>,
+    called: &mut Called,
+) -> anyhow::Result<Status> {
+    match command.split_once(' ') {
+        Some(("lockplan", words)) => call_lockplan(rt.alloc(), words, source, called),
+        Some(("lockchart", words)) => call_lockchart(rt.alloc(), words, source, called),
+        Some(_) | None => call_lockrun(rt, command, source, called),
     }
-    if let Some(("lockchart", words)) = command.split_once(' ') {
-        let words = words_of(alloc, words)?;
-        let drawn = lockchart(alloc, &words, &mut source, sink);
-        let wrong = Wrong {
-            mistake: chart_command::mistake(alloc, &words),
-            help: chart_command::HELP,
-        };
-        let said = said_by(
-            alloc,
-            LOCKCHART,
-            drawn.status,
-            wrong,
-            source.copy(),
-            &drawn.fault,
-        )?;
-        return Ok((drawn.status, said));
-    }
-    let words = words_of(alloc, command)?;
-    let status = lockrun(rt, alloc, &words, &mut source, sink, &OpenGate);
+}
+
+fn call_lockplan(
+    alloc: Global,
+    words: &str,
+    source: &mut CopiedSource<MemSource>,
+    called: &mut Called,
+) -> anyhow::Result<Status> {
+    let words = words_of(alloc, words)?;
+    let ended = lockplan(alloc, &words, source, &mut called.text);
+    let wrong = Wrong {
+        mistake: plan_command::mistake(alloc, &words),
+        help: plan_command::HELP,
+    };
+    let said = &mut called.said;
+    say_end(
+        alloc,
+        said,
+        LOCKPLAN,
+        ended.status,
+        wrong,
+        source.copy(),
+        &ended.fault,
+    )
+}
+
+fn call_lockchart(
+    alloc: Global,
+    words: &str,
+    source: &mut CopiedSource<MemSource>,
+    called: &mut Called,
+) -> anyhow::Result<Status> {
+    let words = words_of(alloc, words)?;
+    let drawn = lockchart(alloc, &words, source, &mut called.text);
+    let wrong = Wrong {
+        mistake: chart_command::mistake(alloc, &words),
+        help: chart_command::HELP,
+    };
+    let said = &mut called.said;
+    say_end(
+        alloc,
+        said,
+        LOCKCHART,
+        drawn.status,
+        wrong,
+        source.copy(),
+        &drawn.fault,
+    )
+}
+
+fn call_lockrun<R: AllocGlobal + Threads + Wait + Sync>(
+    rt: &R,
+    words: &str,
+    source: &mut CopiedSource<MemSource>,
+    called: &mut Called,
+) -> anyhow::Result<Status> {
+    let alloc = rt.alloc();
+    let words = words_of(alloc, words)?;
+    let status = lockrun(rt, alloc, &words, source, &mut called.text, &OpenGate);
     let wrong = Wrong {
         mistake: command_line::mistake(alloc, &words),
         help: command_line::HELP,
     };
-    let said = said_by(alloc, LOCKRUN, status, wrong, source.copy(), sink.bytes())?;
-    Ok((status, said))
+    let (said, text) = (&mut called.said, called.text.bytes());
+    say_end(alloc, said, LOCKRUN, status, wrong, source.copy(), text)
 }
 
 // What is wrong with the words of a command line, and what they may be.
@@ -166,23 +239,23 @@ struct Wrong<'h> {
     help: &'h [&'h str],
 }
 
-// What a program says that has ended so.
-fn said_by(
+// Says what a program does that has ended with that status, and gives the status back.
+fn say_end(
     alloc: Global,
+    said: &mut MemSink,
     program: Program,
     status: Status,
     wrong: Wrong<'_>,
     source: Option<&[u8]>,
     text: &[u8],
-) -> anyhow::Result<Vec<u8>> {
-    let mut out = MemSink::new(alloc, ROOM, PIECE, Vec::new(alloc))?;
+) -> anyhow::Result<Status> {
     let told = if status == Status::Usage {
-        tell_usage(alloc, &mut out, program, wrong.mistake, wrong.help)
+        tell_usage(alloc, said, program, wrong.mistake, wrong.help)
     } else {
-        tell(alloc, &mut out, program, status, source, text)
+        tell(alloc, said, program, status, source, text)
     };
     match told {
-        Ok(()) => Ok(Vec::from_slice(alloc, out.bytes())?),
+        Ok(()) => Ok(status),
         Err(_) => Err(anyhow::anyhow!("not all was said")),
     }
 }
@@ -193,4 +266,8 @@ fn words_of(alloc: Global, text: &str) -> anyhow::Result<Vec<String>> {
         words.push(String::from_str(alloc, word)?)?;
     }
     Ok(words)
+}
+
+fn sink(alloc: Global) -> Result<MemSink, AllocError> {
+    MemSink::new(alloc, ROOM, PIECE, Vec::new(alloc))
 }

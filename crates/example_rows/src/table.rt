@@ -18,7 +18,7 @@ use std::alloc::Global;
 use std::str;
 
 /// A row.
-#[derive(Drop, Debug)]
+#[derive(Drop)]
 pub struct Row {
     /// Its first line.
     pub name: String,

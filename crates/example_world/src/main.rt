@@ -29,8 +29,13 @@ const CHAINS: u32 = 16;
 
 fn main(rt: HostRuntime) -> Result<()> {
     let alloc = rt.alloc();
-    let plan = checked(alloc, &two_threads(alloc)?)?;
+    let plan = checked_plan(alloc)?;
     let mut world = World::make(alloc, &plan, CHAINS)?;
+    run(&rt, &mut world)
+}
+
+// Makes the turns, and prints what each did.
+fn run<R: Print>(rt: &R, world: &mut World<'_>) -> Result<()> {
     for &t in ORDER.iter() {
         if t.0 < world.threads() {
             let answer = world.turn(t);
@@ -43,12 +48,12 @@ fn main(rt: HostRuntime) -> Result<()> {
     Ok(())
 }
 
-// The plan again, read from its canonical text. Where it breaks a rule of scripts, the error says in which line.
-fn checked(alloc: Global, plan: &Plan) -> Result<Plan>
+// The plan, read again from its canonical text. Where it breaks a rule of scripts, the error says in which line.
+fn checked_plan(alloc: Global) -> Result<Plan>
     ensures { IfOk result IsProper }
 {
     scripts_have_proper_plans();
-    let text = write_script(alloc, plan)?;
+    let text = write_script(alloc, &two_threads(alloc)?)?;
     Ok(read_script(alloc, &text)?)
 }
 

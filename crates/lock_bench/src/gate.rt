@@ -124,8 +124,7 @@ impl<'a, R: Clock> TimingGate<'a, R> {
 
     /// How long each take of the writer was that came to its end before any reader came to his: from before it to
     /// behind its entry.
-    pub fn waits(&self, alloc: Global) -> Result<Vec<u64>> {
-        let mut waits = Vec::new(alloc);
+    pub fn push_waits(&self, waits: &mut Vec<u64>) -> Result<()> {
         let busy = self.first_ended.load(Ordering::SeqCst);
         for round in self.times.chunks_exact(self.case.round.operations()) {
             if let [asked, gained, ..] = round {
@@ -135,7 +134,7 @@ impl<'a, R: Clock> TimingGate<'a, R> {
                 }
             }
         }
-        Ok(waits)
+        Ok(())
     }
 
     // When the last owner came to the operation behind the one that told of a loan: each of them made an entry.

@@ -8,18 +8,21 @@
 //! a short run of each case, and prints the names alone.
 #![tactic(auto)]
 
+ghost use Rattle.lock_model.specs.Operations.{IsProper};
+
 mod gate;
 mod scripts;
 mod timing;
 
 use anyhow::{Result, bail};
-use scripts::{CASES, Case, Round, script_of};
+use lock_model::Plan;
+use scripts::{CASES, Case, Round};
 use std::alloc::Global;
 use std::env;
 use std::rt::Clock;
 use std::sync::Wait;
 use std::thread::Threads;
-use timing::{plan_of, time_of};
+use timing::{Figures, plan_of, push_waits, time_of};
 
 // How often each case is run where it is timed.
 const RUNS: usize = 9;
@@ -35,7 +38,6 @@ const MOST_OPERATIONS: usize = 19_900;
 const FEW_OPERATIONS: usize = 240;
 
 fn main(rt: HostRuntime) -> Result<()> {
-    let alloc = rt.alloc();
     let mut words = env::args(&rt)?.skip(1);
     let timed = match words.next() {
         Some(word) if word.as_str() == "time" => true,
@@ -43,23 +45,43 @@ fn main(rt: HostRuntime) -> Result<()> {
         None => false,
     };
     let chosen = words.next();
+    run_cases(&rt, timed, chosen.as_deref())
+}
+
+// Runs the case of that name, or all of them.
+fn run_cases<R: AllocGlobal + Print + Threads + Wait + Clock + Sync>(
+    rt: &R,
+    timed: bool,
+    chosen: Option<&str>,
+) -> Result<()> {
     for row in CASES.iter() {
         let case = Case::of(row);
-        if chosen
-            .as_ref()
-            .is_some_and(|name| name.as_str() != case.name)
-        {
-            continue;
-        }
-        if timed && case.round == Round::Waits {
-            print_waits(&rt, alloc, &case)?;
-        } else if timed {
-            print_times(&rt, alloc, &case)?;
-        } else {
-            run_briefly(&rt, alloc, &case)?;
+        if chosen.is_none_or(|name| name == case.name) {
+            run_case(rt, timed, &case)?;
         }
     }
     Ok(())
+}
+
+fn run_case<R: AllocGlobal + Print + Threads + Wait + Clock + Sync>(
+    rt: &R,
+    timed: bool,
+    case: &Case,
+) -> Result<()> {
+    let alloc = rt.alloc();
+    let rounds = case.rounds(if timed {
+        MOST_OPERATIONS
+    } else {
+        FEW_OPERATIONS
+    });
+    let plan = plan_of(alloc, case, rounds)?;
+    if !timed {
+        run_briefly(rt, alloc, case, &plan, rounds)
+    } else if case.round == Round::Waits {
+        print_waits(rt, alloc, case, &plan, rounds)
+    } else {
+        print_times(rt, alloc, case, &plan, rounds)
+    }
 }
 
 // Makes one short run.
@@ -67,12 +89,13 @@ fn run_briefly<R: Print + Threads + Wait + Clock + Sync>(
     rt: &R,
     alloc: Global,
     case: &Case,
-) -> Result<()> {
-    let rounds = case.rounds(FEW_OPERATIONS);
-    let plan = plan_of(alloc, &script_of(alloc, case, rounds)?)?;
-    time_of(rt, alloc, *case, &plan, rounds)?;
-    let name = case.name;
-    println!(rt; "{name} ok")?;
+    plan: &Plan,
+    rounds: usize,
+) -> Result<()>
+    requires proper { IsProper plan.now }
+{
+    time_of(rt, alloc, *case, plan, rounds)?;
+    println!(rt; "{} ok", case.name)?;
     Ok(())
 }
 
@@ -81,25 +104,43 @@ fn print_times<R: Print + Threads + Wait + Clock + Sync>(
     rt: &R,
     alloc: Global,
     case: &Case,
-) -> Result<()> {
-    let rounds = case.rounds(MOST_OPERATIONS);
-    let plan = plan_of(alloc, &script_of(alloc, case, rounds)?)?;
-    let operations = case.operations(rounds);
+    plan: &Plan,
+    rounds: usize,
+) -> Result<()>
+    requires proper { IsProper plan.now }
+{
     let mut runs = Vec::new(alloc);
+    push_runs(rt, alloc, case, plan, rounds, &mut runs)?;
+    runs.sort_unstable_by_key(|figures| figures.nanoseconds);
+    print_runs(rt, case.name, &runs, case.operations(rounds))
+}
+
+// Runs it so often, for the runs that told a time. There is none where the last owner of a chain saw no loan.
+fn push_runs<R: Threads + Wait + Clock + Sync>(
+    rt: &R,
+    alloc: Global,
+    case: &Case,
+    plan: &Plan,
+    rounds: usize,
+    runs: &mut Vec<Figures>,
+) -> Result<()>
+    requires proper { IsProper plan.now }
+{
     for _ in 0..RUNS {
-        let figures = time_of(rt, alloc, *case, &plan, rounds)?;
-        // There is no time where the last owner of a chain saw no loan.
+        let figures = time_of(rt, alloc, *case, plan, rounds)?;
         if figures.nanoseconds > 0 {
             runs.push(figures)?;
         }
     }
-    runs.sort_unstable_by_key(|figures| figures.nanoseconds);
-    let name = case.name;
+    Ok(())
+}
+
+// Prints the best and the median of these runs, which are sorted.
+fn print_runs<R: Print>(rt: &R, name: &str, runs: &[Figures], operations: u64) -> Result<()> {
     if let (Some(best), Some(median)) = (runs.first(), runs.get(runs.len() / 2)) {
         print_tenths(rt, name, "", tenths(best.nanoseconds, operations))?;
         print_tenths(rt, name, "_median", tenths(median.nanoseconds, operations))?;
-        print_tenths(rt, name, "_handovers", median.handovers)?;
-        Ok(())
+        print_tenths(rt, name, "_handovers", median.handovers)
     } else {
         bail!("no run told a time")
     }
@@ -110,24 +151,42 @@ fn print_waits<R: Print + Threads + Wait + Clock + Sync>(
     rt: &R,
     alloc: Global,
     case: &Case,
-) -> Result<()> {
-    let rounds = case.rounds(MOST_OPERATIONS);
-    let plan = plan_of(alloc, &script_of(alloc, case, rounds)?)?;
+    plan: &Plan,
+    rounds: usize,
+) -> Result<()>
+    requires proper { IsProper plan.now }
+{
     let mut waits = Vec::new(alloc);
+    run_often(rt, alloc, case, plan, rounds, &mut waits)?;
+    waits.truncate(TAKES);
+    waits.sort_unstable();
+    print_median_and_worst(rt, case.name, &waits)
+}
+
+fn run_often<R: Threads + Wait + Clock + Sync>(
+    rt: &R,
+    alloc: Global,
+    case: &Case,
+    plan: &Plan,
+    rounds: usize,
+    waits: &mut Vec<u64>,
+) -> Result<()>
+    requires proper { IsProper plan.now }
+{
     for _ in 0..MOST_RUNS {
-        let figures = time_of(rt, alloc, *case, &plan, rounds)?;
-        waits.extend_from_slice(figures.waits.as_slice())?;
+        push_waits(rt, alloc, *case, plan, rounds, waits)?;
         if waits.len() >= TAKES {
             break;
         }
     }
-    waits.truncate(TAKES);
-    waits.sort_unstable();
-    let name = case.name;
+    Ok(())
+}
+
+// Of takes that are sorted.
+fn print_median_and_worst<R: Print>(rt: &R, name: &str, waits: &[u64]) -> Result<()> {
     if let (Some(median), Some(worst)) = (waits.get(waits.len() / 2), waits.last()) {
         print_tenths(rt, name, "_median", tenths(*median, 1))?;
-        print_tenths(rt, name, "_worst", tenths(*worst, 1))?;
-        Ok(())
+        print_tenths(rt, name, "_worst", tenths(*worst, 1))
     } else {
         bail!("no run told a time")
     }

@@ -209,38 +209,66 @@ impl Case {
 
 /// The script of a case, in which each thread makes so many rounds.
 pub fn script_of(alloc: Global, case: &Case, rounds: usize) -> Result<String, AllocError> {
-    let mut script = String::from_str(alloc, "lockrun 1\n")?;
-    let kind = case.round.kind();
+    let mut script = String::new(alloc);
+    push_script(alloc, &mut script, case, rounds)?;
+    Ok(script)
+}
+
+fn push_script(
+    alloc: Global,
+    script: &mut String,
+    case: &Case,
+    rounds: usize,
+) -> Result<(), AllocError> {
+    script.push_str("lockrun 1\n")?;
     for m in 0..case.locks.saturating_mul(2) {
-        script.push_str(&format!(in alloc; "{kind} m{m} c{m}\n")?)?;
+        push_lock(alloc, script, case.round.kind(), m)?;
     }
     script.push_str("cond woken m0\n")?;
     for t in 0..case.threads {
-        match case.round {
-            Round::Bare
-            | Round::Edit
-            | Round::Long
-            | Round::Apart
-            | Round::Nested
-            | Round::Read
-            | Round::Write
-            | Round::Get
-            | Round::Mixed
-            | Round::Waits
-            | Round::Share => push_rounds(alloc, &mut script, case, t, rounds)?,
-            Round::PingPong => {
-                let part = if case.is_last(t) { SIGNALS } else { WAITS };
-                push_part(alloc, &mut script, t, &part, rounds)?;
-            }
-            Round::Broadcast => {
-                let part = if case.is_last(t) { WAKES } else { SLEEPS };
-                push_part(alloc, &mut script, t, &part, rounds)?;
-            }
-            Round::Chain => push_link(alloc, &mut script, case, t, rounds)?,
-        }
+        push_thread(alloc, script, case, t, rounds)?;
     }
-    script.push_str("done\n")?;
-    Ok(script)
+    script.push_str("done\n")
+}
+
+fn push_lock(alloc: Global, script: &mut String, kind: &str, m: usize) -> Result<(), AllocError> {
+    script.push_str(&format!(in alloc; "{kind} m{m} c{m}\n")?)
+}
+
+fn push_thread(
+    alloc: Global,
+    script: &mut String,
+    case: &Case,
+    t: usize,
+    rounds: usize,
+) -> Result<(), AllocError> {
+    match case.round {
+        Round::Bare
+        | Round::Edit
+        | Round::Long
+        | Round::Apart
+        | Round::Nested
+        | Round::Read
+        | Round::Write
+        | Round::Get
+        | Round::Mixed
+        | Round::Waits
+        | Round::Share => push_rounds(alloc, script, case, t, rounds),
+        Round::PingPong => {
+            let part = if case.is_last(t) { SIGNALS } else { WAITS };
+            push_part(alloc, script, t, &part, rounds)
+        }
+        Round::Broadcast => {
+            let part = if case.is_last(t) { WAKES } else { SLEEPS };
+            push_part(alloc, script, t, &part, rounds)
+        }
+        Round::Chain => push_link(alloc, script, case, t, rounds),
+    }
+}
+
+// The first line of a thread.
+fn push_head(alloc: Global, script: &mut String, t: usize, base: u32) -> Result<(), AllocError> {
+    script.push_str(&format!(in alloc; "thread t{t} {base}\n")?)
 }
 
 // A thread that makes so many rounds, with the lock that is its own among so many, and with one behind all of these.
@@ -253,35 +281,45 @@ fn push_rounds(
 ) -> Result<(), AllocError> {
     let a = t % case.locks.max(1);
     let b = a.saturating_add(case.locks);
-    let writes = case.is_last(t);
-    script.push_str(&format!(in alloc; "thread t{t} {USUAL}\n")?)?;
+    push_head(alloc, script, t, USUAL)?;
     for i in 0..rounds {
-        let key = i % KEYS;
-        let round = match case.round {
-            Round::Bare => format!(in alloc; "lock m{a}\nunlock m{a}\n")?,
-            Round::Edit | Round::Long => {
-                format!(in alloc; "lock m{a}\nadd m{a} {key} {i}\nunlock m{a}\n")?
-            }
-            Round::Apart => format!(in alloc;
-                "lock m{a}\nunlock m{a}\nlock m{b}\nadd m{b} {key} {i}\nunlock m{b}\n"
-            )?,
-            Round::Nested => format!(in alloc;
-                "lock m{a}\nlock m{b}\nadd m{b} {key} {i}\nunlock m{b}\nunlock m{a}\n"
-            )?,
-            Round::Read => format!(in alloc; "rlock m{a}\nrunlock m{a}\n")?,
-            Round::Write => format!(in alloc; "wlock m{a}\nwunlock m{a}\n")?,
-            Round::Mixed | Round::Waits if writes => {
-                format!(in alloc; "wlock m{a}\nadd m{a} {key} {i}\nwunlock m{a}\n")?
-            }
-            Round::Get | Round::Mixed | Round::Waits => {
-                format!(in alloc; "rlock m{a}\nget m{a} {key}\nrunlock m{a}\n")?
-            }
-            Round::Share => format!(in alloc; "slock m{a}\nget m{a} {key}\nsunlock m{a}\n")?,
-            Round::PingPong | Round::Broadcast | Round::Chain => String::new(alloc),
-        };
+        let round = round_of(alloc, case.round, case.is_last(t), (a, b), i)?;
         script.push_str(&round)?;
     }
     script.push_str("show\nend\n")
+}
+
+// The round of that number of a thread with these two locks, which writes where others read if it is the last.
+fn round_of(
+    alloc: Global,
+    round: Round,
+    is_last: bool,
+    (a, b): (usize, usize),
+    i: usize,
+) -> Result<String, AllocError> {
+    let key = i % KEYS;
+    match round {
+        Round::Bare => format!(in alloc; "lock m{a}\nunlock m{a}\n"),
+        Round::Edit | Round::Long => {
+            format!(in alloc; "lock m{a}\nadd m{a} {key} {i}\nunlock m{a}\n")
+        }
+        Round::Apart => format!(in alloc;
+            "lock m{a}\nunlock m{a}\nlock m{b}\nadd m{b} {key} {i}\nunlock m{b}\n"
+        ),
+        Round::Nested => format!(in alloc;
+            "lock m{a}\nlock m{b}\nadd m{b} {key} {i}\nunlock m{b}\nunlock m{a}\n"
+        ),
+        Round::Read => format!(in alloc; "rlock m{a}\nrunlock m{a}\n"),
+        Round::Write => format!(in alloc; "wlock m{a}\nwunlock m{a}\n"),
+        Round::Mixed | Round::Waits if is_last => {
+            format!(in alloc; "wlock m{a}\nadd m{a} {key} {i}\nwunlock m{a}\n")
+        }
+        Round::Get | Round::Mixed | Round::Waits => {
+            format!(in alloc; "rlock m{a}\nget m{a} {key}\nrunlock m{a}\n")
+        }
+        Round::Share => format!(in alloc; "slock m{a}\nget m{a} {key}\nsunlock m{a}\n"),
+        Round::PingPong | Round::Broadcast | Round::Chain => Ok(String::new(alloc)),
+    }
 }
 
 // A thread that has a part where threads wait on the condition.
@@ -292,11 +330,13 @@ fn push_part(
     part: &Part,
     rounds: usize,
 ) -> Result<(), AllocError> {
-    script.push_str(&format!(in alloc; "thread t{t} {USUAL}\n{}", part.first)?)?;
+    push_head(alloc, script, t, USUAL)?;
+    script.push_str(part.first)?;
     for _ in 0..rounds {
         script.push_str(part.round)?;
     }
-    script.push_str(&format!(in alloc; "{}show\nend\n", part.last)?)
+    script.push_str(part.last)?;
+    script.push_str("show\nend\n")
 }
 
 // A thread of a chain: an owner, the last of them, or the one that takes the first one's mutex.
@@ -309,16 +349,30 @@ fn push_link(
 ) -> Result<(), AllocError> {
     let next = t.saturating_add(1);
     if next == case.threads {
-        let taken = format!(in alloc; "thread t{t} {BETTER}\nshow\nlock m0\nunlock m0\nend\n")?;
-        return script.push_str(&taken);
-    }
-    script.push_str(&format!(in alloc; "thread t{t} {USUAL}\nlock m{t}\n")?)?;
-    if next < case.locks {
-        script.push_str(&format!(in alloc; "lock m{next}\nunlock m{next}\n")?)?;
+        push_head(alloc, script, t, BETTER)?;
+        script.push_str("show\nlock m0\nunlock m0\nend\n")
     } else {
-        for _ in 0..shows {
-            script.push_str("show\n")?;
+        push_head(alloc, script, t, USUAL)?;
+        push_of(alloc, script, "lock", t)?;
+        if next < case.locks {
+            push_of(alloc, script, "lock", next)?;
+            push_of(alloc, script, "unlock", next)?;
+        } else {
+            push_shows(script, shows)?;
         }
+        push_of(alloc, script, "unlock", t)?;
+        script.push_str("end\n")
     }
-    script.push_str(&format!(in alloc; "unlock m{t}\nend\n")?)
+}
+
+// An operation of a mutex.
+fn push_of(alloc: Global, script: &mut String, word: &str, m: usize) -> Result<(), AllocError> {
+    script.push_str(&format!(in alloc; "{word} m{m}\n")?)
+}
+
+fn push_shows(script: &mut String, shows: usize) -> Result<(), AllocError> {
+    for _ in 0..shows {
+        script.push_str("show\n")?;
+    }
+    Ok(())
 }

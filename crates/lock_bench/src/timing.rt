@@ -3,7 +3,7 @@ ghost use Rattle.std.specs.Prelude.{IfOk};
 ghost use Rattle.lock_model.specs.Operations.{IsProper};
 
 use crate::gate::TimingGate;
-use crate::scripts::{Case, Round};
+use crate::scripts::{Case, script_of};
 use anyhow::Result;
 use floor_run::run_plan;
 use lock_model::limits::LOCKS;
@@ -17,19 +17,19 @@ use std::thread::Threads;
 // The chains of each sort of queue: one, as a mutex's `lock` asks it.
 const CHAINS: u32 = 1;
 
-/// What a run told: its nanoseconds, of how many of 1,000 sections the one before, of the same lock, was another
-/// thread's, and how long each take was that is timed.
-#[derive(Debug, Drop)]
+/// What a run told: its nanoseconds, and of how many of 1,000 sections the one before, of the same lock, was another
+/// thread's.
+#[derive(Clone, Copy, Debug)]
 pub struct Figures {
     pub nanoseconds: u64,
     pub handovers: u64,
-    pub waits: Vec<u64>,
 }
 
-/// The plan of a script.
-pub fn plan_of(alloc: Global, script: &str) -> Result<Plan>
+/// The plan of a case whose threads make so many rounds each.
+pub fn plan_of(alloc: Global, case: &Case, rounds: usize) -> Result<Plan>
     ensures { IfOk result IsProper }
 {
+    let script = script_of(alloc, case, rounds)?;
     let plan = read_script(alloc, script.as_bytes())?;
     Ok(plan)
 }
@@ -45,27 +45,38 @@ pub fn time_of<R: Threads + Wait + Clock + Sync>(
     requires proper { IsProper plan.now }
 {
     let gate = TimingGate::new(rt, alloc, case, rounds)?;
-    let (outcome, _closing) = run_plan(rt, alloc, plan, CHAINS, &gate)?;
+    run(rt, alloc, plan, &gate)
+}
+
+/// Runs it, and tells how long each of the takes was that are timed.
+pub fn push_waits<R: Threads + Wait + Clock + Sync>(
+    rt: &R,
+    alloc: Global,
+    case: Case,
+    plan: &Plan,
+    rounds: usize,
+    waits: &mut Vec<u64>,
+) -> Result<()>
+    requires proper { IsProper plan.now }
+{
+    let gate = TimingGate::new(rt, alloc, case, rounds)?;
+    run(rt, alloc, plan, &gate)?;
+    gate.push_waits(waits)
+}
+
+fn run<R: Threads + Wait + Clock + Sync>(
+    rt: &R,
+    alloc: Global,
+    plan: &Plan,
+    gate: &TimingGate<'_, R>,
+) -> Result<Figures>
+    requires proper { IsProper plan.now }
+{
+    let (outcome, _closing) = run_plan(rt, alloc, plan, CHAINS, gate)?;
     let history = outcome.history.as_slice();
     Ok(Figures {
         nanoseconds: gate.time(history),
         handovers: handovers(history),
-        waits: match case.round {
-            Round::Bare
-            | Round::Edit
-            | Round::Long
-            | Round::Apart
-            | Round::Nested
-            | Round::Read
-            | Round::Write
-            | Round::Get
-            | Round::Mixed
-            | Round::Share
-            | Round::PingPong
-            | Round::Broadcast
-            | Round::Chain => Vec::new(alloc),
-            Round::Waits => gate.waits(alloc)?,
-        },
     })
 }
 

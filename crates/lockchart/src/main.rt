@@ -7,8 +7,9 @@
 
 use chart_command::{HELP, mistake, no_text};
 use chart_top::{Drawn, LOCKCHART, LONG, Status, lockchart};
-use lock_io::{StdSink, StdSource, write_all};
+use lock_io::{Sink, StdSink, StdSource, write_all};
 use remarks::{CopiedSource, tell, tell_usage};
+use std::alloc::{AllocError, Global};
 use std::io;
 use std::process::ExitCode;
 use top_ends::given_words;
@@ -17,37 +18,52 @@ fn main(rt: HostRuntime) -> ExitCode {
     let alloc = rt.alloc();
     let mut source = CopiedSource::new(alloc, StdSource::new(rt.reader()));
     let words = given_words(&rt);
-    let ended = match &words {
+    let drawn = match &words {
         Ok(words) => {
             let mut sink = StdSink::new(io::writer(&rt));
             lockchart(alloc, words, &mut source, &mut sink)
         }
-        Err(status) => Drawn {
-            status: *status,
-            fault: Vec::new(alloc),
-            is_long: false,
-        },
+        Err(status) => unread(alloc, *status),
     };
-    // Nobody may listen there, which changes nothing.
     let mut out = StdSink::new(rt.stderr());
-    let _ = if ended.status == Status::Usage {
-        let mistake = match &words {
-            Ok(words) => mistake(alloc, words),
-            Err(_) => no_text(alloc),
-        };
-        tell_usage(alloc, &mut out, LOCKCHART, mistake, HELP)
-    } else {
-        tell(
-            alloc,
-            &mut out,
-            LOCKCHART,
-            ended.status,
-            source.copy(),
-            &ended.fault,
-        )
-    };
-    if ended.is_long {
-        let _ = write_all(&mut out, LONG.as_bytes());
+    say_end(alloc, &mut out, &words, source.copy(), &drawn);
+    ExitCode::from(drawn.status as u8)
+}
+
+// The end of a call that reads nothing.
+fn unread(alloc: Global, status: Status) -> Drawn {
+    Drawn {
+        status,
+        fault: Vec::new(alloc),
+        is_long: false,
     }
-    ExitCode::from(ended.status as u8)
+}
+
+// What there is to say of an end. Nobody may listen there, which changes nothing.
+fn say_end<K: Sink>(
+    alloc: Global,
+    out: &mut K,
+    words: &Result<Vec<String>, Status>,
+    source: Option<&[u8]>,
+    drawn: &Drawn,
+) {
+    let _ = if drawn.status == Status::Usage {
+        tell_usage(alloc, out, LOCKCHART, mistake_in(alloc, words), HELP)
+    } else {
+        tell(alloc, out, LOCKCHART, drawn.status, source, &drawn.fault)
+    };
+    if drawn.is_long {
+        let _ = write_all(out, LONG.as_bytes());
+    }
+}
+
+// What is wrong with words that are no form.
+fn mistake_in(
+    alloc: Global,
+    words: &Result<Vec<String>, Status>,
+) -> Result<Option<String>, AllocError> {
+    match words {
+        Ok(words) => mistake(alloc, words),
+        Err(_) => no_text(alloc),
+    }
 }

@@ -5,10 +5,11 @@
 //! the words and the streams are picked up.
 #![tactic(auto)]
 
-use lock_io::{StdSink, StdSource};
+use lock_io::{Sink, StdSink, StdSource};
 use plan_command::{HELP, mistake, no_text};
 use plan_top::{LOCKPLAN, Status, lockplan};
 use remarks::{CopiedSource, tell, tell_usage};
+use std::alloc::{AllocError, Global};
 use std::io;
 use std::process::ExitCode;
 use top_ends::{Ended, given_words};
@@ -22,28 +23,43 @@ fn main(rt: HostRuntime) -> ExitCode {
             let mut sink = StdSink::new(io::writer(&rt));
             lockplan(alloc, words, &mut source, &mut sink)
         }
-        Err(status) => Ended {
-            status: *status,
-            fault: Vec::new(alloc),
-        },
+        Err(status) => unread(alloc, *status),
     };
-    // Nobody may listen there, which changes nothing.
     let mut out = StdSink::new(rt.stderr());
-    let _ = if ended.status == Status::Usage {
-        let mistake = match &words {
-            Ok(words) => mistake(alloc, words),
-            Err(_) => no_text(alloc),
-        };
-        tell_usage(alloc, &mut out, LOCKPLAN, mistake, HELP)
-    } else {
-        tell(
-            alloc,
-            &mut out,
-            LOCKPLAN,
-            ended.status,
-            source.copy(),
-            &ended.fault,
-        )
-    };
+    say_end(alloc, &mut out, &words, source.copy(), &ended);
     ExitCode::from(ended.status as u8)
+}
+
+// The end of a call that reads nothing.
+fn unread(alloc: Global, status: Status) -> Ended {
+    Ended {
+        status,
+        fault: Vec::new(alloc),
+    }
+}
+
+// What there is to say of an end. Nobody may listen there, which changes nothing.
+fn say_end<K: Sink>(
+    alloc: Global,
+    out: &mut K,
+    words: &Result<Vec<String>, Status>,
+    source: Option<&[u8]>,
+    ended: &Ended,
+) {
+    let _ = if ended.status == Status::Usage {
+        tell_usage(alloc, out, LOCKPLAN, mistake_in(alloc, words), HELP)
+    } else {
+        tell(alloc, out, LOCKPLAN, ended.status, source, &ended.fault)
+    };
+}
+
+// What is wrong with words that are no form.
+fn mistake_in(
+    alloc: Global,
+    words: &Result<Vec<String>, Status>,
+) -> Result<Option<String>, AllocError> {
+    match words {
+        Ok(words) => mistake(alloc, words),
+        Err(_) => no_text(alloc),
+    }
 }

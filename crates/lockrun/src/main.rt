@@ -6,40 +6,60 @@
 #![tactic(auto)]
 
 use command_line::{HELP, mistake, no_text};
-use lock_io::{OpenGate, StdSink, StdSource};
+use lock_io::{OpenGate, Sink, StdSink, StdSource};
 use lock_top::{LOCKRUN, Served, Status, lockrun_served};
 use remarks::{tell, tell_usage};
+use std::alloc::{AllocError, Global};
 use std::io;
 use std::process::ExitCode;
+use std::sync::Wait;
+use std::thread::Threads;
 use top_ends::given_words;
 
 fn main(rt: HostRuntime) -> ExitCode {
     let alloc = rt.alloc();
-    let mut source = StdSource::new(rt.reader());
-    let mut sink = StdSink::new(io::writer(&rt));
     let words = given_words(&rt);
     let served = match &words {
-        Ok(words) => lockrun_served(&rt, alloc, words, &mut source, &mut sink, &OpenGate),
+        Ok(words) => serve(&rt, words),
         Err(status) => Served::unread(alloc, *status),
     };
-    let status = served.status;
-    // Nobody may listen there, which changes nothing.
     let mut out = StdSink::new(rt.stderr());
-    let _ = if status == Status::Usage {
-        let mistake = match &words {
-            Ok(words) => mistake(alloc, words),
-            Err(_) => no_text(alloc),
-        };
-        tell_usage(alloc, &mut out, LOCKRUN, mistake, HELP)
+    say_end(alloc, &mut out, &words, &served);
+    ExitCode::from(served.status as u8)
+}
+
+// What the words ask for, of standard input and to standard output.
+fn serve<R: AllocGlobal + Input + Print + Threads + Wait + Sync>(
+    rt: &R,
+    words: &[String],
+) -> Served {
+    let mut source = StdSource::new(rt.reader());
+    let mut sink = StdSink::new(io::writer(rt));
+    lockrun_served(rt, rt.alloc(), words, &mut source, &mut sink, &OpenGate)
+}
+
+// What there is to say of that. Nobody may listen there, which changes nothing.
+fn say_end<K: Sink>(
+    alloc: Global,
+    out: &mut K,
+    words: &Result<Vec<String>, Status>,
+    served: &Served,
+) {
+    let _ = if served.status == Status::Usage {
+        tell_usage(alloc, out, LOCKRUN, mistake_in(alloc, words), HELP)
     } else {
-        tell(
-            alloc,
-            &mut out,
-            LOCKRUN,
-            status,
-            served.source.as_deref(),
-            &served.text,
-        )
+        let source = served.source.as_deref();
+        tell(alloc, out, LOCKRUN, served.status, source, &served.text)
     };
-    ExitCode::from(status as u8)
+}
+
+// What is wrong with words that are no form.
+fn mistake_in(
+    alloc: Global,
+    words: &Result<Vec<String>, Status>,
+) -> Result<Option<String>, AllocError> {
+    match words {
+        Ok(words) => mistake(alloc, words),
+        Err(_) => no_text(alloc),
+    }
 }

@@ -36,11 +36,9 @@ fn begun<'a>(alloc: Global, synopsis: &Synopsis<'a>) -> Result<Command<'a>, Allo
 fn empty<'a>(alloc: Global, synopsis: &Synopsis<'a>) -> Command<'a>
     ensures { app_of result ≡ app_with synopsis.now [] }
 {
-    let command = Command::new(alloc, synopsis.program).no_binary_name(true);
-    match synopsis.help {
-        Some(_) => command,
-        None => command.disable_help_flag(true),
-    }
+    Command::new(alloc, synopsis.program)
+        .no_binary_name(true)
+        .disable_help_flag(synopsis.help.is_none())
 }
 
 fn operand<'a>(alloc: Global, names: &'a [&'a str]) -> Arg<'a>

@@ -28,12 +28,7 @@ pub fn mistake<'w>(
         operand: None,
         is_over: false,
     };
-    for word in words {
-        if let Some(said) = walk.next(alloc, synopsis, word.as_str())? {
-            return Ok(Some(said));
-        }
-    }
-    walk.lacking(alloc, synopsis)
+    walk.through(alloc, synopsis, words)
 }
 
 // What the words so far have said.
@@ -48,6 +43,21 @@ struct Walk<'w> {
 }
 
 impl<'w> Walk<'w> {
+    // Goes through all words, up to what is wrong with one or is lacking in the end.
+    fn through(
+        &mut self,
+        alloc: Global,
+        synopsis: &Synopsis<'w>,
+        words: &'w [String],
+    ) -> Result<Option<String>, AllocError> {
+        for word in words {
+            if let Some(said) = self.next(alloc, synopsis, word.as_str())? {
+                return Ok(Some(said));
+            }
+        }
+        self.lacking(alloc, synopsis)
+    }
+
     // Goes on with a word, or tells what is wrong with it.
     fn next(
         &mut self,
@@ -57,34 +67,45 @@ impl<'w> Walk<'w> {
     ) -> Result<Option<String>, AllocError> {
         if let Some(option) = self.awaits {
             self.awaits = None;
-            if begins_option(word) {
-                return behind_nothing(alloc, option, Some(word));
-            }
-            return self.give(alloc, option, word);
-        }
-        if self.is_over || !begins_option(word) {
-            return self.with_operand(alloc, synopsis, word);
-        }
-        if word == "--" {
+            self.behind_option(alloc, option, word)
+        } else if self.is_over || !begins_option(word) {
+            self.with_operand(alloc, synopsis, word)
+        } else if word == "--" {
             self.is_over = true;
-            return Ok(None);
+            Ok(None)
+        } else {
+            self.with_option(alloc, synopsis, word)
         }
-        let Some(named) = word.strip_prefix("--") else {
-            return unknown(alloc, synopsis, word);
-        };
-        let (name, text) = match named.split_once('=') {
-            Some((name, text)) => (name, Some(text)),
-            None => (named, None),
-        };
-        let Some(option) = option_named(synopsis, name) else {
-            return unknown(alloc, synopsis, word);
-        };
-        match text {
-            Some(text) => self.give(alloc, option, text),
-            None => {
+    }
+
+    // A word behind an option whose text is awaited.
+    fn behind_option(
+        &mut self,
+        alloc: Global,
+        option: LongOption<'w>,
+        word: &'w str,
+    ) -> Result<Option<String>, AllocError> {
+        if begins_option(word) {
+            behind_nothing(alloc, option, Some(word))
+        } else {
+            self.give(alloc, option, word)
+        }
+    }
+
+    // A word that begins as an option does.
+    fn with_option(
+        &mut self,
+        alloc: Global,
+        synopsis: &Synopsis<'w>,
+        word: &'w str,
+    ) -> Result<Option<String>, AllocError> {
+        match named_by(synopsis, word) {
+            Some((option, Some(text))) => self.give(alloc, option, text),
+            Some((option, None)) => {
                 self.awaits = Some(option);
                 Ok(None)
             }
+            None => unknown(alloc, synopsis, word),
         }
     }
 
@@ -96,7 +117,7 @@ impl<'w> Walk<'w> {
         text: &'w str,
     ) -> Result<Option<String>, AllocError> {
         let name = option.name;
-        if self.given.iter().any(|given| *given == name) {
+        if self.given.contains(&name) {
             return said(alloc, format_args!("`--{name}` stands twice"));
         }
         self.given.push(name)?;
@@ -123,12 +144,11 @@ impl<'w> Walk<'w> {
                 format_args!("`{word}` stands behind `{first}`, and one of them is enough"),
             );
         }
-        if synopsis.operands.iter().any(|name| *name == word) {
+        if synopsis.operands.contains(&word) {
             self.operand = Some(word);
             return Ok(None);
         }
-        let names = listed(alloc, synopsis.operands)?;
-        said(alloc, format_args!("`{word}` is none of {names}"))
+        no_operand(alloc, synopsis.operands, word)
     }
 
     // What is lacking behind the last word.
@@ -141,7 +161,7 @@ impl<'w> Walk<'w> {
             return behind_nothing(alloc, option, None);
         }
         if self.operand.is_none() && !synopsis.operands.is_empty() {
-            let names = listed(alloc, synopsis.operands)?;
+            let names = synopsis.operands.join(alloc, ", ")?;
             return said(alloc, format_args!("one of {names} is lacking"));
         }
         Ok(None)
@@ -150,15 +170,29 @@ impl<'w> Walk<'w> {
 
 // Whether a word begins with a hyphen, and isn't one alone.
 fn begins_option(word: &str) -> bool {
-    matches!(word.as_bytes(), [b'-', _, ..])
+    word.starts_with('-') && word.len() > 1
+}
+
+// The option that a word names, and the text that stands behind a `=` in it.
+fn named_by<'w>(
+    synopsis: &Synopsis<'w>,
+    word: &'w str,
+) -> Option<(LongOption<'w>, Option<&'w str>)> {
+    let named = word.strip_prefix("--")?;
+    let (name, text) = match named.split_once('=') {
+        Some((name, text)) => (name, Some(text)),
+        None => (named, None),
+    };
+    Some((option_named(synopsis, name)?, text))
 }
 
 fn option_named<'w>(synopsis: &Synopsis<'w>, name: &str) -> Option<LongOption<'w>> {
-    synopsis
-        .options
-        .iter()
-        .find(|option| option.name == name)
-        .copied()
+    for option in synopsis.options {
+        if option.name == name {
+            return Some(*option);
+        }
+    }
+    None
 }
 
 fn unknown(
@@ -195,48 +229,60 @@ fn behind_nothing(
 
 // Why an option doesn't take a text.
 fn misfit(alloc: Global, option: LongOption<'_>, text: &str) -> Result<Option<String>, AllocError> {
-    let name = option.name;
+    if fits(option.kind, text) {
+        return Ok(None);
+    }
     match option.kind {
         ValueKind::AnyText => Ok(None),
-        ValueKind::Number(least, most) => {
-            if let Ok(number) = text.parse::<u32>()
-                && least <= number
-                && number <= most
-            {
-                return Ok(None);
-            }
-            said(
-                alloc,
-                format_args!("`{text}` isn't a number from {least} to {most}, behind `--{name}`"),
-            )
-        }
-        ValueKind::OneOf(names) => {
-            if names.iter().any(|known| *known == text) {
-                return Ok(None);
-            }
-            let names = listed(alloc, names)?;
-            said(
-                alloc,
-                format_args!("`{text}` is none of {names}, behind `--{name}`"),
-            )
-        }
+        ValueKind::Number(least, most) => no_number(alloc, option.name, least, most, text),
+        ValueKind::OneOf(names) => none_of(alloc, option.name, names, text),
     }
+}
+
+// Whether a text is of that kind.
+fn fits(kind: ValueKind<'_>, text: &str) -> bool {
+    match kind {
+        ValueKind::AnyText => true,
+        ValueKind::Number(least, most) => match text.parse::<u32>() {
+            Ok(number) => least <= number && number <= most,
+            Err(_) => false,
+        },
+        ValueKind::OneOf(names) => names.contains(&text),
+    }
+}
+
+fn no_number(
+    alloc: Global,
+    name: &str,
+    least: u32,
+    most: u32,
+    text: &str,
+) -> Result<Option<String>, AllocError> {
+    said(
+        alloc,
+        format_args!("`{text}` isn't a number from {least} to {most}, behind `--{name}`"),
+    )
+}
+
+fn none_of(
+    alloc: Global,
+    name: &str,
+    names: &[&str],
+    text: &str,
+) -> Result<Option<String>, AllocError> {
+    let names = names.join(alloc, ", ")?;
+    said(
+        alloc,
+        format_args!("`{text}` is none of {names}, behind `--{name}`"),
+    )
+}
+
+fn no_operand(alloc: Global, names: &[&str], word: &str) -> Result<Option<String>, AllocError> {
+    let names = names.join(alloc, ", ")?;
+    said(alloc, format_args!("`{word}` is none of {names}"))
 }
 
 // A sentence, as a text.
 fn said<S: Display + Drop>(alloc: Global, sentence: S) -> Result<Option<String>, AllocError> {
-    let text = format!(in alloc; "{sentence}")?;
-    Ok(Some(text))
-}
-
-// Names, with a comma between them.
-fn listed(alloc: Global, names: &[&str]) -> Result<String, AllocError> {
-    let mut list = String::new(alloc);
-    for (i, name) in names.iter().enumerate() {
-        if i > 0 {
-            list.push_str(", ")?;
-        }
-        list.push_str(name)?;
-    }
-    Ok(list)
+    Ok(Some(sentence.to_string(alloc)?))
 }

@@ -10,17 +10,28 @@ use lock_top::lockrun;
 use script_laws::scripts::scripts_have_proper_plans;
 use script_read::read_script;
 use std::alloc::{AllocError, Global};
+use std::str;
 use std::sync::Wait;
 use std::test::Fail;
 use std::thread::Threads;
 
+/// Fails where a row doesn't hold, and names it.
+pub(crate) fn check_row(row: &str, holds: bool) -> Result<(), Fail> {
+    if holds { Ok(()) } else { Err(Fail::new(row)) }
+}
+
 /// The words of a line.
 pub(crate) fn words_of(alloc: Global, line: &str) -> Result<Vec<String>, Fail> {
     let mut words = Vec::new(alloc);
+    push_words(&mut words, alloc, line)?;
+    Ok(words)
+}
+
+fn push_words(words: &mut Vec<String>, alloc: Global, line: &str) -> Result<(), AllocError> {
     for word in line.split_whitespace() {
         words.push(word.replace(alloc, "_", " ")?)?;
     }
-    Ok(words)
+    Ok(())
 }
 
 /// So many bytes `a`, and a script behind them.
@@ -104,6 +115,22 @@ pub(crate) fn call<R: Threads + Wait + Sync, G: Gate>(
     let (mut source, mut sink) = ends(alloc, bytes, source_fails, sink_fails)?;
     let status = lockrun(rt, alloc, &words, &mut source, &mut sink, gate);
     Ok((status, sink))
+}
+
+/// The status of a run with ample room, and its sink.
+pub(crate) fn run<R: Threads + Wait + Sync, G: Gate>(
+    rt: &R,
+    alloc: Global,
+    script: &str,
+    gate: &G,
+) -> Result<(Status, MemSink), Fail> {
+    let bytes = bytes_of(alloc, script, 0)?;
+    call(rt, alloc, "run", bytes, NEVER, NEVER, gate)
+}
+
+/// The text that a sink holds; where its bytes aren't UTF-8, one that nobody wants.
+pub(crate) fn text_in(sink: &MemSink) -> &str {
+    str::from_utf8(sink.bytes()).unwrap_or("no UTF-8")
 }
 
 /// One thread that takes a mutex, sets a key of it, and releases it.

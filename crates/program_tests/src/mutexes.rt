@@ -65,14 +65,20 @@ fn each_is_told<R: Wait>(rt: &R, floor: &Floor, first: &mut Pass, second: &mut P
 // which comes to it through medium alone: so both stand on a turnstile by then, and sleep until they are woken.
 #[test]
 fn who_waits_lends_and_is_woken(rt: HostRuntime) -> Result<(), Fail> {
-    let alloc = rt.alloc();
-    let (floor, _keeper, mut passes) = Floor::of_description(alloc, description(alloc)?)?;
     let seen = Seen::new();
-    work_all(&rt, &floor, passes.as_mut_slice(), &seen);
+    meet(&rt, rt.alloc(), &seen)?;
     assert!(rt; seen.low_gets_the_loan.load(Ordering::SeqCst));
     assert!(rt; seen.medium_gains_behind_low.load(Ordering::SeqCst));
     assert!(rt; seen.high_gains_behind_medium.load(Ordering::SeqCst));
     assert!(rt; seen.the_loan_goes_home.load(Ordering::SeqCst));
+    Ok(())
+}
+
+// Runs the three threads on a floor of their own.
+fn meet<R: Threads + Wait + Clock + Sync>(rt: &R, alloc: Global, seen: &Seen) -> Result<(), Fail> {
+    let description = description(alloc)?;
+    let (floor, _keeper, mut passes) = Floor::of_description(alloc, description)?;
+    work_all(rt, &floor, passes.as_mut_slice(), seen);
     Ok(())
 }
 

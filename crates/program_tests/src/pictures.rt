@@ -1,6 +1,6 @@
 //! Calls of `lockchart`: titles and windows as a user sees them, ends that fail, a source that is too big, words that
 //! are no form, and how what is written in each form begins and ends.
-use crate::fixtures::{Case, FIRST, NEVER, REVERSED, bytes_of, ends, words_of};
+use crate::fixtures::{Case, FIRST, NEVER, REVERSED, bytes_of, check_row, ends, words_of};
 use chart_command::Form;
 use chart_layout::Chart;
 use chart_top::{Drawn, Heading, Renderer, lockchart, lockchart_by};
@@ -78,7 +78,7 @@ const GIVEN: &[(&str, &str, &str)] = &[
 fn what_a_renderer_is_given(rt: HostRuntime) -> Result<(), Fail> {
     for &(line, script, text) in GIVEN {
         let case = (line, script, 0, NEVER, NEVER, Done, text);
-        assert!(rt; gives(rt.alloc(), &case)?, "{line}");
+        check_row(line, gives(rt.alloc(), &case)?)?;
     }
     Ok(())
 }
@@ -145,8 +145,7 @@ const CASES: &[Case] = &[
 #[test]
 fn ends_in_memory(rt: HostRuntime) -> Result<(), Fail> {
     for case in CASES {
-        let line = case.0;
-        assert!(rt; gives(rt.alloc(), case)?, "{line}");
+        check_row(case.0, gives(rt.alloc(), case)?)?;
     }
     Ok(())
 }
@@ -201,7 +200,7 @@ const WRITTEN: &[(&str, &str, &str, &str)] = &[
 #[test]
 fn forms(rt: HostRuntime) -> Result<(), Fail> {
     for &(line, script, begins, ends) in WRITTEN {
-        assert!(rt; is_drawn(rt.alloc(), line, script, begins, ends)?, "{line}");
+        check_row(line, is_drawn(rt.alloc(), line, script, begins, ends)?)?;
     }
     Ok(())
 }

@@ -1,8 +1,11 @@
 //! The rows of a worked script, with values worked out by hand.
+ghost use Rattle.lock_model.specs.Operations.{IsProper};
+
 use crate::fixtures::plan_of;
-use lock_model::{Prio, ThreadNo};
+use lock_model::{Plan, Prio, ThreadNo};
 use run_rows::rows_of;
 use run_tracks::{Rows, ThreadRows, TurnRow};
+use std::alloc::Global;
 use std::test::Fail;
 use step_world::{StepKind, Turn};
 
@@ -16,12 +19,24 @@ const PATHFINDER: &str = "lockrun 1;mutex bus k;\
 
 #[test]
 fn pathfinder(rt: HostRuntime) -> Result<(), Fail> {
-    let plan = plan_of(rt.alloc(), PATHFINDER)?;
-    let rows = rows_of(rt.alloc(), &plan, 16, 100)?;
-    assert!(rt; are_turns(rows.turns.as_slice()));
-    assert!(rt; are_threads(rows.threads.as_slice()));
-    assert!(rt; is_queued(&rows));
+    assert!(rt; is_worked(rt.alloc())?);
     Ok(())
+}
+
+fn is_worked(alloc: Global) -> Result<bool, Fail> {
+    let plan = plan_of(alloc, PATHFINDER)?;
+    has_rows(alloc, &plan)
+}
+
+fn has_rows(alloc: Global, plan: &Plan) -> Result<bool, Fail>
+    requires { IsProper plan.now }
+{
+    let rows = rows_of(alloc, plan, 16, 100)?;
+    Ok(are_rows(&rows))
+}
+
+fn are_rows(rows: &Rows) -> bool {
+    are_turns(rows.turns.as_slice()) && are_threads(rows.threads.as_slice()) && is_queued(rows)
 }
 
 // Each turn before high's first makes an entry. That one finds the bus held: it enters the queue, and makes none.

@@ -1,14 +1,16 @@
 //! Threads that sleep, under `run`: one that is woken goes on; and where each has ended or sleeps, those that sleep are
 //! halted, and the run is stuck. A gate holds one thread, where without it the order of the threads would be open.
-use crate::fixtures::{FIRST, NEVER, bytes_of, call, plan_of, push_form};
+ghost use Rattle.lock_model.specs.Operations.{IsProper};
+
+use crate::fixtures::{FIRST, check_row, plan_of, push_form, run, text_in};
 use crate::holding::Holding;
 use complaints::Status;
 use complaints::Status::{Done, Stuck};
 use floor_run::run_plan;
 use lock_history::Last;
 use lock_io::{Gate, OpenGate};
+use lock_model::Plan;
 use std::alloc::{AllocError, Global};
-use std::str;
 use std::sync::Wait;
 use std::test::Fail;
 use std::thread::Threads;
@@ -30,7 +32,7 @@ const UNWOKEN: &str = "0 t signal c -\n1 t lock m\n2 t wait c\n3 t halted c\n4 t
 #[test]
 fn a_thread_alone_is_halted(rt: HostRuntime) -> Result<(), Fail> {
     for &(script, text) in &[(NOBODY_SIGNALS, HALTED), (ITS_OWN_SIGNAL, UNWOKEN)] {
-        assert!(rt; is_stuck_so(&rt, rt.alloc(), script, text)?, "{script}");
+        check_row(script, is_stuck_so(&rt, rt.alloc(), script, text)?)?;
     }
     Ok(())
 }
@@ -41,8 +43,8 @@ fn is_stuck_so<R: Threads + Wait + Sync>(
     script: &str,
     wanted: &str,
 ) -> Result<bool, Fail> {
-    let (status, text) = run(rt, alloc, script, &OpenGate)?;
-    Ok(status == Stuck && status as u8 == 5 && text.as_str() == wanted)
+    let (status, sink) = run(rt, alloc, script, &OpenGate)?;
+    Ok(status == Stuck && status as u8 == 5 && text_in(&sink) == wanted)
 }
 
 // What is left of a floor tells that the halt word was set, and is the one that the run made.
@@ -62,7 +64,17 @@ fn ending<R: Threads + Wait + Sync>(
     script: &str,
 ) -> Result<(Last, bool), Fail> {
     let plan = plan_of(alloc, script)?;
-    let (outcome, closing) = run_plan(rt, alloc, &plan, 1, &OpenGate)?;
+    ending_of(rt, alloc, &plan)
+}
+
+fn ending_of<R: Threads + Wait + Sync>(
+    rt: &R,
+    alloc: Global,
+    plan: &Plan,
+) -> Result<(Last, bool), Fail>
+    requires { IsProper plan.now }
+{
+    let (outcome, closing) = run_plan(rt, alloc, plan, 1, &OpenGate)?;
     Ok((outcome.last, closing.halted()))
 }
 
@@ -78,15 +90,22 @@ const A_HALTED: &str = "xlock s,lock m,wait c,halted c,unlock m,xunlock s,";
 fn stuck_in_every_order(rt: HostRuntime) -> Result<(), Fail> {
     // b begins once a has come to its wait; a begins once b has come to its release
     for &(held, until, of_b) in &[(1, 2, "halted s,"), (0, 1, "xlock s,xunlock s,")] {
-        let gate = Holding::new(held, 1, until);
-        let wanted = [("a", A_HALTED), ("b", of_b)];
-        assert!(rt;
-            is_stuck(&rt, rt.alloc(), TWO_QUEUES, &gate, &wanted)?,
-            "{of_b}"
-        );
-        assert!(rt; !gate.missed(), "{of_b}");
+        check_row(of_b, is_stuck_behind(&rt, rt.alloc(), held, until, of_b)?)?;
     }
     Ok(())
+}
+
+// Whether a run gets stuck where one thread begins once the other has come so far, and b says that.
+fn is_stuck_behind<R: Threads + Wait + Sync>(
+    rt: &R,
+    alloc: Global,
+    held: u8,
+    until: u32,
+    of_b: &str,
+) -> Result<bool, Fail> {
+    let gate = Holding::new(held, 1, until);
+    let wanted = [("a", A_HALTED), ("b", of_b)];
+    Ok(is_stuck(rt, alloc, TWO_QUEUES, &gate, &wanted)? && !gate.missed())
 }
 
 #[test]
@@ -106,8 +125,9 @@ fn is_stuck<R: Threads + Wait + Sync, G: Gate>(
     gate: &G,
     threads: &[(&str, &str)],
 ) -> Result<bool, Fail> {
-    let (status, text) = run(rt, alloc, script, gate)?;
-    Ok(status == Stuck && ends_with(&text, "stuck") && all_say(&text, threads))
+    let (status, sink) = run(rt, alloc, script, gate)?;
+    let text = text_in(&sink);
+    Ok(status == Stuck && ends_with(text, "stuck") && all_say(text, threads))
 }
 
 fn ends_with(text: &str, last: &str) -> bool {
@@ -126,12 +146,22 @@ fn all_say(text: &str, threads: &[(&str, &str)]) -> bool {
 // The script of so many threads that wait, and of one more behind them that wakes so often.
 fn waiting(alloc: Global, count: u32, wakes: u32, wake: &str) -> Result<String, AllocError> {
     let mut script = String::new(alloc);
-    push_waiting(alloc, &mut script, count)?;
-    if wakes > 0 {
-        push_waker(&mut script, wakes, wake)?;
-    }
-    script.push_str("done;")?;
+    push_threads(alloc, &mut script, count, wakes, wake)?;
     Ok(script)
+}
+
+fn push_threads(
+    alloc: Global,
+    script: &mut String,
+    count: u32,
+    wakes: u32,
+    wake: &str,
+) -> Result<(), AllocError> {
+    push_waiting(alloc, script, count)?;
+    if wakes > 0 {
+        push_waker(script, wakes, wake)?;
+    }
+    script.push_str("done;")
 }
 
 fn push_waiting(alloc: Global, script: &mut String, count: u32) -> Result<(), AllocError> {
@@ -155,8 +185,8 @@ fn push_waker(script: &mut String, wakes: u32, wake: &str) -> Result<(), AllocEr
 #[test]
 fn all_are_halted(rt: HostRuntime) -> Result<(), Fail> {
     let script = waiting(rt.alloc(), 32, 0, "")?;
-    let (status, text) = run(&rt, rt.alloc(), &script, &OpenGate)?;
-    assert!(rt; is_halted(rt.alloc(), status, &text)?);
+    let (status, sink) = run(&rt, rt.alloc(), &script, &OpenGate)?;
+    assert!(rt; is_halted(rt.alloc(), status, text_in(&sink))?);
     Ok(())
 }
 
@@ -172,11 +202,8 @@ fn is_halted(alloc: Global, status: Status, text: &str) -> Result<bool, AllocErr
 fn one_wakes_all_others(rt: HostRuntime) -> Result<(), Fail> {
     for &(wakes, wake) in &[(1, "broadcast c;"), (31, "signal c;")] {
         let gate = Holding::new(31, 31, 1);
-        assert!(rt;
-            all_are_woken(&rt, rt.alloc(), wakes, wake, &gate)?,
-            "{wake}"
-        );
-        assert!(rt; !gate.missed(), "{wake}");
+        let woken = all_are_woken(&rt, rt.alloc(), wakes, wake, &gate)?;
+        assert!(rt; woken && !gate.missed(), "{wake}");
     }
     Ok(())
 }
@@ -189,9 +216,13 @@ fn all_are_woken<R: Threads + Wait + Sync>(
     gate: &Holding,
 ) -> Result<bool, Fail> {
     let script = waiting(alloc, 31, wakes, wake)?;
-    let (status, text) = run(rt, alloc, &script, gate)?;
-    let each = each_says(alloc, &text, 31, "lock m,wait c,woke c,unlock m,")?;
-    Ok(status == Done && ends_with(&text, "ok") && each)
+    let (status, sink) = run(rt, alloc, &script, gate)?;
+    are_woken(alloc, status, text_in(&sink))
+}
+
+fn are_woken(alloc: Global, status: Status, text: &str) -> Result<bool, Fail> {
+    let each = each_says(alloc, text, 31, "lock m,wait c,woke c,unlock m,")?;
+    Ok(status == Done && ends_with(text, "ok") && each)
 }
 
 // Whether so many threads, t0 and so on, say that.
@@ -241,23 +272,10 @@ const CONSUMED: &str = "0 consumer xlock s\n1 consumer msleep items\n2 producer 
 #[test]
 fn a_producer_wakes_a_consumer(rt: HostRuntime) -> Result<(), Fail> {
     let gate = Holding::new(1, 1, 1);
-    let (status, text) = run(&rt, rt.alloc(), PRODUCER, &gate)?;
-    assert!(rt; status == Done && text.as_str() == CONSUMED);
+    let (status, sink) = run(&rt, rt.alloc(), PRODUCER, &gate)?;
+    assert!(rt; status == Done && text_in(&sink) == CONSUMED);
     assert!(rt; !gate.missed());
     Ok(())
-}
-
-// The status and the text of a run.
-fn run<R: Threads + Wait + Sync, G: Gate>(
-    rt: &R,
-    alloc: Global,
-    script: &str,
-    gate: &G,
-) -> Result<(Status, String), Fail> {
-    let bytes = bytes_of(alloc, script, 0)?;
-    let (status, sink) = call(rt, alloc, "run", bytes, NEVER, NEVER, gate)?;
-    let text = String::from_str(alloc, str::from_utf8(sink.bytes())?)?;
-    Ok((status, text))
 }
 
 // Whether that is what a thread's entries say, in their order, a comma behind each.

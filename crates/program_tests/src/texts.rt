@@ -1,11 +1,12 @@
 //! Calls of `lockrun`: what no file of `example_rows` can say. Ends that fail, a source that is too big, words that are
 //! no form, for which nothing is read, and threads that meet at a gate. And a thread that runs and is refused a take.
-use crate::fixtures::{Case, FIRST, MEETINGS, NEVER, bytes_of, call, push_form};
+use crate::fixtures::{
+    Case, FIRST, MEETINGS, NEVER, bytes_of, call, check_row, push_form, run, text_in,
+};
 use complaints::Status;
 use complaints::Status::{BadScript, Done, ReadFault, Reversed, TooBig, Usage, WriteFault};
-use lock_io::{Gate, Meeting, MemSink, OpenGate};
+use lock_io::{Meeting, OpenGate};
 use std::alloc::{AllocError, Global};
-use std::str;
 use std::sync::Wait;
 use std::test::Fail;
 use std::thread::Threads;
@@ -67,8 +68,7 @@ const CASES: &[Case] = &[
 #[test]
 fn ends_in_memory(rt: HostRuntime) -> Result<(), Fail> {
     for case in CASES {
-        let line = case.0;
-        assert!(rt; ends_so(&rt, rt.alloc(), case)?, "{line}");
+        check_row(case.0, ends_so(&rt, rt.alloc(), case)?)?;
     }
     Ok(())
 }
@@ -86,11 +86,11 @@ fn ends_so<R: Threads + Wait + Sync>(rt: &R, alloc: Global, case: &Case) -> Resu
 fn threads_meet(rt: HostRuntime) -> Result<(), Fail> {
     for &(script, first, second, begins) in MEETINGS {
         let gate = Meeting::new(first, second);
+        let begun = begins_so(&rt, rt.alloc(), script, &gate, begins)?;
         assert!(rt;
-            begins_so(&rt, rt.alloc(), script, &gate, begins)?,
+            begun && !gate.missed() && gate.came() == (2, 2),
             "{begins}"
         );
-        assert!(rt; !gate.missed() && gate.came() == (2, 2), "{begins}");
     }
     Ok(())
 }
@@ -105,17 +105,6 @@ fn begins_so<R: Threads + Wait + Sync>(
 ) -> Result<bool, Fail> {
     let (status, sink) = run(rt, alloc, script, gate)?;
     Ok(status == Done && sink.bytes().starts_with(begins.as_bytes()))
-}
-
-// The status of a run, and its sink.
-fn run<R: Threads + Wait + Sync, G: Gate>(
-    rt: &R,
-    alloc: Global,
-    script: &str,
-    gate: &G,
-) -> Result<(Status, MemSink), Fail> {
-    let bytes = bytes_of(alloc, script, 0)?;
-    call(rt, alloc, "run", bytes, NEVER, NEVER, gate)
 }
 
 // A thread takes a and then b, gives both back, and then takes b: an order is known though nobody holds its locks. So
@@ -203,12 +192,11 @@ fn dine<R: Threads + Wait + Sync>(
     } else {
         (Reversed, "reversed")
     };
-    Ok(status == end && is_eaten(sink.bytes(), count, refused, last))
+    Ok(status == end && is_eaten(text_in(&sink), count, refused, last))
 }
 
 // Whether so many of all philosophers were refused, and the others ate.
-fn is_eaten(bytes: &[u8], count: u32, refused: u32, last: &str) -> bool {
-    let text = str::from_utf8(bytes).unwrap_or("");
+fn is_eaten(text: &str, count: u32, refused: u32, last: &str) -> bool {
     let (mut refusals, mut meals): (u32, u32) = (0, 0);
     for line in text.lines() {
         if line.contains(" reversed ") {

@@ -1,10 +1,13 @@
 //! Runs of plans on threads of the system: that these run beside each other, one for each thread of the plan, and ask
 //! the gate.
+ghost use Rattle.lock_model.specs.Operations.{IsProper};
+
 use crate::barrier::Barrier;
 use crate::fixtures::{MEETINGS, plan_of, push_form};
 use floor_run::run_plan;
-use lock_history::print;
+use lock_history::{Outcome, print};
 use lock_io::{Gate, Meeting};
+use lock_model::Plan;
 use std::alloc::{AllocError, Global};
 use std::sync::Wait;
 use std::test::Fail;
@@ -14,11 +17,11 @@ use std::thread::Threads;
 fn two_threads_meet(rt: HostRuntime) -> Result<(), Fail> {
     for &(script, first, second, begins) in MEETINGS {
         let gate = Meeting::new(first, second);
+        let begun = begins_so(&rt, rt.alloc(), script, &gate, begins)?;
         assert!(rt;
-            begins_so(&rt, rt.alloc(), script, &gate, begins)?,
+            begun && !gate.missed() && gate.came() == (2, 2),
             "{begins}"
         );
-        assert!(rt; !gate.missed() && gate.came() == (2, 2), "{begins}");
     }
     Ok(())
 }
@@ -89,7 +92,33 @@ fn run<R: Threads + Wait + Sync, G: Gate>(
     gate: &G,
 ) -> Result<(u32, Vec<u8>), Fail> {
     let plan = plan_of(alloc, script)?;
-    let (outcome, _closing) = run_plan(rt, alloc, &plan, 1, gate)?;
-    let text = print(alloc, &plan, &outcome)?;
-    Ok((outcome.history.len(), text))
+    run_of(rt, alloc, &plan, gate)
+}
+
+fn run_of<R: Threads + Wait + Sync, G: Gate>(
+    rt: &R,
+    alloc: Global,
+    plan: &Plan,
+    gate: &G,
+) -> Result<(u32, Vec<u8>), Fail>
+    requires { IsProper plan.now }
+{
+    let outcome = outcome_of(rt, alloc, plan, gate)?;
+    told(alloc, plan, &outcome)
+}
+
+fn told(alloc: Global, plan: &Plan, outcome: &Outcome) -> Result<(u32, Vec<u8>), Fail> {
+    Ok((outcome.history.len(), print(alloc, plan, outcome)?))
+}
+
+fn outcome_of<R: Threads + Wait + Sync, G: Gate>(
+    rt: &R,
+    alloc: Global,
+    plan: &Plan,
+    gate: &G,
+) -> Result<Outcome, AllocError>
+    requires { IsProper plan.now }
+{
+    let (outcome, _closing) = run_plan(rt, alloc, plan, 1, gate)?;
+    Ok(outcome)
 }

@@ -1,6 +1,8 @@
 //! What each turn of a scheduled run answers, turn after turn, in orders that no schedule asks for.
-use crate::fixtures::{REVERSED, plan_of};
-use lock_model::{StepKind, ThreadNo, Turn};
+ghost use Rattle.lock_model.specs.Operations.{IsProper};
+
+use crate::fixtures::{REVERSED, check_row, plan_of};
+use lock_model::{Plan, StepKind, ThreadNo, Turn};
 use std::alloc::Global;
 use std::test::Fail;
 use step_world::World;
@@ -134,7 +136,7 @@ const TURNS: &[Answers] = &[
 #[test]
 fn turns_and_their_answers(rt: HostRuntime) -> Result<(), Fail> {
     for &(script, turns) in TURNS {
-        assert!(rt; runs_so(rt.alloc(), script, turns)?, "{script}");
+        check_row(script, runs_so(rt.alloc(), script, turns)?)?;
     }
     Ok(())
 }
@@ -142,7 +144,13 @@ fn turns_and_their_answers(rt: HostRuntime) -> Result<(), Fail> {
 // Whether the turns of a script's run have those answers.
 fn runs_so(alloc: Global, script: &str, turns: &[(u8, Turn)]) -> Result<bool, Fail> {
     let plan = plan_of(alloc, script)?;
-    let mut world = World::make(alloc, &plan, 16)?;
+    plan_runs_so(alloc, &plan, turns)
+}
+
+fn plan_runs_so(alloc: Global, plan: &Plan, turns: &[(u8, Turn)]) -> Result<bool, Fail>
+    requires { IsProper plan.now }
+{
+    let mut world = World::make(alloc, plan, 16)?;
     Ok(answers_so(&mut world, turns))
 }
 

@@ -28,17 +28,26 @@ pub fn remarks(
 ) -> Result<Vec<u8>, AllocError>
     ensures { IfOk result (λ said. AreRemarks 8 said.items) }
 {
-    let lines = match status {
-        Status::BadScript => of_fault(alloc, source, text)?,
-        Status::Stuck => of_stuck(alloc, source, text)?,
-        Status::Reversed => of_refusal(alloc, source, text)?,
+    let lines = lines_of(alloc, status, source, text)?;
+    shaped(alloc, &lines)
+}
+
+fn lines_of(
+    alloc: Global,
+    status: Status,
+    source: &[u8],
+    text: &[u8],
+) -> Result<Vec<String>, AllocError> {
+    match status {
+        Status::BadScript => of_fault(alloc, source, text),
+        Status::Stuck => of_stuck(alloc, source, text),
+        Status::Reversed => of_refusal(alloc, source, text),
         Status::Done
         | Status::ReadFault
         | Status::WriteFault
         | Status::NoMemory
         | Status::TooLong
         | Status::TooBig
-        | Status::Usage => Vec::new(alloc),
-    };
-    shaped(alloc, &lines)
+        | Status::Usage => Ok(Vec::new(alloc)),
+    }
 }

@@ -76,11 +76,32 @@ fn usage_lines(
     ensures { IfOk result (λ said. AreRemarks 8 said.items) }
 {
     let mut lines = Vec::new(alloc);
+    push_usage(alloc, &mut lines, mistake, help)?;
+    shaped(alloc, &lines)
+}
+
+fn push_usage(
+    alloc: Global,
+    lines: &mut Vec<String>,
+    mistake: Result<Option<String>, AllocError>,
+    help: &[&str],
+) -> Result<(), AllocError> {
     if let Some(mistake) = mistake? {
-        lines.push(format!(in alloc; "    {mistake}")?)?;
+        push_line(alloc, lines, "    ", mistake.as_str())?;
     }
     for line in help {
-        lines.push(format!(in alloc; "      {line}")?)?;
+        push_line(alloc, lines, "      ", line)?;
     }
-    shaped(alloc, &lines)
+    Ok(())
+}
+
+// A line more: a text behind blanks.
+fn push_line(
+    alloc: Global,
+    lines: &mut Vec<String>,
+    blanks: &str,
+    text: &str,
+) -> Result<(), AllocError> {
+    lines.push(format!(in alloc; "{blanks}{text}")?)?;
+    Ok(())
 }

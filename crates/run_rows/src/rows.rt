@@ -4,7 +4,9 @@ ghost use Rattle.lock_model.specs.Operations.{IsProper};
 ghost use Rattle.lock_model.specs.declared.event.Entry as entries;
 ghost use Rattle.lock_model.specs.declared.plan.Plan as plans;
 ghost use Rattle.run_rows.specs.Making.{IsAt, GoesOn, HasMade};
+ghost use Rattle.lock_state.specs.Run.{start_course};
 ghost use Rattle.run_tracks.specs.Rows.{TellsRun, newest};
+ghost use Rattle.step_world.specs.Courses.{IsCourse};
 
 use crate::columns::Columns;
 use lock_model::{Entry, Plan, Sequence, Turn};
@@ -29,8 +31,7 @@ pub fn rows_of(alloc: Global, plan: &Plan, chains: u32, turns: u32) -> Result<Ro
     ensures { IfOk result (TellsRun plan.now chains turns) }
 {
     let mut course = Course::make(alloc, plan, chains)?;
-    let mut columns = Columns::begin(alloc, course.world())?;
-    let made = make_turns(alloc, &mut course, &mut columns, turns)?;
+    let (made, columns) = make_run(alloc, &mut course, turns)?;
     Ok(Rows {
         turns: Sequence::from_vec(made),
         threads: Sequence::from_vec(columns.threads),
@@ -40,7 +41,23 @@ pub fn rows_of(alloc: Global, plan: &Plan, chains: u32, turns: u32) -> Result<Ro
     })
 }
 
-// So many turns, or fewer where the run comes to its end before, and what they changed.
+// The turns of a run from its begin, and what they changed.
+fn make_run(
+    alloc: Global,
+    course: &mut Course<'_>,
+    turns: u32,
+) -> Result<(Vec<TurnRow>, Columns), AllocError>
+    requires begins { IsCourse course.old (start_course course.old.world.plan) }
+    requires few { turns ≤ 1000000 }
+    ensures { IfOk result (λ made. HasMade course.old.world.plan course.old.world.chains turns
+        made.0.items course.new made.1) }
+{
+    let mut columns = Columns::begin(alloc, course.world())?;
+    let made = make_turns(alloc, course, &mut columns, turns)?;
+    Ok((made, columns))
+}
+
+// So many turns, or fewer where the run comes to its end before.
 fn make_turns(
     alloc: Global,
     course: &mut Course<'_>,

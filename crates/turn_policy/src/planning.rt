@@ -49,11 +49,29 @@ pub fn schedule_by(alloc: Global, plan: &Plan, policy: Policy) -> Result<Vec<Thr
 {
     let mut world = World::make(alloc, plan, DEFAULT_CHAINS)?;
     make_turns(&mut world, plan.schedule.as_slice());
+    turns_behind(alloc, &mut world, plan, policy)
+}
+
+// The turns of the plan's schedule, which the world has made, and behind them those that the policy chooses.
+fn turns_behind(
+    alloc: Global,
+    world: &mut World<'_>,
+    plan: &Plan,
+    policy: Policy,
+) -> Result<Vec<ThreadNo>, Unplanned>
+    requires proper { IsProper plan.now }
+    requires plan { world.old.plan ≡ plan.now }
+    requires made { Represents world.old (run_by plan.now plan.now.schedule) }
+    ensures planned { IfOk result (λ ts. IsPlanned policy plan.now ts.items) }
+    ensures threads { IfOk result (λ ts. All (λ t. t.0 < length plan.now.threads) ts.items) }
+    ensures few { IfOk result (λ ts. length ts.items ≤ most_scheduled) }
+    ensures too_long { result ≡ Err Unplanned.TooLong → IsTooLong policy plan.now }
+{
     let mut turns = Vec::from_slice(alloc, plan.schedule.as_slice())?;
     let mut candidates = Vec::with_capacity(alloc, plan.threads.as_slice().len())?;
     let mut random = SplitMix64::seed_from_u64(u64::from(seed_of(policy)));
     while let Some(t) = choose(
-        &world,
+        world,
         policy,
         turns.last().copied(),
         &mut random,

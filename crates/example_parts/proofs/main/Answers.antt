@@ -1,16 +1,14 @@
-use Rattle.std.proofs.Common.{sym, subst, arith}
-use Rattle.example_parts.specs.Threads.{IsBeginning}
+use Rattle.std.proofs.Common.{◌<◌, length, ap, sym, subst, ◌∙◌, arith}
+use Rattle.lock_floor.specs.Passes.{first_pass}
+use Rattle.example_parts.specs.Threads.{IsBeginning, IsForTwo}
 use Rattle.example_parts.proofs.Parts.{new_begins}
 use Rattle.example_parts.proofs.main.Goals as goal
 
-pub run-requires-clause-first : goal.run-requires-clause-first
-run-requires-clause-first c =
+pub run_both-requires-clause-begin : goal.run_both-requires-clause-begin
+run_both-requires-clause-begin c t d lt =
     let f = c.in_ok-floor.floor in
-    c.start-first.ensures f
-    (subst (IsBeginning f) (sym c.in_ok-floor.ensures.first) (new_begins f c.in_ok-floor.ensures.made 0 (omega arith)))
-
-pub run-requires-clause-second : goal.run-requires-clause-second
-run-requires-clause-second c =
-    let f = c.in_ok-floor.floor in
-    c.start-second.ensures f
-    (subst (IsBeginning f) (sym c.in_ok-floor.ensures.second) (new_begins f c.in_ok-floor.ensures.made 1 (omega arith)))
+    let made = c.in_ok-floor.ensures in
+    let two = c.in_ok-description.ensures in
+    let within : t < length c.in_ok-description.field-0.threads = omega (arith, lt, two.threads) in
+    let first = made.passes t d within ∙ ap (λ e. first_pass f.table e t) (sym made.description) in
+    subst (IsBeginning f) (sym first) (new_begins f (subst IsForTwo (sym made.description) two) t lt)

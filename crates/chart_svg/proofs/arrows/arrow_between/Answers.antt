@@ -1,8 +1,9 @@
-use Rattle.std.proofs.Common.{◌≡◌}
+use Rattle.std.proofs.Common.{◌≡◌, ◌++◌, [], ap}
 use Rattle.chart_svg.proofs.Places.{in_lane}
-use Rattle.chart_svg.proofs.Standing.{last, left, within}
+use Rattle.chart_svg.proofs.Standing.{begins}
 use Rattle.chart_svg.specs.Drawn.{head_figure}
 use Rattle.chart_svg.specs.Lanes.{scale_of}
+use Rattle.chart_svg.specs.Shapes.{shapes_bytes, shapes_in}
 use Rattle.chart_svg.proofs.arrows.arrow_between.Goals as goal
 
 pub begin_of-begin-requires : goal.begin_of-begin-requires
@@ -16,6 +17,7 @@ returns c =
     let page = c.args.page.now in
     let arrow = c.args.arrow in
     let out = c.requires.out in
+    let words = shapes_bytes (shapes_in c.in_ok-words.words) in
     let figured : c.figure_of.result ≡ head_figure (scale_of page) arrow =
     rw (c.requires.ends, c.requires.begins) c.figure_of.ensures in
     record {
@@ -23,7 +25,6 @@ returns c =
       tip = c.tip_of-tip.result.0;
       begins = in_lane page out arrow.from.0 _ _ c.requires.begins c.begin_of-begin.ensures;
       ends = in_lane page out arrow.to.0 _ _ c.requires.ends c.tip_of-tip.ensures;
-      line = last _ _ _ _ c.in_ok-push.ensures.items c.line_of.ensures;
-      head = within _ _ _ (left _ _ _ c.in_ok-append.ensures.items)
-          (last _ _ _ _ c.in_ok-push-2.ensures.items (rw figured at c.in_ok-head_of.ensures));
+      line = begins _ _ [] (ap (λ p. p ++ []) c.line_of.ensures);
+      head = begins _ _ words (ap (λ p. p ++ words) (rw figured at c.in_ok-head.ensures));
     }

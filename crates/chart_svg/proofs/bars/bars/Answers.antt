@@ -5,7 +5,7 @@ use Rattle.chart_svg.proofs.bars.bars.Goals as goal
 
 pub loop-lane-preserved : goal.loop-lane-preserved
 loop-lane-preserved c = more_drawn (BarsAreDrawn c.args.page.now) (bars_kept c.args.page.now) _ _ _
-    c.in_ok-append.ensures.items _ _ _ _ c.loop-lane-test.true c.lane-item.is c.loop-lane.invariant
+    c.in_ok-add_all.ensures _ _ _ _ c.loop-lane-test.true c.lane-item.is c.loop-lane.invariant
     c.in_ok-bars_of.ensures
 
 pub returns : goal.returns

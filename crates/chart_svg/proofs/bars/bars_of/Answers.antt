@@ -6,7 +6,7 @@ use Rattle.chart_svg.proofs.bars.bars_of.Goals as goal
 
 pub loop-bar-preserved : goal.loop-bar-preserved
 loop-bar-preserved c = more_drawn (BarIsOn c.args.page.now c.args.lane.now) (λ old new at keeps. within _ _ _ keeps)
-    _ _ _ c.in_ok-append.ensures.items _ _ _ _ c.loop-bar-test.true refl c.loop-bar.invariant
+    _ _ _ c.in_ok-add_all.ensures _ _ _ _ c.loop-bar-test.true refl c.loop-bar.invariant
     (rw c.bar_place-top.ensures at c.in_ok-one_bar.ensures)
 
 pub returns : goal.returns

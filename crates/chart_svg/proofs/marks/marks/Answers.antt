@@ -6,7 +6,7 @@ use Rattle.chart_svg.proofs.marks.marks.Goals as goal
 
 pub loop-mark-preserved : goal.loop-mark-preserved
 loop-mark-preserved c = more_drawn (MarkIsOn c.args.page.now) (mark_kept c.args.page.now) _ _ _
-    c.in_ok-append.ensures.items _ _ _ _ c.loop-mark-test.true refl c.loop-mark.invariant c.in_ok-one_mark.ensures
+    c.in_ok-add_all.ensures _ _ _ _ c.loop-mark-test.true refl c.loop-mark.invariant c.in_ok-one_mark.ensures
 
 pub returns : goal.returns
 returns c = all_drawn (MarkIsOn c.args.page.now (shapes_bytes c.loop-mark.shapes.items)) _ _ _ c.loop-mark-test.false

@@ -12,7 +12,7 @@ returns c = λ has.
       y = _;
       in_lane = in_lane c.args.page.now c.requires c.args.mark.thread.0 _ _ c.in-Some.ensures
           (omega (arith, fit.begins, fit.begin_fits), omega (arith, fit.has_room));
-      stands = within _ _ _ (left _ _ _ c.in_ok-append.ensures.items) (last _ _ _ _ c.in_ok-push.ensures.items
+      stands = within _ _ _ (left _ _ _ c.in_ok-add_some.ensures) (last _ _ _ _ c.in_ok-add.ensures
           (c.in_ok-shape_of.ensures ∙ ap (λ x. written x c.marks.result.0) c.turn_at-x.ensures
           ∙ ap (written _) c.marks.ensures));
     }

@@ -8,7 +8,7 @@ pub loop-step-preserved : goal.loop-step-preserved
 loop-step-preserved c =
     let strip = c.args.strip.0 in
     more_drawn (λ picture. IsLentAt c.args.page.now picture strip) (loan_kept c.args.page.now strip) _ _ _
-    c.in_ok-append.ensures.items _ _ _ _ c.loop-step-test.true refl c.loop-step.invariant c.in_ok-one_loan.ensures
+    c.in_ok-add_all.ensures _ _ _ _ c.loop-step-test.true refl c.loop-step.invariant c.in_ok-one_loan.ensures
 
 pub returns : goal.returns
 returns c = all_drawn (IsLentAt c.args.page.now (shapes_bytes c.loop-step.shapes.items) c.args.strip.0) _ _ _

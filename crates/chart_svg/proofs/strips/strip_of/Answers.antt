@@ -10,5 +10,5 @@ returns c = λ y is.
     let strip = c.in-Some.strip in
     let same = same_Some y strip (sym is ∙ c.in-Some.is) in
     rw same (all_still (λ drawn. IsLentAt page drawn strip.0) (loan_kept page strip.0) _ _ c.args.lane.now.steps.items
-    (within _ _ _ (left _ _ _ c.in_ok-append-2.ensures.items) (right _ _ _ c.in_ok-append.ensures.items))
+    (within _ _ _ (left _ _ _ c.in_ok-add_some.ensures) (right _ _ _ c.in_ok-add_all.ensures))
     c.in_ok-loans.ensures)

@@ -6,6 +6,13 @@ use Rattle.complaints.specs.declared.status.Status.TheVariants as status
 use Rattle.remarks.proofs.Shapes.{none}
 use Rattle.remarks.proofs.saying.tell_usage.Goals as goal
 
+pub returns-in_err-say-clause-front : goal.returns-in_err-say-clause-front
+returns-in_err-say-clause-front g c = (
+  [],
+  none,
+  within _ _ (complaint_of c.args.program status.Usage []) [] c.in_err-say.ensures.front,
+)
+
 pub returns-in-Ok-clause-front : goal.returns-in-Ok-clause-front
 returns-in-Ok-clause-front g c = (
   c.in-Ok.more.items,

@@ -8,7 +8,7 @@ use Rattle.chart_html.proofs.data.LockDeclListed.push.Goals as goal
 pub returns : goal.returns
 returns c =
     let its = c.args.self.now in
-    rw (c.in_ok-extend_from_slice.ensures.items, c.in_ok-push_items.ensures, c.in_ok-push_tokens.ensures) (
+    rw (c.in_ok-push_words.ensures, c.in_ok-push_items.ensures, c.in_ok-push_tokens.ensures) (
     rw (c.track_of.ensures, c.kind_word.ensures, c.as_bytes.ensures.value)
     (joined c.args.out.now.items
     (codes "{\"name\":" ∷ json_string its.name ∷ codes ",\"kind\":" ∷ json_string (kind_word its.kind) ∷ [])

@@ -11,7 +11,7 @@ pub returns : goal.returns
 returns c =
     let line = c.args.self.now in
     let plan = c.args.known.now.plan.now in
-    rw (c.in_ok-extend_from_slice.ensures.items, c.in_ok-push_items-3.ensures, c.in_ok-push_items-2.ensures) (
+    rw (c.in_ok-push_words.ensures, c.in_ok-push_items-3.ensures, c.in_ok-push_items-2.ensures) (
     rw (c.in_ok-push_items.ensures, c.in_ok-push_tokens.ensures, c.as_slice.ensures, c.as_slice-2.ensures) (
     rw (c.as_slice-3.ensures, c.queue_name.ensures, c.thread_name.ensures, c.from.ensures)
     (joined c.args.out.now.items

@@ -16,16 +16,16 @@ pub loop-t-preserved : goal.loop-t-preserved
 loop-t-preserved c =
     let old = c.loop-t.self in
     let lane = c.in_ok-lane.lane in
-    let put : Page → Page = λ p. record p { lanes = c.push.new.self; bottom = lane.bottom } in
+    let put : Page → Page = λ p. record p { lanes = c.add_lane.new.lanes; bottom = lane.bottom } in
     record {
       same = ap put c.loop-t.invariant.same;
       long = omega (
         arith,
-        ap length c.in_ok-push.ensures.items,
+        ap length c.in_ok-add_lane.ensures,
         length-append old.lanes.items (lane ∷ []),
         c.loop-t.invariant.long,
       );
-      laid_out = laid_more old lane c.push.new.self c.in_ok-push.ensures.items c.in_ok-lane.ensures.top
+      laid_out = laid_more old lane c.add_lane.new.lanes c.in_ok-add_lane.ensures c.in_ok-lane.ensures.top
           (subst (λ n. IsLane old n lane) (sym c.loop-t.invariant.long) c.in_ok-lane.ensures.lane)
           c.loop-t.invariant.laid_out;
     }

@@ -2,7 +2,7 @@ use Rattle.std.proofs.Common.{◌≤◌, ◌-◌, length}
 use Rattle.std.specs.Vec.{vec_capacity}
 use Rattle.lock_model.specs.Limits.{most_scheduled}
 use Rattle.turn_policy.proofs.Turns.{IsUnderWay}
-use Rattle.turn_policy.proofs.planning.schedule_by.Given as goal
+use Rattle.turn_policy.proofs.planning.turns_behind.Given as goal
 
 -- the schedule has come so far
 abbrev pub invariant-loop-t : goal.invariant-loop-t

@@ -4,15 +4,15 @@ use Rattle.lock_floor.specs.Floors.{Pass}
 use Rattle.floor_table.specs.Views.{Knowledge}
 use Rattle.floor_table.specs.Descriptions.{room_for}
 use Rattle.lock_calls.proofs.First.{ready_first}
-use Rattle.program_tests.proofs.mutexes.who_waits_lends_and_is_woken.Goals as goal
+use Rattle.program_tests.proofs.mutexes.meet.Goals as goal
 
 pub work_all-requires-clause-each : goal.work_all-requires-clause-each
-work_all-requires-clause-each g c κs t d lt =
+work_all-requires-clause-each g c κs outlives t d lt =
     let floor = c.in_ok-floor.floor in
     let made = c.in_ok-floor.ensures in
     let plan = c.in_ok-description.ensures in
     let value = c.as_mut_slice.ensures.value in
-    let within : t < length c.in_ok-description.field-0.threads = omega (arith, lt, ap length value, made.count) in
+    let within : t < length c.in_ok-description.description.threads = omega (arith, lt, ap length value, made.count) in
     let first =
     ap (λ ps. get_or ps t d) value ∙ made.passes t d within
     ∙ ap (λ e. first_pass floor.table e t) (sym made.description) in
