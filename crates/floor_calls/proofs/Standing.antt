@@ -33,7 +33,7 @@ use Rattle.lock_model.specs.declared.numbers.ChanNo.{ChanNo}
 use Rattle.lock_model.specs.declared.numbers.LockNo.{LockNo}
 use Rattle.lock_model.specs.declared.numbers.ThreadNo.{ThreadNo}
 use Rattle.lock_model.specs.declared.plan.Mode.{Mode}
-use Rattle.floor_calls.specs.Calls.{HasBegunWake, TakeWent, TryWent, ReleaseWent}
+use Rattle.floor_calls.specs.Calls.{HasBegunWake, Makes, TakeWent, TryWent, ReleaseWent}
 use Rattle.floor_calls.specs.Stages.{stage_behind, stage_of_begun, told, told_of_try}
 use Rattle.floor_calls.specs.Threads.{IsAt, IsEndingAt}
 use Rattle.floor_calls.specs.declared.stages.Next.{Next}
@@ -42,17 +42,39 @@ use Rattle.floor_calls.specs.declared.stages.Stage.TheVariants.{Takes, Tries, Re
 
 -- 1. How a part is told
 
-module _ (on : Stage) (r : Next × Stage) (n t : Next) (is : r ≡ (n, stage_behind on n)) (tells : n ≡ t) where
-  pub stands_behind : (f : Floor Description) (q : Pass Knowledge) → IsAt f (stage_behind on t) q → IsAt f r.1 q
-  stands_behind f q at =
-      subst (λ (z : Next × Stage). IsAt f z.1 q) (sym is)
-      (subst (λ (z : Next). IsAt f (stage_behind on z) q) (sym tells) at)
+-- a part was made, and is told just as it is
+pub made : {A : Type 0} {told_as : A → Next} {behind : A → Stage}
+    {Did : A → Pass Knowledge → Pass Knowledge → Type 0} {p q : Pass Knowledge} (part : A) → Did part p q
+    → Makes A told_as behind Did (told_as part) (behind part) p q
+made part did = record { part = part; tells = refl; stands = refl; did = did }
 
-  pub is_told : r.0 ≡ t
-  is_told = ap (λ (z : Next × Stage). z.0) is ∙ tells
+-- where that is the stage the thread stands at it
+pub at_stage : (f : Floor Description) (q : Pass Knowledge) {stage is : Stage} → stage ≡ is → IsAt f is q → IsAt f stage q
+at_stage f q e at = subst (λ (s : Stage). IsAt f s q) (sym e) at
 
-  pub stands : r.1 ≡ stage_behind on t
-  stands = ap (λ (z : Next × Stage). z.1) is ∙ ap (stage_behind on) tells
+-- a part of a lock's call was told so, with the stage behind it
+module _ {A : Type 0} (told_as : A → Next) (on : Stage) (part : A) {t : Next} {r : Next × Stage}
+    (tells : t ≡ told_as part) (is : r ≡ (t, stage_behind on t)) where
+  comes : r ≡ (told_as part, stage_behind on (told_as part))
+  comes = is ∙ ap (λ (n : Next). (n, stage_behind on n)) tells
+
+  pub stands_behind : (f : Floor Description) (q : Pass Knowledge) → IsAt f (stage_behind on (told_as part)) q
+      → IsAt f r.1 q
+  stands_behind f q at = at_stage f q (ap (λ (z : Next × Stage). z.1) comes) at
+
+  pub is_told : {Did : A → Pass Knowledge → Pass Knowledge → Type 0} {p q : Pass Knowledge} → Did part p q
+      → Makes A told_as (λ a. stage_behind on (told_as a)) Did r.0 r.1 p q
+  is_told did = record {
+    part = part;
+    tells = ap (λ (z : Next × Stage). z.0) comes;
+    stands = ap (λ (z : Next × Stage). z.1) comes;
+    did = did;
+  }
+
+-- both are so
+pub both : {next n : Next} {stage s : Stage} → next ≡ n → stage ≡ s
+    → ◌≡◌ {A = Next × Stage} (next, stage) (n, s)
+both e d = cc
 
 module _ (f : Floor Description) (p q : Pass Knowledge) (own : IsOf f q) where
   -- 2. A take

@@ -40,12 +40,21 @@ pub enum NotClosed {
 }
 
 /// A floor that is open, and takes its threads in at their ends.
-#[derive(Drop)]
 pub struct OpenFloor {
     shared: Arc<Shared, Global>,
     keeper: Keeper,
     // How many threads are yet to be taken in.
     left: usize,
+}
+
+impl Drop for OpenFloor {
+    fn drop(self) {
+        let OpenFloor {
+            shared: _,
+            keeper: _,
+            left: _,
+        } = self;
+    }
 }
 
 impl Model for OpenFloor {
@@ -209,6 +218,5 @@ fn close(shared: Shared, keeper: Keeper) -> Closing
     ensures logs { map (λ b. b.entries) result.logs.items
         ≡ map (λ g. reverse g.1.log) keeper.view.gathered }
 {
-    let Shared { floor, .. } = shared;
-    floor.close(keeper)
+    shared.into_floor().close(keeper)
 }

@@ -19,11 +19,20 @@ use std::marker::Model;
 use std::sync::Arc;
 
 /// A thread of a floor: its share of the floor, its pass there, and at which stage it is. One caller uses it at a time.
-#[derive(Drop)]
 pub struct Thread {
     pub(crate) shared: Arc<Shared, Global>,
     pub(crate) pass: Pass,
     pub(crate) stage: Stage,
+}
+
+impl Drop for Thread {
+    fn drop(self) {
+        let Thread {
+            shared: _,
+            pass: _,
+            stage: _,
+        } = self;
+    }
 }
 
 impl Model for Thread {

@@ -1,5 +1,5 @@
 -- What the numbers of refusals stand for.
-use Rattle.std.proofs.Common.{◌≡◌, ◌⊎◌, ℕ, Option, Some, None, refl, sym, ap, subst, ◌∙◌, inl, inr}
+use Rattle.std.proofs.Common.{◌≡◌, ◌≢◌, ℕ, Option, Some, None, refl, sym, ap, subst, ◌∙◌}
 use Rattle.std.specs.Prelude.{◌==◌, if◌then◌else◌, List, Err}
 use Rattle.floor_calls.specs.First.{IsFirst}
 use Rattle.floor_calls.specs.Fitting.{Spoils, all_unfit}
@@ -48,9 +48,9 @@ read NotOneChain = refl
 pub no_reason : (n : ℕ) (why : Unfit) → unfit_at n ≡ None → n ≡ code_of_unfit why → ⊥
 no_reason n why none h = absurd (let z : None ≡ Some why = sym none ∙ ap unfit_at h ∙ read why in cc)
 
-pub not_opened : (n : ℕ) (why : Unfit) → (n ≡ 0) ⊎ (n ≡ 16) → n ≡ code_of_unfit why → ⊥
-not_opened n why (inl z) h = no_reason 0 why refl (sym z ∙ h)
-not_opened n why (inr z) h = no_reason 16 why refl (sym z ∙ h)
+pub not_opened : (n : ℕ) (why : Unfit) → (n ≢ 0 → n ≡ 16) → n ≡ code_of_unfit why → ⊥
+not_opened n why others h =
+    no_reason 16 why refl (sym (others (λ z. no_reason 0 why refl (sym z ∙ h))) ∙ h)
 
 pub is_unfit : (r : Refused) (why : Unfit) → code_of_refused r ≡ code_of_unfit why → r ≡ Floor (IsUnfit why)
 is_unfit (Rows Memory) why h = absurd (no_reason 16 why refl h)

@@ -32,6 +32,10 @@ AreOfOneFloor floor thread =
     (house : House) (x : Thread) → floor ≡ Some (content.Open house)
     → thread ≡ Some (content.Thread x) → x.floor ≡ house.floor.floor
 
+-- it is a thread that has ended
+abbrev pub HasEnded : Content → Type 0
+HasEnded it = (x : Thread) × (it ≡ content.Thread x) × (x.stage ≡ stages.Ended)
+
 -- the handle has a thread that hasn't ended
 abbrev pub HasUnended : Option Content → Type 0
 HasUnended home = (x : Thread) × (home ≡ Some (content.Thread x)) × (x.stage ≢ stages.Ended)

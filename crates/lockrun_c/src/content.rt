@@ -6,13 +6,14 @@ ghost use Rattle.lock_history.specs.Tickets.{TicketsOnce, entries_in};
 ghost use Rattle.lock_model.specs.History.{tables_of};
 ghost use Rattle.lock_model.specs.declared.event.Entry.{Entry};
 
+mod taking;
+
 use floor_calls::{OpenFloor, Thread};
 use lock_floor::Closing;
 use lock_model::Plan;
 use turn_calls::OpenWorld;
 
 /// What the box of a handle holds.
-#[derive(Drop)]
 pub enum Content {
     /// Nothing yet.
     Empty,
@@ -26,6 +27,19 @@ pub enum Content {
     World(OpenWorld),
 }
 
+// There is much in it: so letting go of it is one call, wherever that is done. So it is of what a floor left.
+impl Drop for Content {
+    fn drop(self) {
+        match self {
+            Content::Empty
+            | Content::Open(_)
+            | Content::Closed(_)
+            | Content::Thread(_)
+            | Content::World(_) => {}
+        }
+    }
+}
+
 /// A floor that is open, the names of what it has, and those of its threads that weren't handed out, the next one last.
 #[derive(Drop)]
 pub struct House {
@@ -36,7 +50,6 @@ pub struct House {
 
 /// What a floor left when it was closed, with the names of what it had. The tickets of the logs' entries are such that
 /// the logs can be merged, and its tables are those that the history leaves into which they are merged.
-#[derive(Drop)]
 pub struct Remains {
     pub(crate) closing: Closing,
     pub(crate) names: Plan,
@@ -46,8 +59,17 @@ pub struct Remains {
         → entries closing.tables.present ≡ entries (tables_of (reverse history)) },
 }
 
-// Puts this in place of what a box holds. Letting go of that has a way for each sort of content, and in a call with
-// many clauses each clause would be shown behind each of these ways: so it stands alone.
+impl Drop for Remains {
+    fn drop(self) {
+        let Remains {
+            closing: _,
+            names: _,
+        } = self;
+    }
+}
+
+// Puts this in place of what a box holds. Letting go of that in a call with many clauses would have each of them shown
+// behind it: so it stands alone.
 pub(crate) fn put_in(content: &mut Content, what: Content)
     ensures { content.new ≡ what }
 {

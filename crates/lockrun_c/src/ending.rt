@@ -1,13 +1,14 @@
 //! How C takes threads in, closes a floor, and lets go of what a handle has.
-ghost use Rattle.std.specs.Prelude.{◌≡◌, ◌≢◌, ◌&&◌, Some, None, IfErr, IfOk, IsFalse};
+ghost use Rattle.std.specs.Prelude.{◌≡◌, ◌≢◌, ◌&&◌, Some, None, Err, IfNone, IfSome, IsFalse};
+ghost use Rattle.floor_calls.specs.Closings.{IsNotGathered, given_back};
 ghost use Rattle.floor_calls.specs.Threads.{Thread as Seen};
-ghost use Rattle.lockrun_c.specs.Endings.{AreAllIn, AreOfOneFloor, HasClosed, HasGathered, HasUnended, LacksThread, TakesIn};
+ghost use Rattle.lockrun_c.specs.Endings.{AreAllIn, AreOfOneFloor, HasClosed, HasEnded, HasGathered, HasUnended, LacksThread, TakesIn};
 ghost use Rattle.lockrun_c.specs.Handles.{has_floor, has_thread};
 ghost use Rattle.lockrun_c.specs.declared.content.Content.TheVariants as contents;
 
 use crate::codes::{DONE, NOT_ENDED, NOT_GATHERED, NOT_OPEN, STILL_SHARED};
 use crate::content::{Content, House, Remains, put_in};
-use crate::handles::{Handle, take, there};
+use crate::handles::{Handle, take};
 use floor_calls::{NotClosed, OpenFloor};
 use std::alloc::Global;
 
@@ -49,7 +50,7 @@ fn gather(alloc: Global, content: &mut Content, thread: &mut Handle) -> u32
     }
 }
 
-// Takes a handle's thread in, to its floor. What isn't taken in goes back into its box.
+// Takes a handle's thread in, to its floor, unless something stands against that.
 fn gather_in(alloc: Global, floor: &mut OpenFloor, thread: &mut Handle) -> u32
     requires there { thread.old.is_there ≢ 0 }
     requires of_floor { (x : Seen) → thread.old.held.home ≡ Some (contents.Thread x)
@@ -62,37 +63,48 @@ fn gather_in(alloc: Global, floor: &mut OpenFloor, thread: &mut Handle) -> u32
     ensures refused { result ≢ 0 → floor.new ≡ floor.old }
     ensures stays { result ≢ 0 → thread.new.held.home ≡ thread.old.held.home }
 {
-    let how = thread.how;
-    let mut content = take(thread, alloc);
-    match taken_in(floor, std::mem::replace(&mut *content, Content::Empty)) {
-        Ok(()) => DONE,
-        Err((left, code)) => {
-            put_in(&mut content, left);
-            *thread = there(content, how);
-            code
+    match against_gathering(thread.held.as_mut()) {
+        Some(code) => code,
+        None => {
+            take_in(floor, take(thread, alloc));
+            DONE
         }
     }
 }
 
-// Takes in the thread that a box holds, or gives back what it holds, and why.
-fn taken_in(floor: &mut OpenFloor, content: Content) -> Result<(), (Content, u32)>
-    requires of_floor { (x : Seen) → content ≡ contents.Thread x → x.floor ≡ floor.old.floor }
-    ensures gathered { IfOk result (λ _. (x : Seen) × (content ≡ contents.Thread x)
-        × TakesIn floor.old floor.new x) }
-    ensures refused { IfErr result (λ left. (left.0 ≡ content) × (floor.new ≡ floor.old)) }
-    ensures fault { IfErr result (λ left. left.1 ≢ 0) }
-    ensures not_open { IfErr result (λ left. left.1 ≡ 17 → IsFalse (has_thread (Some content))) }
-    ensures not_ended { IfErr result (λ left. left.1 ≡ 21 → HasUnended (Some content)) }
+// What stands against taking in what a box holds: it is no thread, or one that hasn't ended.
+fn against_gathering(content: &Content) -> Option<u32>
+    ensures nothing { IfNone result (HasEnded content.now) }
+    ensures fault { IfSome result (λ code. code ≢ 0) }
+    ensures not_open { IfSome result (λ code. code ≡ 17
+        → IsFalse (has_thread (Some content.now))) }
+    ensures not_ended { IfSome result (λ code. code ≡ 21 → HasUnended (Some content.now)) }
 {
     match content {
-        Content::Thread(mine) => match floor.gather(mine) {
-            Ok(()) => Ok(()),
-            Err(mine) => Err((Content::Thread(mine), NOT_ENDED)),
-        },
-        Content::Empty => Err((Content::Empty, NOT_OPEN)),
-        Content::Open(house) => Err((Content::Open(house), NOT_OPEN)),
-        Content::Closed(remains) => Err((Content::Closed(remains), NOT_OPEN)),
-        Content::World(world) => Err((Content::World(world), NOT_OPEN)),
+        Content::Thread(thread) => {
+            if thread.has_ended() {
+                None
+            } else {
+                Some(NOT_ENDED)
+            }
+        }
+        Content::Empty | Content::Open(_) | Content::Closed(_) | Content::World(_) => {
+            Some(NOT_OPEN)
+        }
+    }
+}
+
+// Takes in the thread that this box has, which has ended.
+fn take_in(floor: &mut OpenFloor, mut content: Box<Content>)
+    requires ended { HasEnded content.value }
+    requires of_floor { (x : Seen) → content.value ≡ contents.Thread x
+        → x.floor ≡ floor.old.floor }
+    ensures { (x : Seen) × (content.value ≡ contents.Thread x) × TakesIn floor.old floor.new x }
+{
+    let thread = std::mem::replace(&mut *content, Content::Empty).into_thread();
+    match floor.gather(thread) {
+        Ok(()) => {}
+        Err(_) => unreachable!(),
     }
 }
 
@@ -117,24 +129,13 @@ fn close(content: &mut Content) -> u32
     ensures not_gathered { result ≡ 22 → LacksThread (Some content.old) }
     ensures refused { result ≢ 0 → content.new ≡ content.old }
 {
-    let (after, code) = closed_of(std::mem::replace(content, Content::Empty));
-    *content = after;
-    code
-}
-
-// What a box holds behind a close. What is no floor that is open isn't changed.
-fn closed_of(content: Content) -> (Content, u32)
-    ensures closed { result.1 ≡ 0 → HasClosed (Some content) (Some result.0) }
-    ensures not_open { result.1 ≡ 17 → IsFalse (has_floor (Some content)) }
-    ensures not_gathered { result.1 ≡ 22 → LacksThread (Some content) }
-    ensures refused { result.1 ≢ 0 → result.0 ≡ content }
-{
-    match content {
-        Content::Open(house) => closed(house),
-        Content::Empty => (Content::Empty, NOT_OPEN),
-        Content::Closed(remains) => (Content::Closed(remains), NOT_OPEN),
-        Content::Thread(thread) => (Content::Thread(thread), NOT_OPEN),
-        Content::World(world) => (Content::World(world), NOT_OPEN),
+    match content.take_floor() {
+        None => NOT_OPEN,
+        Some(house) => {
+            let (after, code) = closed(house);
+            put_in(content, after);
+            code
+        }
     }
 }
 
@@ -152,22 +153,27 @@ fn closed(house: House) -> (Content, u32)
     } = house;
     match floor.close() {
         Ok(closing) => (Content::Closed(Remains { closing, names }), DONE),
-        Err(NotClosed::NotGathered(floor)) => {
+        Err(why) => {
+            let (floor, code) = given_back(why);
             let house = House {
                 floor,
                 names,
                 waiting,
             };
-            (Content::Open(house), NOT_GATHERED)
+            (Content::Open(house), code)
         }
-        Err(NotClosed::StillShared(floor)) => {
-            let house = House {
-                floor,
-                names,
-                waiting,
-            };
-            (Content::Open(house), STILL_SHARED)
-        }
+    }
+}
+
+// The floor that wasn't closed, and why.
+fn given_back(why: NotClosed) -> (OpenFloor, u32)
+    ensures floor { result.0 ≡ given_back why }
+    ensures code { (result.1 ≢ 0) × (result.1 ≢ 17) }
+    ensures not_gathered { result.1 ≡ 22 → IsNotGathered {A = Unit {0}} (Err why) }
+{
+    match why {
+        NotClosed::NotGathered(floor) => (floor, NOT_GATHERED),
+        NotClosed::StillShared(floor) => (floor, STILL_SHARED),
     }
 }
 

@@ -1,6 +1,7 @@
 //! The handles that C has.
 ghost use Rattle.std.specs.Prelude.{◌≡◌, ◌≢◌, ◌==◌, Some, None, is_some, not};
 
+use crate::codes::{DONE, NO_MEMORY};
 use crate::content::Content;
 use crate::held::{Held, Token};
 use std::alloc::Global;
@@ -16,15 +17,31 @@ pub struct Handle {
     ghost fits: { is_some held.home ≡ not (is_there == 0) },
 }
 
-// A handle that has this box.
-pub(crate) fn there(content: Box<Content>, how: *mut Token) -> Handle
-    ensures { result.held.home ≡ Some content.value }
+// Gives this to a handle, in a box of its own.
+pub(crate) fn move_in(alloc: Global, handle: &mut Handle, content: Content) -> u32
+    ensures moved { result ≡ 0 → handle.new.held.home ≡ Some content }
+    ensures others { result ≢ 0 → result ≡ 16 }
+    ensures refused { result ≢ 0 → handle.new.held.home ≡ handle.old.held.home }
 {
-    Handle {
+    match Box::new(alloc, content) {
+        Err(_) => NO_MEMORY,
+        Ok(content) => {
+            put_there(handle, content);
+            DONE
+        }
+    }
+}
+
+// Gives a box to a handle.
+pub(crate) fn put_there(handle: &mut Handle, content: Box<Content>)
+    ensures { handle.new.held.home ≡ Some content.value }
+{
+    let how = handle.how;
+    *handle = Handle {
         held: Held::of(content),
         how,
         is_there: 1,
-    }
+    };
 }
 
 // A handle that has nothing.

@@ -1,5 +1,5 @@
 //! How C opens a floor, and gets the handles of its threads.
-ghost use Rattle.std.specs.Prelude.{◌≡◌, ◌≢◌, ◌⊎◌, ◌<◌, Some, None, [], map, vec_len, IfErr, IfOk, IfSome, IsFalse};
+ghost use Rattle.std.specs.Prelude.{◌≡◌, ◌≢◌, ◌<◌, Some, None, [], map, vec_len, IfErr, IfOk, IfSome, IsFalse};
 ghost use Rattle.lockrun_c.specs.Endings.{HandsOut, HasHandedOut, HasNoneWaiting};
 ghost use Rattle.lockrun_c.specs.Handles.{has_floor};
 ghost use Rattle.lockrun_c.specs.Misfits.{code_of_unfit};
@@ -11,7 +11,7 @@ ghost use Rattle.floor_calls.specs.declared.unfit.Unfit.{Unfit};
 
 use crate::codes::{DONE, IS_OPEN, NO_MEMORY, NO_THREAD, NOT_OPEN, byte_of};
 use crate::content::{Content, House, put_in};
-use crate::handles::{Handle, there};
+use crate::handles::{Handle, move_in, put_there};
 use crate::misfits::{Refused, code_of_refused};
 use crate::naming::plan_of;
 use crate::rows::{ChanRow, KeyRow, LockRow, ThreadRow};
@@ -45,23 +45,7 @@ pub extern "C" fn lockrun_open(
     }
     match house_of(alloc, threads, locks, chans, keys) {
         Err(why) => code_of_refused(why),
-        Ok(house) => move_in(alloc, floor, house),
-    }
-}
-
-// Gives a floor to its handle.
-fn move_in(alloc: Global, floor: &mut Handle, house: House) -> u32
-    ensures opened { result ≡ 0 → floor.new.held.home ≡ Some (contents.Open house) }
-    ensures cause { (result ≡ 0) ⊎ (result ≡ 16) }
-    ensures refused { result ≢ 0 → floor.new.held.home ≡ floor.old.held.home }
-{
-    let how = floor.how;
-    match Box::new(alloc, Content::Open(house)) {
-        Err(_) => NO_MEMORY,
-        Ok(content) => {
-            *floor = there(content, how);
-            DONE
-        }
+        Ok(house) => move_in(alloc, floor, Content::Open(house)),
     }
 }
 
@@ -212,8 +196,7 @@ fn hand_next(house: &mut House, mut content: Box<Content>, thread: &mut Handle)
         None => unreachable!(),
         Some(next) => {
             put_in(&mut content, Content::Thread(next));
-            let how = thread.how;
-            *thread = there(content, how);
+            put_there(thread, content);
         }
     }
 }

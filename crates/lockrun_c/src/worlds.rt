@@ -1,5 +1,5 @@
 //! How C opens the world of a script, gives its threads their turns, is told of them in between, and gets the text.
-ghost use Rattle.std.specs.Prelude.{◌≡◌, ◌≢◌, ◌<◌, Some, None, length, IfNone, IfSome, IsFalse};
+ghost use Rattle.std.specs.Prelude.{◌≡◌, ◌≢◌, ◌<◌, Some, None, length, IsFalse};
 ghost use Rattle.lock_model.specs.Limits.{most_bytes};
 ghost use Rattle.lockrun_c.specs.Handles.{has_world};
 ghost use Rattle.lockrun_c.specs.Worlds.{HasLongerText, HasMade, HasNoSuchThread, HasNoThread, HasPrintedWorld, HasToldThread, HasTurned, IsFaultyFor, IsPrinted, IsSeen, IsTold, IsTooLongFor, IsWorldFor};
@@ -11,9 +11,9 @@ mod naming;
 mod numbers;
 
 use crate::codes::{DONE, IS_OPEN, NO_MEMORY, byte_of};
-use crate::content::Content;
+use crate::content::{Content, put_in};
 use crate::ending::let_go;
-use crate::handles::{Handle, there};
+use crate::handles::{Handle, move_in};
 use crate::printing::put;
 pub(crate) use numbers::{NO_RANGE, TOO_BIG};
 use numbers::{NO_SCRIPT, NO_SUCH, NO_WORLD, ScriptFaultTold, ThreadTold, told_of, turn_number};
@@ -42,23 +42,7 @@ pub extern "C" fn lockrun_world_open(
     }
     match OpenWorld::open(alloc, script, chains) {
         Err(why) => tell_why(why, fault),
-        Ok(opened) => move_in(alloc, world, opened),
-    }
-}
-
-// Gives a world to its handle.
-fn move_in(alloc: Global, handle: &mut Handle, opened: OpenWorld) -> u32
-    ensures opened { result ≡ 0 → handle.new.held.home ≡ Some (contents.World opened) }
-    ensures refused { result ≢ 0 → handle.new.held.home ≡ handle.old.held.home }
-    ensures others { result ≢ 0 → result ≡ 16 }
-{
-    let how = handle.how;
-    match Box::new(alloc, Content::World(opened)) {
-        Err(_) => NO_MEMORY,
-        Ok(content) => {
-            *handle = there(content, how);
-            DONE
-        }
+        Ok(opened) => move_in(alloc, world, Content::World(opened)),
     }
 }
 
@@ -105,7 +89,7 @@ fn turn(content: &mut Content, thread: u32, did: &mut u32) -> u32
     ensures refused { result ≢ 0 → content.new ≡ content.old }
     ensures untold { result ≢ 0 → did.new ≡ did.old }
 {
-    match take_world(content) {
+    match content.take_world() {
         None => NO_WORLD,
         Some(world) => turn_in(content, world, byte_of(thread), did),
     }
@@ -121,7 +105,7 @@ fn turn_in(content: &mut Content, world: OpenWorld, t: u8, did: &mut u32) -> u32
     ensures untold { result ≢ 0 → did.new ≡ did.old }
 {
     let (behind, answer) = world.turn(t);
-    *content = Content::World(behind);
+    put_in(content, Content::World(behind));
     match answer {
         Err(NoThread) => NO_SUCH,
         Ok(made) => {
@@ -158,7 +142,7 @@ fn tell_thread(content: &mut Content, thread: u32, told: &mut ThreadTold) -> u32
     ensures untold { result ≢ 0 → told.new ≡ told.old }
     ensures unchanged { content.new ≡ content.old }
 {
-    match take_world(content) {
+    match content.take_world() {
         None => NO_WORLD,
         Some(world) => tell_thread_in(content, world, byte_of(thread), told),
     }
@@ -173,7 +157,7 @@ fn tell_thread_in(content: &mut Content, world: OpenWorld, t: u8, told: &mut Thr
     ensures unchanged { content.new ≡ contents.World world }
 {
     let (same, answer) = world.thread(t);
-    *content = Content::World(same);
+    put_in(content, Content::World(same));
     match answer {
         Err(NoThread) => NO_SUCH,
         Ok(now) => {
@@ -213,7 +197,7 @@ fn print_world(alloc: Global, content: &mut Content, out: &mut [u8], written: &m
     ensures refused { result ≢ 0 → out.new ≡ out.old }
     ensures unchanged { content.new ≡ content.old }
 {
-    match take_world(content) {
+    match content.take_world() {
         None => NO_WORLD,
         Some(world) => print_in(alloc, content, world, out, written),
     }
@@ -234,7 +218,7 @@ fn print_in(
     ensures unchanged { content.new ≡ contents.World world }
 {
     let (same, made) = world.text(alloc);
-    *content = Content::World(same);
+    put_in(content, Content::World(same));
     match made {
         Err(_) => NO_MEMORY,
         Ok(text) => put(text.as_slice(), out, written),
@@ -247,28 +231,4 @@ pub extern "C" fn lockrun_world_free(alloc: Global, world: &mut Handle)
     ensures { world.new.held.home ≡ None }
 {
     let_go(alloc, world);
-}
-
-// Takes the world out of what a box holds, which is empty then. Where it holds none, nothing is changed.
-fn take_world(content: &mut Content) -> Option<OpenWorld>
-    ensures taken { IfSome result (λ world. content.old ≡ contents.World world) }
-    ensures none { IfNone result (IsFalse (has_world (Some content.old))) }
-    ensures unchanged { IfNone result (content.new ≡ content.old) }
-{
-    match std::mem::replace(content, Content::Empty) {
-        Content::World(world) => Some(world),
-        Content::Empty => None,
-        Content::Open(house) => put_back(content, Content::Open(house)),
-        Content::Closed(remains) => put_back(content, Content::Closed(remains)),
-        Content::Thread(thread) => put_back(content, Content::Thread(thread)),
-    }
-}
-
-// Puts what is no world back.
-fn put_back(content: &mut Content, what: Content) -> Option<OpenWorld>
-    ensures none { result ≡ None }
-    ensures back { content.new ≡ what }
-{
-    *content = what;
-    None
 }

@@ -19,11 +19,21 @@ use step_machine::Machine;
 mod reading;
 
 /// A scheduled run between two turns. Its state is lawful: it represents a run of its plan that is on track.
-#[derive(Drop)]
 pub struct World<'p> {
     plan: &'p Plan,
     chains: u32,
     machine: Machine,
+}
+
+// One call, which the crates above cite. They would each prove again how every object in it is dropped, were it derived.
+impl Drop for World<'_> {
+    fn drop(self) {
+        let World {
+            plan: _,
+            chains: _,
+            machine: _,
+        } = self;
+    }
 }
 
 impl<'p> Model for World<'p> {
@@ -196,7 +206,12 @@ impl<'p> World<'p> {
         ensures objects { result ≡ self.entry.machine }
         ensures sound { IsSound self.entry }
     {
-        self.machine
+        let World {
+            plan: _,
+            chains: _,
+            machine,
+        } = self;
+        machine
     }
 }
 

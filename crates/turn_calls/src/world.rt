@@ -27,11 +27,21 @@ use step_world::World;
 /// ```
 /// let (world, answer) = OpenWorld::open(alloc, script, 16)?.turn(0);
 /// ```
-#[derive(Drop)]
 pub struct OpenWorld {
     plan: Plan,
     chains: u32,
     machine: Machine,
+}
+
+// A machine owns much: so letting go of a world is one call, wherever that is done.
+impl Drop for OpenWorld {
+    fn drop(self) {
+        let OpenWorld {
+            plan: _,
+            chains: _,
+            machine: _,
+        } = self;
+    }
 }
 
 impl Model for OpenWorld {

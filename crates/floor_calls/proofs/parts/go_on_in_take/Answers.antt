@@ -1,23 +1,15 @@
 use Rattle.floor_calls.specs.Stages.{told}
 use Rattle.floor_calls.specs.declared.stages.Stage.TheVariants.{Takes}
-use Rattle.floor_calls.proofs.Standing.{is_told, stands, stands_behind, take_goes_on}
+use Rattle.floor_calls.proofs.Standing.{is_told, stands_behind, take_goes_on}
 use Rattle.floor_calls.proofs.parts.go_on_in_take.Goals as goal
 
 pub returns-clause-at : goal.returns-clause-at
 returns-clause-at c =
     let part = c.go_on_taking-part in
     let f = c.args.floor.now in
-    stands_behind Takes c.behind.result c.told.result (told part.result) c.behind.ensures c.told.ensures
-    f part.new.pass
+    stands_behind told Takes part.result c.told.ensures c.behind.ensures f part.new.pass
     (take_goes_on f c.args.pass.now part.new.pass part.ensures.own part.result c.requires.there.1 part.ensures.went)
 
 pub returns-clause-did : goal.returns-clause-did
 returns-clause-did c =
-    let part = c.go_on_taking-part in
-    let t = told part.result in
-    record {
-      part = part.result;
-      tells = is_told Takes c.behind.result c.told.result t c.behind.ensures c.told.ensures;
-      stands = stands Takes c.behind.result c.told.result t c.behind.ensures c.told.ensures;
-      did = part.ensures.went;
-    }
+    let part = c.go_on_taking-part in is_told told Takes part.result c.told.ensures c.behind.ensures part.ensures.went

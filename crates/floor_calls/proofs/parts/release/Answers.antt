@@ -1,24 +1,16 @@
-use Rattle.std.proofs.Common.{sym, ap, subst, ◌∙◌}
-use Rattle.floor_calls.specs.Stages.{stage_behind}
-use Rattle.floor_calls.specs.Threads.{IsAt}
-use Rattle.floor_calls.specs.declared.stages.Stage.{Stage}
+use Rattle.floor_calls.specs.Stages.{told}
 use Rattle.floor_calls.specs.declared.stages.Stage.TheVariants.{Releases}
-use Rattle.floor_calls.proofs.Standing.{release_begins}
+use Rattle.floor_calls.proofs.Standing.{both, is_told, stands_behind, release_begins}
 use Rattle.floor_calls.proofs.parts.release.Goals as goal
 
 pub returns : goal.returns
 returns c =
     let part = c.begin_release-part in
     let f = c.args.floor.now in
-    let stands = c.begun.ensures.stands ∙ ap (stage_behind Releases) c.told.ensures in
+    let is = both c.begun.ensures.next c.begun.ensures.stands in
     record {
       at =
-          subst (λ (s : Stage). IsAt f s part.new.pass) (sym stands)
+          stands_behind told Releases part.result c.told.ensures is f part.new.pass
           (release_begins f c.args.pass.now part.new.pass part.ensures.own c.args.l c.args.mode part.result part.ensures.begun);
-      does = record {
-        part = part.result;
-        tells = c.begun.ensures.next ∙ c.told.ensures;
-        stands = stands;
-        did = part.ensures.begun;
-      };
+      does = is_told told Releases part.result c.told.ensures is part.ensures.begun;
     }

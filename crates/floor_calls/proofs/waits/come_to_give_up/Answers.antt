@@ -1,4 +1,4 @@
-use Rattle.std.proofs.Common.{refl}
+use Rattle.floor_calls.proofs.Standing.{made}
 use Rattle.floor_calls.proofs.Waiting.{gives_up_first, may_put_down}
 use Rattle.floor_calls.proofs.waits.come_to_give_up.Goals as goal
 
@@ -18,6 +18,4 @@ returns-clause-at c =
     )
 
 pub returns-clause-did : goal.returns-clause-did
-returns-clause-did c =
-    let begun = c.begin_giving_up-at in
-    record { part = begun.result; tells = refl; stands = refl; did = begun.ensures.begins }
+returns-clause-did c = let begun = c.begin_giving_up-at in made begun.result begun.ensures.begins

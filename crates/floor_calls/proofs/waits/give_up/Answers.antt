@@ -1,6 +1,4 @@
-use Rattle.std.proofs.Common.{sym, subst}
-use Rattle.floor_calls.specs.Threads.{IsAt}
-use Rattle.floor_calls.specs.declared.stages.Stage.{Stage}
+use Rattle.floor_calls.proofs.Standing.{at_stage}
 use Rattle.floor_calls.proofs.Waiting.{giving_up_goes_on}
 use Rattle.floor_calls.proofs.waits.give_up.Goals as goal
 
@@ -13,7 +11,7 @@ release_on-part-requires-clause-there c = c.requires.there.1.there
 pub returns-clause-at : goal.returns-clause-at
 returns-clause-at c =
     let part = c.release_on-part in
-    subst (λ (s : Stage). IsAt c.args.floor.now s part.new.pass) (sym c.stage_of_giving_up.ensures)
+    at_stage c.args.floor.now part.new.pass c.stage_of_giving_up.ensures
     (giving_up_goes_on c.args.floor.now c.args.on c.args.pass.now part.new.pass part.ensures.own c.args.at
     part.result c.requires.there.1 part.ensures.part)
 

@@ -1,6 +1,4 @@
-use Rattle.std.proofs.Common.{sym, subst}
-use Rattle.floor_calls.specs.Threads.{IsAt}
-use Rattle.floor_calls.specs.declared.stages.Stage.{Stage}
+use Rattle.floor_calls.proofs.Standing.{at_stage}
 use Rattle.floor_calls.proofs.Waiting.{still_back, taking_back_goes_on}
 use Rattle.floor_calls.proofs.waits.take_back.Goals as goal
 
@@ -18,7 +16,7 @@ retake_on-part-requires-clause-under_way c = c.requires.there.1.under
 pub returns-clause-at : goal.returns-clause-at
 returns-clause-at c =
     let part = c.retake_on-part in
-    subst (λ (s : Stage). IsAt c.args.floor.now s part.new.pass) (sym c.stage_of_taking_back.ensures)
+    at_stage c.args.floor.now part.new.pass c.stage_of_taking_back.ensures
     (taking_back_goes_on c.args.floor.now c.args.on c.args.pass.now part.new.pass part.ensures.own c.args.aborted
     c.args.at part.result c.requires.there.1 part.ensures.on)
 

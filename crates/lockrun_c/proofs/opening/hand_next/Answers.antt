@@ -5,5 +5,5 @@ pub returns : goal.returns
 returns c = (
   c.in-Some.next,
   record { waiting = c.in-Some.ensures.items; floor = refl; names = refl },
-  c.there.ensures ∙ ap Some c.put_in.ensures,
+  c.put_there.ensures ∙ ap Some c.put_in.ensures,
 )

@@ -9,7 +9,7 @@ returns-in-Err-clause-unfit c = λ why z.
     (is_unfit c.in-Err.why why (sym c.code_of_refused.ensures ∙ z)) c.in-Err.ensures.refused
 
 pub returns-in-Ok-clause-opened : goal.returns-in-Ok-clause-opened
-returns-in-Ok-clause-opened c = λ z. (c.in-Ok.house, c.move_in.ensures.opened z, c.in-Ok.ensures.opened)
+returns-in-Ok-clause-opened c = λ z. (c.in-Ok.house, c.move_in.ensures.moved z, c.in-Ok.ensures.opened)
 
 pub returns-in-Ok-clause-unfit : goal.returns-in-Ok-clause-unfit
-returns-in-Ok-clause-unfit c = λ why z. absurd (not_opened c.move_in.result why c.move_in.ensures.cause z)
+returns-in-Ok-clause-unfit c = λ why z. absurd (not_opened c.move_in.result why c.move_in.ensures.others z)
