@@ -11,18 +11,19 @@
 
 mod table;
 
-use crate::table::{Row, rows_of};
+use crate::table::{Row, row_of, source_of};
 use chart_top::{LOCKCHART, lockchart};
-use complaints::{Program, Status};
+use complaints::{Status, Unsaid};
 use lock_io::{MemSink, MemSource, OpenGate};
 use lock_top::{LOCKRUN, lockrun};
 use plan_top::{LOCKPLAN, lockplan};
-use remarks::{CopiedSource, tell, tell_usage};
+use remarks::{CopiedSource, Wrong, tell_end};
 use std::alloc::{AllocError, Global};
 use std::fs::Files;
+use std::io::ErrorKind;
 use std::sync::Wait;
 use std::thread::Threads;
-use std::{fs, str};
+use std::{fs, io, str};
 
 // The most bytes that one read or write moves.
 const PIECE: usize = 4096;
@@ -30,7 +31,7 @@ const PIECE: usize = 4096;
 // The most bytes of a text.
 const ROOM: usize = 1 << 20;
 
-fn main(rt: HostRuntime) -> anyhow::Result<()> {
+fn main(rt: HostRuntime) -> io::Result<()> {
     for line in rt.lines(rt.alloc()) {
         let line = line?;
         run_line(&rt, line.as_str())?;
@@ -41,7 +42,7 @@ fn main(rt: HostRuntime) -> anyhow::Result<()> {
 fn run_line<R: AllocGlobal + Files + Print + Threads + Wait + Sync>(
     rt: &R,
     line: &str,
-) -> anyhow::Result<()> {
+) -> io::Result<()> {
     if line.ends_with(".table") {
         run_table(rt, line)
     } else {
@@ -55,36 +56,53 @@ fn run_line<R: AllocGlobal + Files + Print + Threads + Wait + Sync>(
 fn run_example<R: AllocGlobal + Files + Print + Threads + Wait + Sync>(
     rt: &R,
     line: &str,
-) -> anyhow::Result<()> {
+) -> io::Result<()> {
     let (name, command) = line.split_once(' ').unwrap_or((line, ""));
     let (source, _) = name.split_once('.').unwrap_or((name, ""));
-    let text = file(rt, name, "out")?;
     let called = call(rt, command, file(rt, source, "script")?)?;
-    let is_written = is_written(command, &text, called.text.bytes());
-    print_called(rt, line, &called, is_written)
+    print_example(rt, line, name, command, &called)
 }
 
-fn file<R: AllocGlobal + Files>(rt: &R, name: &str, kind: &str) -> anyhow::Result<Vec<u8>> {
+fn file<R: AllocGlobal + Files>(rt: &R, name: &str, kind: &str) -> io::Result<Vec<u8>> {
     let path = format!(in rt.alloc(); "{name}.{kind}")?;
-    Ok(fs::read(rt, path.as_str())?)
+    fs::read(rt, path.as_str())
+}
+
+fn print_example<R: AllocGlobal + Files + Print>(
+    rt: &R,
+    line: &str,
+    name: &str,
+    command: &str,
+    called: &Called,
+) -> io::Result<()> {
+    let text = file(rt, name, "out")?;
+    print_called(
+        rt,
+        line,
+        called,
+        is_written(command, &text, called.text.bytes()),
+    )
 }
 
 // Whether what a call wrote is the text of its file.
 fn is_written(command: &str, text: &[u8], written: &[u8]) -> bool {
-    let is_run = command.split_whitespace().any(|word| word == "run");
-    if is_run && text.starts_with(b"thread ") {
+    if is_run(command) && text.starts_with(b"thread ") {
         written.ends_with(text)
     } else {
         written == text
     }
 }
 
-fn print_called<R: Print>(
-    rt: &R,
-    line: &str,
-    called: &Called,
-    is_written: bool,
-) -> anyhow::Result<()> {
+fn is_run(command: &str) -> bool {
+    for word in command.split_whitespace() {
+        if word == "run" {
+            return true;
+        }
+    }
+    false
+}
+
+fn print_called<R: Print>(rt: &R, line: &str, called: &Called, is_written: bool) -> io::Result<()> {
     let differs = if is_written { "as written" } else { "DIFFERS" };
     let number = called.status as u8;
     println!(rt; "{line}: status {number}, {differs}")?;
@@ -95,26 +113,34 @@ fn print_called<R: Print>(
 fn run_table<R: AllocGlobal + Files + Print + Threads + Wait + Sync>(
     rt: &R,
     name: &str,
-) -> anyhow::Result<()> {
-    let rows = rows_of(rt.alloc(), &fs::read(rt, name)?)?;
-    for row in &rows {
-        run_row(rt, row)?;
-    }
-    println!(rt; "{name}: {} rows", rows.len())?;
-    Ok(())
+) -> io::Result<()> {
+    let table = fs::read_to_string(rt, name)?;
+    let rows = run_rows(rt, table.as_str())?;
+    println!(rt; "{name}: {rows} rows")
 }
 
-fn run_row<R: AllocGlobal + Files + Print + Threads + Wait + Sync>(
+// How many rows there are.
+fn run_rows<R: AllocGlobal + Print + Threads + Wait + Sync>(
     rt: &R,
-    row: &Row,
-) -> anyhow::Result<()> {
-    let source = Vec::from_slice(rt.alloc(), &row.source)?;
-    let called = call(rt, row.command.as_str(), source)?;
+    table: &str,
+) -> io::Result<usize> {
+    let mut rows: usize = 0;
+    for part in table.split("=== ") {
+        if let Some(row) = row_of(part) {
+            run_row(rt, row)?;
+            rows = rows.saturating_add(1);
+        }
+    }
+    Ok(rows)
+}
+
+fn run_row<R: AllocGlobal + Print + Threads + Wait + Sync>(rt: &R, row: Row<'_>) -> io::Result<()> {
+    let called = call(rt, row.command, source_of(rt.alloc(), row.lines)?)?;
     print_row(rt, row, called.said.bytes())
 }
 
 // A row of which something else was said.
-fn print_row<R: Print>(rt: &R, row: &Row, said: &[u8]) -> anyhow::Result<()> {
+fn print_row<R: Print>(rt: &R, row: Row<'_>, said: &[u8]) -> io::Result<()> {
     if said == row.said.as_bytes() {
         return Ok(());
     }
@@ -122,14 +148,17 @@ fn print_row<R: Print>(rt: &R, row: &Row, said: &[u8]) -> anyhow::Result<()> {
     print_indented(rt, said)
 }
 
-fn print_indented<R: Print>(rt: &R, said: &[u8]) -> anyhow::Result<()> {
-    for line in str::from_utf8(said)?.lines() {
+fn print_indented<R: Print>(rt: &R, said: &[u8]) -> io::Result<()> {
+    let Ok(said) = str::from_utf8(said) else {
+        return Err(ErrorKind::InvalidData.into());
+    };
+    for line in said.lines() {
         println!(rt; "    {line}")?;
     }
     Ok(())
 }
 
-// A call that was made: how it ended, what it wrote, and what belongs on standard error.
+// A call: how it ended, what it wrote, and what belongs on standard error.
 #[derive(Drop)]
 struct Called {
     status: Status,
@@ -142,16 +171,27 @@ fn call<R: AllocGlobal + Threads + Wait + Sync>(
     rt: &R,
     command: &str,
     script: Vec<u8>,
-) -> anyhow::Result<Called> {
-    let alloc = rt.alloc();
-    let mut called = Called {
+) -> io::Result<Called> {
+    let mut called = no_call(rt.alloc())?;
+    let mut source = source_in(rt.alloc(), script);
+    make_call(rt, command, &mut source, &mut called)?;
+    Ok(called)
+}
+
+fn no_call(alloc: Global) -> Result<Called, AllocError> {
+    Ok(Called {
         status: Status::Done,
         text: sink(alloc)?,
         said: sink(alloc)?,
-    };
-    let mut source = CopiedSource::new(alloc, MemSource::new(script, PIECE, Vec::new(alloc)));
-    called.status = make_call(rt, command, &mut source, &mut called)?;
-    Ok(called)
+    })
+}
+
+fn sink(alloc: Global) -> Result<MemSink, AllocError> {
+    MemSink::new(alloc, ROOM, PIECE, Vec::new(alloc))
+}
+
+fn source_in(alloc: Global, script: Vec<u8>) -> CopiedSource<MemSource> {
+    CopiedSource::new(alloc, MemSource::new(script, PIECE, Vec::new(alloc)))
 }
 
 fn make_call<R: AllocGlobal + Threads + Wait + Sync>(
@@ -159,108 +199,35 @@ fn make_call<R: AllocGlobal + Threads + Wait + Sync>(
     command: &str,
     source: &mut CopiedSource<MemSource>,
     called: &mut Called,
-) -> anyhow::Result<Status> {
+) -> io::Result<()> {
+    let (program, words) = program_of(command);
+    let words = words_of(rt.alloc(), words)?;
+    let told = match program {
+        Named::Lockrun => call_lockrun(rt, &words, source, called),
+        Named::Lockplan => call_lockplan(rt.alloc(), &words, source, called),
+        Named::Lockchart => call_lockchart(rt.alloc(), &words, source, called),
+    };
+    told.map_err(|_| ErrorKind::Other.into())
+}
+
+// The programs that a command may name.
+#[derive(Clone, Copy)]
+enum Named {
+    Lockrun,
+    Lockplan,
+    Lockchart,
+}
+
+// The program that a command names, and the words that are the program's.
+fn program_of(command: &str) -> (Named, &str) {
     match command.split_once(' ') {
-        Some(("lockplan", words)) => call_lockplan(rt.alloc(), words, source, called),
-        Some(("lockchart", words)) => call_lockchart(rt.alloc(), words, source, called),
-        Some(_) | None => call_lockrun(rt, command, source, called),
+        Some(("lockplan", words)) => (Named::Lockplan, words),
+        Some(("lockchart", words)) => (Named::Lockchart, words),
+        Some(_) | None => (Named::Lockrun, command),
     }
 }
 
-fn call_lockplan(
-    alloc: Global,
-    words: &str,
-    source: &mut CopiedSource<MemSource>,
-    called: &mut Called,
-) -> anyhow::Result<Status> {
-    let words = words_of(alloc, words)?;
-    let ended = lockplan(alloc, &words, source, &mut called.text);
-    let wrong = Wrong {
-        mistake: plan_command::mistake(alloc, &words),
-        help: plan_command::HELP,
-    };
-    let said = &mut called.said;
-    say_end(
-        alloc,
-        said,
-        LOCKPLAN,
-        ended.status,
-        wrong,
-        source.copy(),
-        &ended.fault,
-    )
-}
-
-fn call_lockchart(
-    alloc: Global,
-    words: &str,
-    source: &mut CopiedSource<MemSource>,
-    called: &mut Called,
-) -> anyhow::Result<Status> {
-    let words = words_of(alloc, words)?;
-    let drawn = lockchart(alloc, &words, source, &mut called.text);
-    let wrong = Wrong {
-        mistake: chart_command::mistake(alloc, &words),
-        help: chart_command::HELP,
-    };
-    let said = &mut called.said;
-    say_end(
-        alloc,
-        said,
-        LOCKCHART,
-        drawn.status,
-        wrong,
-        source.copy(),
-        &drawn.fault,
-    )
-}
-
-fn call_lockrun<R: AllocGlobal + Threads + Wait + Sync>(
-    rt: &R,
-    words: &str,
-    source: &mut CopiedSource<MemSource>,
-    called: &mut Called,
-) -> anyhow::Result<Status> {
-    let alloc = rt.alloc();
-    let words = words_of(alloc, words)?;
-    let status = lockrun(rt, alloc, &words, source, &mut called.text, &OpenGate);
-    let wrong = Wrong {
-        mistake: command_line::mistake(alloc, &words),
-        help: command_line::HELP,
-    };
-    let (said, text) = (&mut called.said, called.text.bytes());
-    say_end(alloc, said, LOCKRUN, status, wrong, source.copy(), text)
-}
-
-// What is wrong with the words of a command line, and what they may be.
-#[derive(Drop)]
-struct Wrong<'h> {
-    mistake: Result<Option<String>, AllocError>,
-    help: &'h [&'h str],
-}
-
-// Says what a program does that has ended with that status, and gives the status back.
-fn say_end(
-    alloc: Global,
-    said: &mut MemSink,
-    program: Program,
-    status: Status,
-    wrong: Wrong<'_>,
-    source: Option<&[u8]>,
-    text: &[u8],
-) -> anyhow::Result<Status> {
-    let told = if status == Status::Usage {
-        tell_usage(alloc, said, program, wrong.mistake, wrong.help)
-    } else {
-        tell(alloc, said, program, status, source, text)
-    };
-    match told {
-        Ok(()) => Ok(status),
-        Err(_) => Err(anyhow::anyhow!("not all was said")),
-    }
-}
-
-fn words_of(alloc: Global, text: &str) -> anyhow::Result<Vec<String>> {
+fn words_of(alloc: Global, text: &str) -> Result<Vec<String>, AllocError> {
     let mut words = Vec::new(alloc);
     for word in text.split_whitespace() {
         words.push(String::from_str(alloc, word)?)?;
@@ -268,6 +235,51 @@ fn words_of(alloc: Global, text: &str) -> anyhow::Result<Vec<String>> {
     Ok(words)
 }
 
-fn sink(alloc: Global) -> Result<MemSink, AllocError> {
-    MemSink::new(alloc, ROOM, PIECE, Vec::new(alloc))
+fn call_lockrun<R: AllocGlobal + Threads + Wait + Sync>(
+    rt: &R,
+    words: &[String],
+    source: &mut CopiedSource<MemSource>,
+    called: &mut Called,
+) -> Result<(), Unsaid> {
+    let alloc = rt.alloc();
+    let status = lockrun(rt, alloc, words, source, &mut called.text, &OpenGate);
+    called.status = status;
+    let wrong = Wrong {
+        mistake: command_line::mistake(alloc, words),
+        help: command_line::HELP,
+    };
+    let (said, text) = (&mut called.said, called.text.bytes());
+    tell_end(alloc, said, LOCKRUN, status, wrong, source.copy(), text)
+}
+
+fn call_lockplan(
+    alloc: Global,
+    words: &[String],
+    source: &mut CopiedSource<MemSource>,
+    called: &mut Called,
+) -> Result<(), Unsaid> {
+    let ended = lockplan(alloc, words, source, &mut called.text);
+    called.status = ended.status;
+    let wrong = Wrong {
+        mistake: plan_command::mistake(alloc, words),
+        help: plan_command::HELP,
+    };
+    let (said, read, fault) = (&mut called.said, source.copy(), &ended.fault);
+    tell_end(alloc, said, LOCKPLAN, ended.status, wrong, read, fault)
+}
+
+fn call_lockchart(
+    alloc: Global,
+    words: &[String],
+    source: &mut CopiedSource<MemSource>,
+    called: &mut Called,
+) -> Result<(), Unsaid> {
+    let drawn = lockchart(alloc, words, source, &mut called.text);
+    called.status = drawn.status;
+    let wrong = Wrong {
+        mistake: chart_command::mistake(alloc, words),
+        help: chart_command::HELP,
+    };
+    let (said, read, fault) = (&mut called.said, source.copy(), &drawn.fault);
+    tell_end(alloc, said, LOCKCHART, drawn.status, wrong, read, fault)
 }

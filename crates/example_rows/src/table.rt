@@ -14,97 +14,116 @@
 //! Behind `===` stand the words of the command line, and behind `#` what is shown. In a source `\xNN` is the byte of
 //! that number, and `*2 ..` the rest of the line as often as that, with 0, 1 and so on for `#`, and line ends for `\n`.
 
-use std::alloc::Global;
-use std::str;
+use std::alloc::{AllocError, Global};
 
-/// A row.
-#[derive(Drop)]
-pub struct Row {
+/// A row, as it stands in its table.
+#[derive(Clone, Copy)]
+pub struct Row<'t> {
     /// Its first line.
-    pub name: String,
-    pub command: String,
-    pub source: Vec<u8>,
+    pub name: &'t str,
+    pub command: &'t str,
+    /// The lines of its source.
+    pub lines: &'t str,
     /// What is said of it, byte for byte.
-    pub said: String,
+    pub said: &'t str,
 }
 
-/// The rows of a table.
-pub fn rows_of(alloc: Global, table: &[u8]) -> anyhow::Result<Vec<Row>> {
-    let text = str::from_utf8(table)?;
-    let mut rows = Vec::new(alloc);
-    for part in text.split("=== ") {
-        if let Some((head, tail)) = part.split_once('\n') {
-            rows.push(row_of(alloc, head, tail)?)?;
-        }
-    }
-    Ok(rows)
-}
-
-fn row_of(alloc: Global, head: &str, tail: &str) -> anyhow::Result<Row> {
-    let (command, _) = head.split_once(" # ").unwrap_or((head, ""));
-    let mut source = Vec::new(alloc);
-    let mut said = String::new(alloc);
-    let mut is_said = false;
-    for line in tail.lines() {
-        if is_said {
-            said.push_str(line)?;
-            said.push('\n')?;
-        } else if line == "---" {
-            is_said = true;
-        } else {
-            push_source(alloc, &mut source, line)?;
-        }
-    }
-    Ok(Row {
-        name: String::from_str(alloc, head)?,
-        command: String::from_str(alloc, command)?,
-        source,
+/// The row of a part of a table, which begins behind `===`; in front of the first one there is none.
+pub fn row_of(part: &str) -> Option<Row<'_>> {
+    let (name, rest) = part.split_once('\n')?;
+    let (command, _) = name.split_once(" # ").unwrap_or((name, ""));
+    let (lines, said) = rest.split_once("---\n").unwrap_or((rest, ""));
+    Some(Row {
+        name,
+        command,
+        lines,
         said,
     })
 }
 
-// A line of a source, or those that it stands for.
-fn push_source(alloc: Global, source: &mut Vec<u8>, line: &str) -> anyhow::Result<()> {
-    let repeated = line.strip_prefix('*').and_then(|rest| rest.split_once(' '));
-    let Some((times, pattern)) = repeated else {
-        push_bytes(source, line.as_bytes())?;
-        source.push(b'\n')?;
-        return Ok(());
-    };
-    for n in 0..times.parse::<u32>().unwrap_or(0) {
-        let number = format!(in alloc; "{n}")?;
-        let text = pattern
-            .replace(alloc, "#", number.as_str())?
-            .replace(alloc, "\\n", "\n")?;
-        source.extend_from_slice(text.as_bytes())?;
-        source.push(b'\n')?;
+/// The source that a row's lines stand for.
+pub fn source_of(alloc: Global, lines: &str) -> Result<Vec<u8>, AllocError> {
+    let mut source = Vec::new(alloc);
+    push_lines(alloc, &mut source, lines)?;
+    Ok(source)
+}
+
+fn push_lines(alloc: Global, source: &mut Vec<u8>, lines: &str) -> Result<(), AllocError> {
+    for line in lines.lines() {
+        match repeated(line) {
+            Some((times, pattern)) => push_repeated(alloc, source, times, pattern)?,
+            None => push_line(source, line.as_bytes())?,
+        }
     }
     Ok(())
 }
 
-// Bytes, where `\xNN` is the one of that number.
-fn push_bytes(source: &mut Vec<u8>, line: &[u8]) -> anyhow::Result<()> {
+// How often the rest of a line stands, where the line says so, and that rest.
+fn repeated(line: &str) -> Option<(u32, &str)> {
+    let (times, pattern) = line.strip_prefix('*')?.split_once(' ')?;
+    Some((times.parse().ok()?, pattern))
+}
+
+// The lines of a pattern, as often as that.
+fn push_repeated(
+    alloc: Global,
+    source: &mut Vec<u8>,
+    times: u32,
+    pattern: &str,
+) -> Result<(), AllocError> {
+    for n in 0..times {
+        let number = format!(in alloc; "{n}")?;
+        push_numbered(source, pattern, number.as_bytes())?;
+    }
+    Ok(())
+}
+
+fn push_numbered(source: &mut Vec<u8>, pattern: &str, number: &[u8]) -> Result<(), AllocError> {
+    for line in pattern.split("\\n") {
+        push_with(source, line.as_bytes(), number)?;
+    }
+    Ok(())
+}
+
+// A line with the number for `#`.
+fn push_with(source: &mut Vec<u8>, line: &[u8], number: &[u8]) -> Result<(), AllocError> {
+    for b in line {
+        if *b == b'#' {
+            source.extend_from_slice(number)?;
+        } else {
+            source.push(*b)?;
+        }
+    }
+    source.push(b'\n')?;
+    Ok(())
+}
+
+// A line, where `\xNN` is the byte of that number.
+fn push_line(source: &mut Vec<u8>, line: &[u8]) -> Result<(), AllocError> {
     let mut skipped: usize = 0;
     for (i, b) in line.iter().enumerate() {
         if skipped > 0 {
             skipped -= 1;
-        } else if let Some(byte) = escaped_at(line, i) {
+        } else if let Some(byte) = escaped(&line[i..]) {
             source.push(byte)?;
             skipped = 3;
         } else {
             source.push(*b)?;
         }
     }
+    source.push(b'\n')?;
     Ok(())
 }
 
-fn escaped_at(line: &[u8], i: usize) -> Option<u8> {
-    if line.get(i) != Some(&b'\\') || line.get(i.saturating_add(1)) != Some(&b'x') {
-        return None;
+// The byte whose number a text begins with.
+fn escaped(text: &[u8]) -> Option<u8> {
+    match text {
+        [b'\\', b'x', high, low, ..] => {
+            let (high, low) = (digit_of(*high)?, digit_of(*low)?);
+            Some(high.wrapping_mul(16).wrapping_add(low))
+        }
+        [] | [_, ..] => None,
     }
-    let high = digit_of(*line.get(i.saturating_add(2))?)?;
-    let low = digit_of(*line.get(i.saturating_add(3))?)?;
-    Some(high.wrapping_mul(16).wrapping_add(low))
 }
 
 fn digit_of(b: u8) -> Option<u8> {

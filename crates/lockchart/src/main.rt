@@ -7,63 +7,48 @@
 
 use chart_command::{HELP, mistake, no_text};
 use chart_top::{Drawn, LOCKCHART, LONG, Status, lockchart};
-use lock_io::{Sink, StdSink, StdSource, write_all};
-use remarks::{CopiedSource, tell, tell_usage};
-use std::alloc::{AllocError, Global};
+use lock_io::{Sink, Source, StdSink, StdSource, write_all};
+use remarks::{CopiedSource, Wrong, tell_end};
 use std::io;
 use std::process::ExitCode;
 use top_ends::given_words;
 
 fn main(rt: HostRuntime) -> ExitCode {
     let alloc = rt.alloc();
-    let mut source = CopiedSource::new(alloc, StdSource::new(rt.reader()));
-    let words = given_words(&rt);
-    let drawn = match &words {
-        Ok(words) => {
-            let mut sink = StdSink::new(io::writer(&rt));
-            lockchart(alloc, words, &mut source, &mut sink)
-        }
-        Err(status) => unread(alloc, *status),
-    };
     let mut out = StdSink::new(rt.stderr());
-    say_end(alloc, &mut out, &words, source.copy(), &drawn);
-    ExitCode::from(drawn.status as u8)
-}
-
-// The end of a call that reads nothing.
-fn unread(alloc: Global, status: Status) -> Drawn {
-    Drawn {
-        status,
-        fault: Vec::new(alloc),
-        is_long: false,
-    }
-}
-
-// What there is to say of an end. Nobody may listen there, which changes nothing.
-fn say_end<K: Sink>(
-    alloc: Global,
-    out: &mut K,
-    words: &Result<Vec<String>, Status>,
-    source: Option<&[u8]>,
-    drawn: &Drawn,
-) {
-    let _ = if drawn.status == Status::Usage {
-        tell_usage(alloc, out, LOCKCHART, mistake_in(alloc, words), HELP)
-    } else {
-        tell(alloc, out, LOCKCHART, drawn.status, source, &drawn.fault)
+    let status = match given_words(&rt) {
+        Ok(words) => run(&rt, &words, &mut out),
+        Err(status) => {
+            let wrong = Wrong {
+                mistake: no_text(alloc),
+                help: HELP,
+            };
+            let _ = tell_end(alloc, &mut out, LOCKCHART, status, wrong, None, b"");
+            status
+        }
     };
+    ExitCode::from(status as u8)
+}
+
+// Does what the words ask for, and says what there is to say of it. Nobody may listen there, which changes nothing.
+fn run<R: AllocGlobal + Input + Print, K: Sink>(rt: &R, words: &[String], out: &mut K) -> Status {
+    let alloc = rt.alloc();
+    let mut source = CopiedSource::new(alloc, StdSource::new(rt.reader()));
+    let drawn = draw(rt, words, &mut source);
+    let wrong = Wrong {
+        mistake: mistake(alloc, words),
+        help: HELP,
+    };
+    let (read, fault) = (source.copy(), &drawn.fault);
+    let _ = tell_end(alloc, out, LOCKCHART, drawn.status, wrong, read, fault);
     if drawn.is_long {
         let _ = write_all(out, LONG.as_bytes());
     }
+    drawn.status
 }
 
-// What is wrong with words that are no form.
-fn mistake_in(
-    alloc: Global,
-    words: &Result<Vec<String>, Status>,
-) -> Result<Option<String>, AllocError> {
-    match words {
-        Ok(words) => mistake(alloc, words),
-        Err(_) => no_text(alloc),
-    }
+// What the words ask for, to standard output.
+fn draw<R: AllocGlobal + Print, S: Source>(rt: &R, words: &[String], source: &mut S) -> Drawn {
+    let mut sink = StdSink::new(io::writer(rt));
+    lockchart(rt.alloc(), words, source, &mut sink)
 }

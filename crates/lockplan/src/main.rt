@@ -5,61 +5,47 @@
 //! the words and the streams are picked up.
 #![tactic(auto)]
 
-use lock_io::{Sink, StdSink, StdSource};
+use lock_io::{Sink, Source, StdSink, StdSource};
 use plan_command::{HELP, mistake, no_text};
 use plan_top::{LOCKPLAN, Status, lockplan};
-use remarks::{CopiedSource, tell, tell_usage};
-use std::alloc::{AllocError, Global};
+use remarks::{CopiedSource, Wrong, tell_end};
 use std::io;
 use std::process::ExitCode;
 use top_ends::{Ended, given_words};
 
 fn main(rt: HostRuntime) -> ExitCode {
     let alloc = rt.alloc();
-    let mut source = CopiedSource::new(alloc, StdSource::new(rt.reader()));
-    let words = given_words(&rt);
-    let ended = match &words {
-        Ok(words) => {
-            let mut sink = StdSink::new(io::writer(&rt));
-            lockplan(alloc, words, &mut source, &mut sink)
-        }
-        Err(status) => unread(alloc, *status),
-    };
     let mut out = StdSink::new(rt.stderr());
-    say_end(alloc, &mut out, &words, source.copy(), &ended);
-    ExitCode::from(ended.status as u8)
-}
-
-// The end of a call that reads nothing.
-fn unread(alloc: Global, status: Status) -> Ended {
-    Ended {
-        status,
-        fault: Vec::new(alloc),
-    }
-}
-
-// What there is to say of an end. Nobody may listen there, which changes nothing.
-fn say_end<K: Sink>(
-    alloc: Global,
-    out: &mut K,
-    words: &Result<Vec<String>, Status>,
-    source: Option<&[u8]>,
-    ended: &Ended,
-) {
-    let _ = if ended.status == Status::Usage {
-        tell_usage(alloc, out, LOCKPLAN, mistake_in(alloc, words), HELP)
-    } else {
-        tell(alloc, out, LOCKPLAN, ended.status, source, &ended.fault)
+    let status = match given_words(&rt) {
+        Ok(words) => run(&rt, &words, &mut out),
+        Err(status) => {
+            let wrong = Wrong {
+                mistake: no_text(alloc),
+                help: HELP,
+            };
+            let _ = tell_end(alloc, &mut out, LOCKPLAN, status, wrong, None, b"");
+            status
+        }
     };
+    ExitCode::from(status as u8)
 }
 
-// What is wrong with words that are no form.
-fn mistake_in(
-    alloc: Global,
-    words: &Result<Vec<String>, Status>,
-) -> Result<Option<String>, AllocError> {
-    match words {
-        Ok(words) => mistake(alloc, words),
-        Err(_) => no_text(alloc),
-    }
+// Does what the words ask for, and says what there is to say of it. Nobody may listen there, which changes nothing.
+fn run<R: AllocGlobal + Input + Print, K: Sink>(rt: &R, words: &[String], out: &mut K) -> Status {
+    let alloc = rt.alloc();
+    let mut source = CopiedSource::new(alloc, StdSource::new(rt.reader()));
+    let ended = plan(rt, words, &mut source);
+    let wrong = Wrong {
+        mistake: mistake(alloc, words),
+        help: HELP,
+    };
+    let (read, fault) = (source.copy(), &ended.fault);
+    let _ = tell_end(alloc, out, LOCKPLAN, ended.status, wrong, read, fault);
+    ended.status
+}
+
+// What the words ask for, to standard output.
+fn plan<R: AllocGlobal + Print, S: Source>(rt: &R, words: &[String], source: &mut S) -> Ended {
+    let mut sink = StdSink::new(io::writer(rt));
+    lockplan(rt.alloc(), words, source, &mut sink)
 }

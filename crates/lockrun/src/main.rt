@@ -8,8 +8,7 @@
 use command_line::{HELP, mistake, no_text};
 use lock_io::{OpenGate, Sink, StdSink, StdSource};
 use lock_top::{LOCKRUN, Served, Status, lockrun_served};
-use remarks::{tell, tell_usage};
-use std::alloc::{AllocError, Global};
+use remarks::{Wrong, tell_end};
 use std::io;
 use std::process::ExitCode;
 use std::sync::Wait;
@@ -18,14 +17,36 @@ use top_ends::given_words;
 
 fn main(rt: HostRuntime) -> ExitCode {
     let alloc = rt.alloc();
-    let words = given_words(&rt);
-    let served = match &words {
-        Ok(words) => serve(&rt, words),
-        Err(status) => Served::unread(alloc, *status),
-    };
     let mut out = StdSink::new(rt.stderr());
-    say_end(alloc, &mut out, &words, &served);
-    ExitCode::from(served.status as u8)
+    let status = match given_words(&rt) {
+        Ok(words) => run(&rt, &words, &mut out),
+        Err(status) => {
+            let wrong = Wrong {
+                mistake: no_text(alloc),
+                help: HELP,
+            };
+            let _ = tell_end(alloc, &mut out, LOCKRUN, status, wrong, None, b"");
+            status
+        }
+    };
+    ExitCode::from(status as u8)
+}
+
+// Does what the words ask for, and says what there is to say of it. Nobody may listen there, which changes nothing.
+fn run<R: AllocGlobal + Input + Print + Threads + Wait + Sync, K: Sink>(
+    rt: &R,
+    words: &[String],
+    out: &mut K,
+) -> Status {
+    let alloc = rt.alloc();
+    let served = serve(rt, words);
+    let wrong = Wrong {
+        mistake: mistake(alloc, words),
+        help: HELP,
+    };
+    let (source, text) = (served.source.as_deref(), &served.text);
+    let _ = tell_end(alloc, out, LOCKRUN, served.status, wrong, source, text);
+    served.status
 }
 
 // What the words ask for, of standard input and to standard output.
@@ -36,30 +57,4 @@ fn serve<R: AllocGlobal + Input + Print + Threads + Wait + Sync>(
     let mut source = StdSource::new(rt.reader());
     let mut sink = StdSink::new(io::writer(rt));
     lockrun_served(rt, rt.alloc(), words, &mut source, &mut sink, &OpenGate)
-}
-
-// What there is to say of that. Nobody may listen there, which changes nothing.
-fn say_end<K: Sink>(
-    alloc: Global,
-    out: &mut K,
-    words: &Result<Vec<String>, Status>,
-    served: &Served,
-) {
-    let _ = if served.status == Status::Usage {
-        tell_usage(alloc, out, LOCKRUN, mistake_in(alloc, words), HELP)
-    } else {
-        let source = served.source.as_deref();
-        tell(alloc, out, LOCKRUN, served.status, source, &served.text)
-    };
-}
-
-// What is wrong with words that are no form.
-fn mistake_in(
-    alloc: Global,
-    words: &Result<Vec<String>, Status>,
-) -> Result<Option<String>, AllocError> {
-    match words {
-        Ok(words) => mistake(alloc, words),
-        Err(_) => no_text(alloc),
-    }
 }
