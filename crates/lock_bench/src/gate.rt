@@ -83,8 +83,8 @@ impl<'a, R: Clock> TimingGate<'a, R> {
     /// The gate of a run in which each thread makes so many rounds.
     pub fn new(rt: &'a R, alloc: Global, case: Case, rounds: usize) -> Result<TimingGate<'a, R>> {
         let operations = rounds.saturating_mul(case.round.operations());
-        let mut times = Vec::new(alloc);
-        times.resize_with(operations.saturating_add(2), || AtomicU64::new(0))?;
+        let from = Instant::now(rt)?;
+        let times = no_times(alloc, operations.saturating_add(2))?;
         Ok(TimingGate {
             rt,
             case,
@@ -92,7 +92,7 @@ impl<'a, R: Clock> TimingGate<'a, R> {
             all: Meeting::new(case.threads),
             ends: Meeting::new(2),
             sleepers: Meeting::new(case.threads.saturating_sub(1)),
-            from: Instant::now(rt)?,
+            from,
             began: AtomicU64::new(u64::MAX),
             ended: AtomicU64::new(0),
             first_ended: AtomicU64::new(u64::MAX),
@@ -139,10 +139,24 @@ impl<'a, R: Clock> TimingGate<'a, R> {
 
     // When the last owner came to the operation behind the one that told of a loan: each of them made an entry.
     fn loan_seen(&self, history: &[Entry]) -> u64 {
-        let mut entries = history.iter().filter(|e| self.is_last_owner(e.thread));
-        let told = entries.position(|e| tells_of_a_loan(e.event));
-        let next = told.and_then(|told| self.times.get(told.saturating_add(1)));
-        next.map_or(0, |time| time.load(Ordering::SeqCst))
+        let mut entries: usize = 0;
+        for e in history {
+            if self.is_last_owner(e.thread) {
+                entries = entries.saturating_add(1);
+                if tells_of_a_loan(e.event) {
+                    return self.time_before(entries);
+                }
+            }
+        }
+        0
+    }
+
+    // When its thread came to that operation.
+    fn time_before(&self, operation: usize) -> u64 {
+        match self.times.get(operation) {
+            None => 0,
+            Some(time) => time.load(Ordering::SeqCst),
+        }
     }
 
     fn now(&self) -> u64 {
@@ -289,6 +303,15 @@ impl<R: Clock + Sync> Gate for TimingGate<'_, R> {
             Round::Chain => self.at_link(t, operation),
         }
     }
+}
+
+// Room for the times of so many operations.
+fn no_times(alloc: Global, operations: usize) -> Result<Vec<AtomicU64>> {
+    let mut times = Vec::new(alloc);
+    for _ in 0..operations {
+        times.push(AtomicU64::new(0))?;
+    }
+    Ok(times)
 }
 
 fn tells_of_a_loan(event: Event) -> bool {

@@ -14,7 +14,7 @@ const USUAL: u32 = 100;
 
 /// What a thread does in each round. It has a first lock and a second one: mutexes, or reader-writer locks where it
 /// reads or writes, or sx locks where it shares.
-#[derive(Clone, Copy, Debug, PartialEq, Eq)]
+#[derive(Clone, Copy, PartialEq, Eq)]
 pub enum Round {
     /// It takes the first, and gives it back.
     Bare,
@@ -50,7 +50,7 @@ pub enum Round {
 }
 
 /// A run that is timed: how many threads it has, over how many locks they are spread, and what they do.
-#[derive(Clone, Copy, Debug)]
+#[derive(Clone, Copy)]
 pub struct Case {
     pub name: &'static str,
     pub threads: usize,
@@ -91,8 +91,64 @@ pub const CASES: [(&str, usize, usize, Round); 29] = [
     ("chain_of_8_owners", 9, 8, Round::Chain),
 ];
 
+// What a thread does with a lock: how it takes it, what it does while it has it, and how it gives it back.
+#[derive(Clone, Copy)]
+struct Section {
+    take: &'static str,
+    within: Within,
+    release: &'static str,
+}
+
+#[derive(Clone, Copy)]
+enum Within {
+    Nothing,
+    // The number of the round is added to the value of a key.
+    Add,
+    // That value is read.
+    Get,
+}
+
+const BARE: Section = Section {
+    take: "lock",
+    within: Within::Nothing,
+    release: "unlock",
+};
+
+const EDIT: Section = Section {
+    within: Within::Add,
+    ..BARE
+};
+
+const READ: Section = Section {
+    take: "rlock",
+    within: Within::Nothing,
+    release: "runlock",
+};
+
+const GET: Section = Section {
+    within: Within::Get,
+    ..READ
+};
+
+const WRITE: Section = Section {
+    take: "wlock",
+    within: Within::Nothing,
+    release: "wunlock",
+};
+
+const CHANGE: Section = Section {
+    within: Within::Add,
+    ..WRITE
+};
+
+const SHARE: Section = Section {
+    take: "slock",
+    within: Within::Get,
+    release: "sunlock",
+};
+
 // What a thread does where threads wait on the condition: before all rounds, in each, and behind them.
-#[derive(Clone, Copy, Debug)]
+#[derive(Clone, Copy)]
 struct Part {
     first: &'static str,
     round: &'static str,
@@ -283,43 +339,66 @@ fn push_rounds(
     let b = a.saturating_add(case.locks);
     push_head(alloc, script, t, USUAL)?;
     for i in 0..rounds {
-        let round = round_of(alloc, case.round, case.is_last(t), (a, b), i)?;
-        script.push_str(&round)?;
+        push_round(alloc, script, case.round, case.is_last(t), (a, b), i)?;
     }
     script.push_str("show\nend\n")
 }
 
 // The round of that number of a thread with these two locks, which writes where others read if it is the last.
-fn round_of(
+fn push_round(
     alloc: Global,
+    script: &mut String,
     round: Round,
     is_last: bool,
     (a, b): (usize, usize),
     i: usize,
-) -> Result<String, AllocError> {
-    let key = i % KEYS;
+) -> Result<(), AllocError> {
     match round {
-        Round::Bare => format!(in alloc; "lock m{a}\nunlock m{a}\n"),
-        Round::Edit | Round::Long => {
-            format!(in alloc; "lock m{a}\nadd m{a} {key} {i}\nunlock m{a}\n")
+        Round::Bare => push_section(alloc, script, &BARE, a, i),
+        Round::Edit | Round::Long => push_section(alloc, script, &EDIT, a, i),
+        Round::Apart => {
+            push_section(alloc, script, &BARE, a, i)?;
+            push_section(alloc, script, &EDIT, b, i)
         }
-        Round::Apart => format!(in alloc;
-            "lock m{a}\nunlock m{a}\nlock m{b}\nadd m{b} {key} {i}\nunlock m{b}\n"
-        ),
-        Round::Nested => format!(in alloc;
-            "lock m{a}\nlock m{b}\nadd m{b} {key} {i}\nunlock m{b}\nunlock m{a}\n"
-        ),
-        Round::Read => format!(in alloc; "rlock m{a}\nrunlock m{a}\n"),
-        Round::Write => format!(in alloc; "wlock m{a}\nwunlock m{a}\n"),
-        Round::Mixed | Round::Waits if is_last => {
-            format!(in alloc; "wlock m{a}\nadd m{a} {key} {i}\nwunlock m{a}\n")
+        Round::Nested => {
+            push_of(alloc, script, "lock", a)?;
+            push_section(alloc, script, &EDIT, b, i)?;
+            push_of(alloc, script, "unlock", a)
         }
-        Round::Get | Round::Mixed | Round::Waits => {
-            format!(in alloc; "rlock m{a}\nget m{a} {key}\nrunlock m{a}\n")
-        }
-        Round::Share => format!(in alloc; "slock m{a}\nget m{a} {key}\nsunlock m{a}\n"),
-        Round::PingPong | Round::Broadcast | Round::Chain => Ok(String::new(alloc)),
+        Round::Read => push_section(alloc, script, &READ, a, i),
+        Round::Write => push_section(alloc, script, &WRITE, a, i),
+        Round::Mixed | Round::Waits if is_last => push_section(alloc, script, &CHANGE, a, i),
+        Round::Get | Round::Mixed | Round::Waits => push_section(alloc, script, &GET, a, i),
+        Round::Share => push_section(alloc, script, &SHARE, a, i),
+        Round::PingPong | Round::Broadcast | Round::Chain => Ok(()),
     }
+}
+
+// A section of a lock, in the round of that number.
+fn push_section(
+    alloc: Global,
+    script: &mut String,
+    section: &Section,
+    m: usize,
+    i: usize,
+) -> Result<(), AllocError> {
+    push_of(alloc, script, section.take, m)?;
+    match section.within {
+        Within::Nothing => {}
+        Within::Add => push_add(alloc, script, m, i)?,
+        Within::Get => push_get(alloc, script, m, i)?,
+    }
+    push_of(alloc, script, section.release, m)
+}
+
+fn push_add(alloc: Global, script: &mut String, m: usize, i: usize) -> Result<(), AllocError> {
+    let key = i % KEYS;
+    script.push_str(&format!(in alloc; "add m{m} {key} {i}\n")?)
+}
+
+fn push_get(alloc: Global, script: &mut String, m: usize, i: usize) -> Result<(), AllocError> {
+    let key = i % KEYS;
+    script.push_str(&format!(in alloc; "get m{m} {key}\n")?)
 }
 
 // A thread that has a part where threads wait on the condition.
@@ -365,7 +444,7 @@ fn push_link(
     }
 }
 
-// An operation of a mutex.
+// An operation of a lock.
 fn push_of(alloc: Global, script: &mut String, word: &str, m: usize) -> Result<(), AllocError> {
     script.push_str(&format!(in alloc; "{word} m{m}\n")?)
 }

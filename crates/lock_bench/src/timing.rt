@@ -19,7 +19,7 @@ const CHAINS: u32 = 1;
 
 /// What a run told: its nanoseconds, and of how many of 1,000 sections the one before, of the same lock, was another
 /// thread's.
-#[derive(Clone, Copy, Debug)]
+#[derive(Clone, Copy)]
 pub struct Figures {
     pub nanoseconds: u64,
     pub handovers: u64,
@@ -90,7 +90,9 @@ fn handovers(history: &[Entry]) -> u64 {
             && let Some(holder) = holders.get_mut(usize::from(l.0))
         {
             sections = sections.saturating_add(1);
-            if holder.is_some_and(|t| t != e.thread) {
+            if let Some(t) = *holder
+                && t != e.thread
+            {
                 others = others.saturating_add(1);
             }
             *holder = Some(e.thread);
