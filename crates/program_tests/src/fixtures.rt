@@ -1,14 +1,13 @@
-//! Command lines, scripts and ends as tests write them. In a command line `_` stands for a blank in a word, and in a
-//! script `;` for the end of a line.
-ghost use Rattle.std.specs.Prelude.{IfOk};
+//! Calls of programs, with their ends in memory, runs of plans, and the scripts that several subjects run.
 ghost use Rattle.lock_model.specs.Operations.{IsProper};
 
+use crate::briefs::{bytes_of, words_of};
 use complaints::Status;
+use floor_run::run_plan;
+use lock_history::Outcome;
 use lock_io::{Gate, MemSink, MemSource};
 use lock_model::Plan;
 use lock_top::lockrun;
-use script_laws::scripts::scripts_have_proper_plans;
-use script_read::read_script;
 use std::alloc::{AllocError, Global};
 use std::str;
 use std::sync::Wait;
@@ -20,122 +19,110 @@ pub(crate) fn check_row(row: &str, holds: bool) -> Result<(), Fail> {
     if holds { Ok(()) } else { Err(Fail::new(row)) }
 }
 
-/// The words of a line.
-pub(crate) fn words_of(alloc: Global, line: &str) -> Result<Vec<String>, Fail> {
-    let mut words = Vec::new(alloc);
-    push_words(&mut words, alloc, line)?;
-    Ok(words)
-}
-
-fn push_words(words: &mut Vec<String>, alloc: Global, line: &str) -> Result<(), AllocError> {
-    for word in line.split_whitespace() {
-        words.push(word.replace(alloc, "_", " ")?)?;
-    }
-    Ok(())
-}
-
-/// So many bytes `a`, and a script behind them.
-pub(crate) fn bytes_of(alloc: Global, script: &str, more: usize) -> Result<Vec<u8>, Fail> {
-    let mut bytes = vec![in alloc; b'a'; more]?;
-    bytes.extend_from_slice(script.replace(alloc, ";", "\n")?.as_bytes())?;
-    Ok(bytes)
-}
-
-/// A form with these numbers at its signs `%`, in their order, behind a script.
-pub(crate) fn push_form(
-    alloc: Global,
-    script: &mut String,
-    form: &str,
-    numbers: &[u32],
-) -> Result<(), AllocError> {
-    for (i, piece) in form.split('%').enumerate() {
-        script.push_str(piece)?;
-        if let Some(number) = numbers.get(i) {
-            push_number(alloc, script, *number)?;
-        }
-    }
-    Ok(())
-}
-
-fn push_number(alloc: Global, script: &mut String, number: u32) -> Result<(), AllocError> {
-    let digits = format!(in alloc; "{number}")?;
-    script.push_str(&digits)
-}
-
-/// A call of a program: the words; the script, and how many bytes `a` stand before it; at which call, from 0, the
-/// source and the sink fail. And what it is to give: the status and the text.
-pub(crate) type Case = (
-    &'static str,
-    &'static str,
-    usize,
-    u32,
-    u32,
-    Status,
-    &'static str,
-);
+/// A call of a program: the words and the script, and at which call, from 0, the source and the sink fail. And what it
+/// is to give: the status and the text.
+pub(crate) type Case = (&'static str, &'static str, u32, u32, Status, &'static str);
 
 /// No end is called that often.
 pub(crate) const NEVER: u32 = 1_000_000;
 
-/// A source with these bytes and an empty sink, which move 4 bytes a call and fail at these calls.
-pub(crate) fn ends(
-    alloc: Global,
-    bytes: Vec<u8>,
-    source_fails: u32,
-    sink_fails: u32,
-) -> Result<(MemSource, MemSink), Fail> {
-    let source = MemSource::new(bytes, 4, vec![in alloc; source_fails]?);
-    let sink = MemSink::new(alloc, 4096, 4, vec![in alloc; sink_fails]?)?;
-    Ok((source, sink))
+/// What a program is called with.
+pub(crate) struct Ends {
+    pub(crate) words: Vec<String>,
+    pub(crate) source: MemSource,
+    pub(crate) sink: MemSink,
 }
 
-/// The plan of a script.
-pub(crate) fn plan_of(alloc: Global, script: &str) -> Result<Plan, Fail>
-    ensures { IfOk result IsProper }
-{
-    scripts_have_proper_plans();
-    let bytes = bytes_of(alloc, script, 0)?;
-    match read_script(alloc, &bytes) {
-        Ok(plan) => Ok(plan),
-        Err(_) => Err("the bytes are a script".into()),
+impl Drop for Ends {
+    fn drop(self) {
+        let Ends {
+            words: _,
+            source: _,
+            sink: _,
+        } = self;
     }
 }
 
-/// The status of a call of `lockrun`, and its sink.
-pub(crate) fn call<R: Threads + Wait + Sync, G: Gate>(
-    rt: &R,
-    alloc: Global,
-    line: &str,
-    bytes: Vec<u8>,
-    source_fails: u32,
-    sink_fails: u32,
-    gate: &G,
-) -> Result<(Status, MemSink), Fail> {
-    let words = words_of(alloc, line)?;
-    let (mut source, mut sink) = ends(alloc, bytes, source_fails, sink_fails)?;
-    let status = lockrun(rt, alloc, &words, &mut source, &mut sink, gate);
-    Ok((status, sink))
+impl Ends {
+    /// The words of a line, a script as the source, and an empty sink. The ends move 4 bytes a call and fail at these.
+    pub(crate) fn failing(
+        alloc: Global,
+        line: &str,
+        script: &[&str],
+        source_fails: u32,
+        sink_fails: u32,
+    ) -> Result<Ends, AllocError> {
+        let words = words_of(alloc, line)?;
+        let source = source(alloc, script, source_fails)?;
+        let sink = sink(alloc, 2_000_000, sink_fails)?;
+        Ok(Ends {
+            words,
+            source,
+            sink,
+        })
+    }
+
+    /// The same, of ends that never fail.
+    pub(crate) fn new(alloc: Global, line: &str, script: &[&str]) -> Result<Ends, AllocError> {
+        Ends::failing(alloc, line, script, NEVER, NEVER)
+    }
+
+    /// The text that the sink holds; where its bytes aren't UTF-8, one that nobody wants.
+    pub(crate) fn text(&self) -> &str {
+        str::from_utf8(self.sink.bytes()).unwrap_or("no UTF-8")
+    }
+
+    /// Calls `lockrun`.
+    pub(crate) fn lockrun<R: Threads + Wait + Sync, G: Gate>(
+        &mut self,
+        rt: &R,
+        alloc: Global,
+        gate: &G,
+    ) -> Status {
+        lockrun(
+            rt,
+            alloc,
+            &self.words,
+            &mut self.source,
+            &mut self.sink,
+            gate,
+        )
+    }
 }
 
-/// The status of a run with ample room, and its sink.
-pub(crate) fn run<R: Threads + Wait + Sync, G: Gate>(
-    rt: &R,
-    alloc: Global,
-    script: &str,
-    gate: &G,
-) -> Result<(Status, MemSink), Fail> {
-    let bytes = bytes_of(alloc, script, 0)?;
-    call(rt, alloc, "run", bytes, NEVER, NEVER, gate)
+fn source(alloc: Global, script: &[&str], fails: u32) -> Result<MemSource, AllocError> {
+    let bytes = bytes_of(alloc, script)?;
+    Ok(MemSource::new(bytes, 4, vec![in alloc; fails]?))
 }
 
-/// The text that a sink holds; where its bytes aren't UTF-8, one that nobody wants.
-pub(crate) fn text_in(sink: &MemSink) -> &str {
-    str::from_utf8(sink.bytes()).unwrap_or("no UTF-8")
+/// An empty sink that has room for so many bytes. It takes 4 a call, and fails at this one.
+pub(crate) fn sink(alloc: Global, room: usize, fails: u32) -> Result<MemSink, AllocError> {
+    MemSink::new(alloc, room, 4, vec![in alloc; fails]?)
+}
+
+/// The outcome of a run of a plan's threads, and whether somebody was halted.
+pub(crate) fn outcome_of<R: Threads + Wait + Sync, G: Gate>(
+    rt: &R,
+    alloc: Global,
+    plan: &Plan,
+    gate: &G,
+) -> Result<(Outcome, bool), AllocError>
+    requires { IsProper plan.now }
+{
+    let (outcome, closing) = run_plan(rt, alloc, plan, 1, gate)?;
+    Ok((outcome, closing.halted()))
 }
 
 /// One thread that takes a mutex, sets a key of it, and releases it.
 pub(crate) const FIRST: &str =
     "lockrun 1;mutex m a;thread t 100;lock m;set m 1 5;unlock m;end;done;";
+
+/// As many bytes `a` as a source may have, and one more.
+pub(crate) const MOST: &str =
+    "[16384 aaaaaaaaaaaaaaaaaaaaaaaaaaaaaaaaaaaaaaaaaaaaaaaaaaaaaaaaaaaaaaaa]";
+
+pub(crate) const TOO_MANY: &str =
+    "[16384 aaaaaaaaaaaaaaaaaaaaaaaaaaaaaaaaaaaaaaaaaaaaaaaaaaaaaaaaaaaaaaaa]a";
 
 /// Two threads that take two mutexes in either order: the second is refused, and gives back what it holds.
 pub(crate) const REVERSED: &str = "lockrun 1;mutex a ka;mutex b kb;\

@@ -1,15 +1,14 @@
-//! A floor that is made for no script: two mutexes, an sx lock, and three threads.
-ghost use Rattle.std.specs.Prelude.{◌≡◌, ℕ, ◌<◌, ◌≤◌, [], length, IfOk};
+//! A floor that is made for no script: two mutexes, an sx lock, and three threads; and what is called on it.
+ghost use Rattle.std.specs.Prelude.{◌≡◌, ℕ, ◌<◌, length, IfOk};
 ghost use Rattle.adaptive_mutex.specs.Mutexes.{IsMutex};
 ghost use Rattle.floor_table.specs.Descriptions.{room_for, IsSized};
-ghost use Rattle.lock_floor.specs.Passes.{IsReady};
 ghost use Rattle.sx_lock.specs.SxLocks.{IsSxLock};
 
 use floor_table::{Description, LockPart, ThreadPart};
 use lock_floor::{Floor, Pass};
 use lock_model::{ClassNo, Kind, LockNo, Prio, Sequence};
-use std::alloc::Global;
-use std::test::Fail;
+use std::alloc::{AllocError, Global};
+use std::sync::Wait;
 
 pub(crate) const M: LockNo = LockNo(0);
 
@@ -24,27 +23,38 @@ const MEDIUM: Prio = Prio(100);
 
 pub(crate) const HIGH: Prio = Prio(50);
 
-/// A floor of these, which is made for no script, and the passes of the first two threads, which hold nothing yet.
-pub(crate) fn floor(alloc: Global) -> Result<(Floor, Pass, Pass), Fail>
-    ensures mutex { IfOk result (λ made. IsMutex made.0.description 0) }
-    ensures sx_lock { IfOk result (λ made. IsSxLock made.0.description 2) }
-    ensures one_chain { IfOk result (λ made. made.0.description.chains ≡ 1) }
-    ensures first { IfOk result (λ made. IsReady made.0 made.1
-        × (made.1.view.share.held ≡ []) × (1003 ≤ made.1.view.spare)) }
-    ensures second { IfOk result (λ made. IsReady made.0 made.2
-        × (made.2.view.share.held ≡ []) × (1003 ≤ made.2.view.spare)) }
-{
+/// What two threads call on such a floor, one behind another.
+pub(crate) trait Calls {
+    ghost use Rattle.std.specs.Prelude.{◌≡◌, ℕ, ◌<◌, ◌≤◌, [], length, slice_index_or};
+    ghost use Rattle.adaptive_mutex.specs.Mutexes.{IsMutex};
+    ghost use Rattle.lock_floor.specs.Passes.{IsReady};
+    ghost use Rattle.sx_lock.specs.SxLocks.{IsSxLock};
+
+    /// Makes the calls with the passes of the threads, which hold nothing yet, and tells whether each gave what it
+    /// should.
+    fn make<R: Wait>(&self, rt: &R, floor: &Floor, passes: &mut [Pass]) -> bool
+        requires m { IsMutex floor.now.description 0 }
+        requires s { IsSxLock floor.now.description 2 }
+        requires one_chain { floor.now.description.chains ≡ 1 }
+        requires each { (t : ℕ) (d : _) → t < length passes.old
+            → IsReady floor.now (slice_index_or passes.old t d)
+            × ((slice_index_or passes.old t d).view.share.held ≡ [])
+            × (1003 ≤ (slice_index_or passes.old t d).view.spare) };
+}
+
+/// Makes calls on a floor of their own.
+pub(crate) fn on_floor<R: Wait, C: Calls>(
+    rt: &R,
+    alloc: Global,
+    calls: &C,
+) -> Result<bool, AllocError> {
     let description = description(alloc)?;
     let (floor, _keeper, mut passes) = Floor::of_description(alloc, description)?;
-    let _third = passes.pop();
-    match (passes.pop(), passes.pop()) {
-        (Some(second), Some(first)) => Ok((floor, first, second)),
-        (_, None) | (None, _) => Err("a thread has no pass".into()),
-    }
+    Ok(calls.make(rt, &floor, passes.as_mut_slice()))
 }
 
 /// Two mutexes and an sx lock, and three threads with room for 1,003 entries each.
-pub(crate) fn description(alloc: Global) -> Result<Description, Fail>
+pub(crate) fn description(alloc: Global) -> Result<Description, AllocError>
     ensures sized { IfOk result IsSized }
     ensures m { IfOk result (λ floor. IsMutex floor 0) }
     ensures n { IfOk result (λ floor. IsMutex floor 1) }

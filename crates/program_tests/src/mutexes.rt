@@ -7,10 +7,10 @@ ghost use Rattle.lock_model.specs.declared.plan.Mode.TheVariants.{Excl};
 ghost use Rattle.adaptive_mutex.specs.Mutexes.{IsMutex};
 ghost use Rattle.lock_floor.specs.Passes.{IsReady};
 
-use crate::floors::{HIGH, LOW, M, N, description, floor};
+use crate::floors::{Calls, HIGH, LOW, M, N, description, on_floor};
 use adaptive_mutex::{lock, try_lock, unlock};
 use lock_floor::{Floor, Pass};
-use std::alloc::Global;
+use std::alloc::{AllocError, Global};
 use std::rt::Clock;
 use std::sync::Wait;
 use std::sync::atomic::{AtomicBool, Ordering};
@@ -27,13 +27,19 @@ const PAUSE: u64 = 5;
 
 #[test]
 fn a_try_tells_who_holds_the_mutex(rt: HostRuntime) -> Result<(), Fail> {
-    assert!(rt; tries_tell(&rt, rt.alloc())?);
+    assert!(rt; on_floor(&rt, rt.alloc(), &Tries)?);
     Ok(())
 }
 
-fn tries_tell<R: Wait>(rt: &R, alloc: Global) -> Result<bool, Fail> {
-    let (floor, mut first, mut second) = floor(alloc)?;
-    Ok(each_is_told(rt, &floor, &mut first, &mut second))
+struct Tries;
+
+impl Calls for Tries {
+    fn make<R: Wait>(&self, rt: &R, floor: &Floor, passes: &mut [Pass]) -> bool {
+        match passes {
+            [first, second, ..] => each_is_told(rt, floor, first, second),
+            [] | [_] => false,
+        }
+    }
 }
 
 // Whether a try tells the second thread that the first one holds m, and one tells the first that the second does; in
@@ -67,15 +73,16 @@ fn each_is_told<R: Wait>(rt: &R, floor: &Floor, first: &mut Pass, second: &mut P
 fn who_waits_lends_and_is_woken(rt: HostRuntime) -> Result<(), Fail> {
     let seen = Seen::new();
     meet(&rt, rt.alloc(), &seen)?;
-    assert!(rt; seen.low_gets_the_loan.load(Ordering::SeqCst));
-    assert!(rt; seen.medium_gains_behind_low.load(Ordering::SeqCst));
-    assert!(rt; seen.high_gains_behind_medium.load(Ordering::SeqCst));
-    assert!(rt; seen.the_loan_goes_home.load(Ordering::SeqCst));
+    assert!(rt; seen.all());
     Ok(())
 }
 
 // Runs the three threads on a floor of their own.
-fn meet<R: Threads + Wait + Clock + Sync>(rt: &R, alloc: Global, seen: &Seen) -> Result<(), Fail> {
+fn meet<R: Threads + Wait + Clock + Sync>(
+    rt: &R,
+    alloc: Global,
+    seen: &Seen,
+) -> Result<(), AllocError> {
     let description = description(alloc)?;
     let (floor, _keeper, mut passes) = Floor::of_description(alloc, description)?;
     work_all(rt, &floor, passes.as_mut_slice(), seen);
@@ -107,6 +114,14 @@ impl Seen {
             high_gains_behind_medium: AtomicBool::new(false),
             the_loan_goes_home: AtomicBool::new(false),
         }
+    }
+
+    // Whether all has been seen that is to be.
+    fn all(&self) -> bool {
+        self.low_gets_the_loan.load(Ordering::SeqCst)
+            && self.medium_gains_behind_low.load(Ordering::SeqCst)
+            && self.high_gains_behind_medium.load(Ordering::SeqCst)
+            && self.the_loan_goes_home.load(Ordering::SeqCst)
     }
 }
 

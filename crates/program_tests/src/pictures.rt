@@ -1,12 +1,10 @@
 //! Calls of `lockchart`: titles and windows as a user sees them, ends that fail, a source that is too big, words that
 //! are no form, and how what is written in each form begins and ends.
-use crate::fixtures::{Case, FIRST, NEVER, REVERSED, bytes_of, check_row, ends, words_of};
+use crate::fixtures::{Case, Ends, FIRST, MOST, NEVER, REVERSED, TOO_MANY, check_row};
 use chart_command::Form;
 use chart_layout::Chart;
-use chart_top::{Drawn, Heading, Renderer, lockchart, lockchart_by};
-use complaints::Status;
+use chart_top::{Heading, Renderer, lockchart, lockchart_by};
 use complaints::Status::{BadScript, Done, ReadFault, TooBig, Usage, WriteFault};
-use lock_io::{MemSink, MemSource};
 use lock_model::Plan;
 use run_tracks::Rows;
 use std::alloc::{AllocError, Global};
@@ -30,7 +28,7 @@ impl Renderer for Spelled {
         let Heading { title, subtitle } = heading;
         let (first, last, turns) = (chart.first, chart.last, chart.turns);
         let text = format!(in alloc; "{form:?} {first} {last} {turns} {title}/{subtitle}")?;
-        Vec::from_slice(alloc, text.as_bytes())
+        Ok(text.into_bytes())
     }
 }
 
@@ -77,7 +75,7 @@ const GIVEN: &[(&str, &str, &str)] = &[
 #[test]
 fn what_a_renderer_is_given(rt: HostRuntime) -> Result<(), Fail> {
     for &(line, script, text) in GIVEN {
-        let case = (line, script, 0, NEVER, NEVER, Done, text);
+        let case = (line, script, NEVER, NEVER, Done, text);
         check_row(line, gives(rt.alloc(), &case)?)?;
     }
     Ok(())
@@ -89,57 +87,39 @@ const FAULTY: &str = "lockrun 1;mutex m a;thread t 1;lock m;end;";
 // FIRST has 68 bytes: seventeen calls of the source, and one that finds its end. Its picture has 28 bytes: seven calls
 // of the sink, and the flush. The text of a case is what the sink holds in the end, or what is told of a faulty script.
 const CASES: &[Case] = &[
-    ("", FIRST, 0, 0, NEVER, ReadFault, ""),
-    ("", FIRST, 0, 8, NEVER, ReadFault, ""),
-    ("", FIRST, 0, 17, NEVER, ReadFault, ""),
-    ("", FIRST, 0, NEVER, 0, WriteFault, ""),
-    ("", FIRST, 0, NEVER, 1, WriteFault, "Svg "),
-    ("", FIRST, 0, NEVER, 2, WriteFault, "Svg 0 3 "),
-    ("", FIRST, 0, NEVER, 3, WriteFault, "Svg 0 3 3 A "),
-    ("", FIRST, 0, NEVER, 4, WriteFault, "Svg 0 3 3 A run "),
-    ("", FIRST, 0, NEVER, 5, WriteFault, "Svg 0 3 3 A run of 1"),
+    ("", FIRST, 0, NEVER, ReadFault, ""),
+    ("", FIRST, 8, NEVER, ReadFault, ""),
+    ("", FIRST, 17, NEVER, ReadFault, ""),
+    ("", FIRST, NEVER, 0, WriteFault, ""),
+    ("", FIRST, NEVER, 1, WriteFault, "Svg "),
+    ("", FIRST, NEVER, 2, WriteFault, "Svg 0 3 "),
+    ("", FIRST, NEVER, 3, WriteFault, "Svg 0 3 3 A "),
+    ("", FIRST, NEVER, 4, WriteFault, "Svg 0 3 3 A run "),
+    ("", FIRST, NEVER, 5, WriteFault, "Svg 0 3 3 A run of 1"),
+    ("", FIRST, NEVER, 6, WriteFault, "Svg 0 3 3 A run of 1 thr"),
     (
         "",
         FIRST,
-        0,
-        NEVER,
-        6,
-        WriteFault,
-        "Svg 0 3 3 A run of 1 thr",
-    ),
-    (
-        "",
-        FIRST,
-        0,
         NEVER,
         7,
         WriteFault,
         "Svg 0 3 3 A run of 1 thread/",
     ),
-    ("", "", 1_048_577, NEVER, NEVER, TooBig, ""),
-    (
-        "",
-        "",
-        1_048_576,
-        NEVER,
-        NEVER,
-        BadScript,
-        "line 1 code 1\n",
-    ),
+    ("", TOO_MANY, NEVER, NEVER, TooBig, ""),
+    ("", MOST, NEVER, NEVER, BadScript, "line 1 code 1\n"),
     (
         "--form html",
         FAULTY,
-        0,
         NEVER,
         NEVER,
         BadScript,
         "line 5 code 14\n",
     ),
     // Nothing is read, since the source would fail at its first call.
-    ("step", FIRST, 0, 0, NEVER, Usage, ""),
-    ("--from 2 --to 1", FIRST, 0, 0, NEVER, Usage, ""),
-    ("--form png", FIRST, 0, 0, NEVER, Usage, ""),
-    ("--help=svg", FIRST, 0, 0, NEVER, Usage, ""),
+    ("step", FIRST, 0, NEVER, Usage, ""),
+    ("--from 2 --to 1", FIRST, 0, NEVER, Usage, ""),
+    ("--form png", FIRST, 0, NEVER, Usage, ""),
+    ("--help=svg", FIRST, 0, NEVER, Usage, ""),
 ];
 
 #[test]
@@ -150,35 +130,24 @@ fn ends_in_memory(rt: HostRuntime) -> Result<(), Fail> {
     Ok(())
 }
 
-// Whether a call gives what its case says.
+// Whether a call with the renderer that spells gives what its case says.
 fn gives(alloc: Global, case: &Case) -> Result<bool, Fail> {
-    let (line, script, more, source_fails, sink_fails, status, text) = *case;
+    let (line, script, source_fails, sink_fails, status, text) = *case;
     let (held, fault) = if status == BadScript {
         ("", text)
     } else {
         (text, "")
     };
-    let bytes = bytes_of(alloc, script, more)?;
-    let (ended, sink) = call(alloc, line, bytes, source_fails, sink_fails)?;
-    Ok(
-        ended.status == status
-            && ended.fault.as_slice() == fault.as_bytes()
-            && sink.bytes() == held.as_bytes(),
-    )
-}
-
-// The end of a call with the renderer that spells, and its sink.
-fn call(
-    alloc: Global,
-    line: &str,
-    bytes: Vec<u8>,
-    source_fails: u32,
-    sink_fails: u32,
-) -> Result<(Drawn, MemSink), Fail> {
-    let words = words_of(alloc, line)?;
-    let (mut source, mut sink) = ends(alloc, bytes, source_fails, sink_fails)?;
-    let ended = lockchart_by(&Spelled, alloc, &words, &mut source, &mut sink);
-    Ok((ended, sink))
+    let mut ends = Ends::failing(alloc, line, &[script], source_fails, sink_fails)?;
+    let drawn = lockchart_by(
+        &Spelled,
+        alloc,
+        &ends.words,
+        &mut ends.source,
+        &mut ends.sink,
+    );
+    let told = drawn.status == status && drawn.fault.as_slice() == fault.as_bytes();
+    Ok(told && ends.text() == held)
 }
 
 const STUCK: &str = "lockrun 1;mutex m a;cond c m;thread t 100;lock m;wait c;unlock m;end;done;";
@@ -211,19 +180,10 @@ fn is_drawn(
     line: &str,
     script: &str,
     begins: &str,
-    ends: &str,
+    behind: &str,
 ) -> Result<bool, Fail> {
-    let bytes = bytes_of(alloc, script, 0)?;
-    let (status, sink) = called(alloc, line, bytes)?;
-    let text = sink.bytes();
-    Ok(status == Done && text.starts_with(begins.as_bytes()) && text.ends_with(ends.as_bytes()))
-}
-
-// The status of a call with ample room, and its sink.
-fn called(alloc: Global, line: &str, bytes: Vec<u8>) -> Result<(Status, MemSink), Fail> {
-    let words = words_of(alloc, line)?;
-    let mut source = MemSource::new(bytes, 4096, Vec::new(alloc));
-    let mut sink = MemSink::new(alloc, 1 << 20, 4096, Vec::new(alloc))?;
-    let ended = lockchart(alloc, &words, &mut source, &mut sink);
-    Ok((ended.status, sink))
+    let mut ends = Ends::new(alloc, line, &[script])?;
+    let drawn = lockchart(alloc, &ends.words, &mut ends.source, &mut ends.sink);
+    let text = ends.text();
+    Ok(drawn.status == Done && text.starts_with(begins) && text.ends_with(behind))
 }

@@ -1,7 +1,7 @@
 //! The rows of a worked script, with values worked out by hand.
 ghost use Rattle.lock_model.specs.Operations.{IsProper};
 
-use crate::fixtures::plan_of;
+use crate::briefs::plan_of;
 use lock_model::{Plan, Prio, ThreadNo};
 use run_rows::rows_of;
 use run_tracks::{Rows, ThreadRows, TurnRow};
@@ -24,7 +24,7 @@ fn pathfinder(rt: HostRuntime) -> Result<(), Fail> {
 }
 
 fn is_worked(alloc: Global) -> Result<bool, Fail> {
-    let plan = plan_of(alloc, PATHFINDER)?;
+    let plan = plan_of(alloc, &[PATHFINDER])?;
     has_rows(alloc, &plan)
 }
 

@@ -2,11 +2,10 @@
 //! halted, and the run is stuck. A gate holds one thread, where without it the order of the threads would be open.
 ghost use Rattle.lock_model.specs.Operations.{IsProper};
 
-use crate::fixtures::{FIRST, check_row, plan_of, push_form, run, text_in};
-use crate::holding::Holding;
-use complaints::Status;
+use crate::briefs::plan_of;
+use crate::fixtures::{Ends, FIRST, check_row, outcome_of};
+use crate::gates::Holding;
 use complaints::Status::{Done, Stuck};
-use floor_run::run_plan;
 use lock_history::Last;
 use lock_io::{Gate, OpenGate};
 use lock_model::Plan;
@@ -43,8 +42,9 @@ fn is_stuck_so<R: Threads + Wait + Sync>(
     script: &str,
     wanted: &str,
 ) -> Result<bool, Fail> {
-    let (status, sink) = run(rt, alloc, script, &OpenGate)?;
-    Ok(status == Stuck && status as u8 == 5 && text_in(&sink) == wanted)
+    let mut ends = Ends::new(alloc, "run", &[script])?;
+    let status = ends.lockrun(rt, alloc, &OpenGate);
+    Ok(status == Stuck && status as u8 == 5 && ends.text() == wanted)
 }
 
 // What is left of a floor tells that the halt word was set, and is the one that the run made.
@@ -63,7 +63,7 @@ fn ending<R: Threads + Wait + Sync>(
     alloc: Global,
     script: &str,
 ) -> Result<(Last, bool), Fail> {
-    let plan = plan_of(alloc, script)?;
+    let plan = plan_of(alloc, &[script])?;
     ending_of(rt, alloc, &plan)
 }
 
@@ -74,8 +74,8 @@ fn ending_of<R: Threads + Wait + Sync>(
 ) -> Result<(Last, bool), Fail>
     requires { IsProper plan.now }
 {
-    let (outcome, closing) = run_plan(rt, alloc, plan, 1, &OpenGate)?;
-    Ok((outcome.last, closing.halted()))
+    let (outcome, halted) = outcome_of(rt, alloc, plan, &OpenGate)?;
+    Ok((outcome.last, halted))
 }
 
 // A sleeps with s held. B waits for s, or had it before.
@@ -125,9 +125,13 @@ fn is_stuck<R: Threads + Wait + Sync, G: Gate>(
     gate: &G,
     threads: &[(&str, &str)],
 ) -> Result<bool, Fail> {
-    let (status, sink) = run(rt, alloc, script, gate)?;
-    let text = text_in(&sink);
-    Ok(status == Stuck && ends_with(text, "stuck") && all_say(text, threads))
+    let mut ends = Ends::new(alloc, "run", &[script])?;
+    let status = ends.lockrun(rt, alloc, gate);
+    Ok(status == Stuck && is_stuck_text(ends.text(), threads))
+}
+
+fn is_stuck_text(text: &str, threads: &[(&str, &str)]) -> bool {
+    ends_with(text, "stuck") && all_say(text, threads)
 }
 
 fn ends_with(text: &str, last: &str) -> bool {
@@ -143,67 +147,38 @@ fn all_say(text: &str, threads: &[(&str, &str)]) -> bool {
     true
 }
 
-// The script of so many threads that wait, and of one more behind them that wakes so often.
-fn waiting(alloc: Global, count: u32, wakes: u32, wake: &str) -> Result<String, AllocError> {
-    let mut script = String::new(alloc);
-    push_threads(alloc, &mut script, count, wakes, wake)?;
-    Ok(script)
-}
-
-fn push_threads(
-    alloc: Global,
-    script: &mut String,
-    count: u32,
-    wakes: u32,
-    wake: &str,
-) -> Result<(), AllocError> {
-    push_waiting(alloc, script, count)?;
-    if wakes > 0 {
-        push_waker(script, wakes, wake)?;
-    }
-    script.push_str("done;")
-}
-
-fn push_waiting(alloc: Global, script: &mut String, count: u32) -> Result<(), AllocError> {
-    script.push_str("lockrun 1;mutex m k;cond c m;")?;
-    for k in 0..count {
-        let form = "thread t% 100;lock m;wait c;unlock m;end;";
-        push_form(alloc, script, form, &[k])?;
-    }
-    Ok(())
-}
-
-fn push_waker(script: &mut String, wakes: u32, wake: &str) -> Result<(), AllocError> {
-    script.push_str("thread w 100;lock m;")?;
-    for _ in 0..wakes {
-        script.push_str(wake)?;
-    }
-    script.push_str("unlock m;end;")
-}
-
 // 32 threads wait, and nobody wakes them.
+const ALL_WAIT: &str = "lockrun 1;mutex m k;cond c m;\
+    [32 thread t# 100;lock m;wait c;unlock m;end;]done;";
+
 #[test]
 fn all_are_halted(rt: HostRuntime) -> Result<(), Fail> {
-    let script = waiting(rt.alloc(), 32, 0, "")?;
-    let (status, sink) = run(&rt, rt.alloc(), &script, &OpenGate)?;
-    assert!(rt; is_halted(rt.alloc(), status, text_in(&sink))?);
+    let mut ends = Ends::new(rt.alloc(), "run", &[ALL_WAIT])?;
+    let status = ends.lockrun(&rt, rt.alloc(), &OpenGate);
+    assert!(rt; status == Stuck && is_halted(rt.alloc(), ends.text())?);
     Ok(())
 }
 
-fn is_halted(alloc: Global, status: Status, text: &str) -> Result<bool, AllocError> {
-    let is_stuck = status == Stuck && ends_with(text, "stuck") && count_entries(text) == 128;
+fn is_halted(alloc: Global, text: &str) -> Result<bool, AllocError> {
     let each = each_says(alloc, text, 32, "lock m,wait c,halted c,unlock m,")?;
-    Ok(is_stuck && each)
+    Ok(each && ends_with(text, "stuck") && count_entries(text) == 128)
 }
 
 // 31 threads wait, and the last wakes them, by a broadcast or one by one. It begins once each of the others has come to
 // its wait: so they have given m back and sleep, or the last of them has m still, and the waker takes m behind it.
+const WAKERS: &[&str] = &[
+    "lockrun 1;mutex m k;cond c m;[31 thread t# 100;lock m;wait c;unlock m;end;]\
+        thread w 100;lock m;broadcast c;unlock m;end;done;",
+    "lockrun 1;mutex m k;cond c m;[31 thread t# 100;lock m;wait c;unlock m;end;]\
+        thread w 100;lock m;[31 signal c;]unlock m;end;done;",
+];
+
 #[test]
 fn one_wakes_all_others(rt: HostRuntime) -> Result<(), Fail> {
-    for &(wakes, wake) in &[(1, "broadcast c;"), (31, "signal c;")] {
+    for script in WAKERS {
         let gate = Holding::new(31, 31, 1);
-        let woken = all_are_woken(&rt, rt.alloc(), wakes, wake, &gate)?;
-        assert!(rt; woken && !gate.missed(), "{wake}");
+        let woken = all_are_woken(&rt, rt.alloc(), script, &gate)?;
+        check_row(script, woken && !gate.missed())?;
     }
     Ok(())
 }
@@ -211,18 +186,17 @@ fn one_wakes_all_others(rt: HostRuntime) -> Result<(), Fail> {
 fn all_are_woken<R: Threads + Wait + Sync>(
     rt: &R,
     alloc: Global,
-    wakes: u32,
-    wake: &str,
+    script: &str,
     gate: &Holding,
 ) -> Result<bool, Fail> {
-    let script = waiting(alloc, 31, wakes, wake)?;
-    let (status, sink) = run(rt, alloc, &script, gate)?;
-    are_woken(alloc, status, text_in(&sink))
+    let mut ends = Ends::new(alloc, "run", &[script])?;
+    let status = ends.lockrun(rt, alloc, gate);
+    Ok(status == Done && are_woken(alloc, ends.text())?)
 }
 
-fn are_woken(alloc: Global, status: Status, text: &str) -> Result<bool, Fail> {
+fn are_woken(alloc: Global, text: &str) -> Result<bool, AllocError> {
     let each = each_says(alloc, text, 31, "lock m,wait c,woke c,unlock m,")?;
-    Ok(status == Done && ends_with(text, "ok") && each)
+    Ok(each && ends_with(text, "ok"))
 }
 
 // Whether so many threads, t0 and so on, say that.
@@ -272,8 +246,9 @@ const CONSUMED: &str = "0 consumer xlock s\n1 consumer msleep items\n2 producer 
 #[test]
 fn a_producer_wakes_a_consumer(rt: HostRuntime) -> Result<(), Fail> {
     let gate = Holding::new(1, 1, 1);
-    let (status, sink) = run(&rt, rt.alloc(), PRODUCER, &gate)?;
-    assert!(rt; status == Done && text_in(&sink) == CONSUMED);
+    let mut ends = Ends::new(rt.alloc(), "run", &[PRODUCER])?;
+    let status = ends.lockrun(&rt, rt.alloc(), &gate);
+    assert!(rt; status == Done && ends.text() == CONSUMED);
     assert!(rt; !gate.missed());
     Ok(())
 }

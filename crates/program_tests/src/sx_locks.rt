@@ -3,22 +3,40 @@ ghost use Rattle.std.specs.Prelude.{◌≡◌, ◌≤◌, []};
 ghost use Rattle.lock_floor.specs.Passes.{IsReady};
 ghost use Rattle.sx_lock.specs.SxLocks.{IsSxLock};
 
-use crate::floors::{S, floor};
+use crate::floors::{Calls, S, on_floor};
 use lock_floor::{Floor, Pass};
-use std::alloc::Global;
 use std::sync::Wait;
 use std::test::Fail;
 use sx_lock::{slock, try_slock, try_xlock, unlock};
 
 #[test]
 fn two_threads_share_a_lock(rt: HostRuntime) -> Result<(), Fail> {
-    assert!(rt; two_share(&rt, rt.alloc())?);
+    assert!(rt; on_floor(&rt, rt.alloc(), &Sharing::Both)?);
     Ok(())
 }
 
-fn two_share<R: Wait>(rt: &R, alloc: Global) -> Result<bool, Fail> {
-    let (floor, mut first, mut second) = floor(alloc)?;
-    Ok(both_share(rt, &floor, &mut first, &mut second))
+#[test]
+fn a_try_tells_how_many_share_the_lock(rt: HostRuntime) -> Result<(), Fail> {
+    assert!(rt; on_floor(&rt, rt.alloc(), &Sharing::One)?);
+    Ok(())
+}
+
+// How many of two threads share the lock.
+enum Sharing {
+    Both,
+    One,
+}
+
+impl Calls for Sharing {
+    fn make<R: Wait>(&self, rt: &R, floor: &Floor, passes: &mut [Pass]) -> bool {
+        let [first, second, ..] = passes else {
+            return false;
+        };
+        match self {
+            Sharing::Both => both_share(rt, floor, first, second),
+            Sharing::One => one_shares(rt, floor, first, second),
+        }
+    }
 }
 
 // Whether the second thread shares the lock with the first one. It releases it.
@@ -38,17 +56,6 @@ fn both_share<R: Wait>(rt: &R, floor: &Floor, first: &mut Pass, second: &mut Pas
     }
     unlock(floor, rt, second, S);
     true
-}
-
-#[test]
-fn a_try_tells_how_many_share_the_lock(rt: HostRuntime) -> Result<(), Fail> {
-    assert!(rt; a_try_tells(&rt, rt.alloc())?);
-    Ok(())
-}
-
-fn a_try_tells<R: Wait>(rt: &R, alloc: Global) -> Result<bool, Fail> {
-    let (floor, mut first, mut second) = floor(alloc)?;
-    Ok(one_shares(rt, &floor, &mut first, &mut second))
 }
 
 // Whether a try tells the second thread that one shares the lock: the word of a lock that threads share has their

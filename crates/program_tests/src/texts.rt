@@ -1,8 +1,6 @@
 //! Calls of `lockrun`: what no file of `example_rows` can say. Ends that fail, a source that is too big, words that are
 //! no form, for which nothing is read, and threads that meet at a gate. And a thread that runs and is refused a take.
-use crate::fixtures::{
-    Case, FIRST, MEETINGS, NEVER, bytes_of, call, check_row, push_form, run, text_in,
-};
+use crate::fixtures::{Case, Ends, FIRST, MEETINGS, MOST, NEVER, TOO_MANY, check_row};
 use complaints::Status;
 use complaints::Status::{BadScript, Done, ReadFault, Reversed, TooBig, Usage, WriteFault};
 use lock_io::{Meeting, OpenGate};
@@ -17,52 +15,42 @@ const CASES: &[Case] = &[
     (
         "step",
         FIRST,
-        0,
         NEVER,
         NEVER,
         Done,
         "0 t lock m\n1 t set m 1 5\n2 t unlock m\nthread t base 100 eff 100\ntable m 1 5\nok\n",
     ),
-    ("step", FIRST, 0, NEVER, 2, WriteFault, "0 t lock"),
-    ("step", FIRST, 0, NEVER, 0, WriteFault, ""),
-    ("step", "lockrun 1;done;", 0, NEVER, 1, WriteFault, "ok\n"),
+    ("step", FIRST, NEVER, 2, WriteFault, "0 t lock"),
+    ("step", FIRST, NEVER, 0, WriteFault, ""),
+    ("step", "lockrun 1;done;", NEVER, 1, WriteFault, "ok\n"),
     (
         "step --turns 2",
         FIRST,
-        0,
         NEVER,
         3,
         WriteFault,
         "0 t lock m\n1",
     ),
-    ("check", FIRST, 0, NEVER, 2, WriteFault, "ok threa"),
-    ("--turns 1 run", FIRST, 0, NEVER, 2, WriteFault, "0 t lock"),
-    ("step", FIRST, 0, 1, NEVER, ReadFault, ""),
-    ("step", FIRST, 0, 17, NEVER, ReadFault, ""),
-    ("check", FIRST, 0, 1, NEVER, ReadFault, ""),
-    ("run", FIRST, 0, 1, NEVER, ReadFault, ""),
-    ("check", "", 1_048_577, NEVER, NEVER, TooBig, ""),
-    ("run", "", 1_048_577, NEVER, NEVER, TooBig, ""),
-    ("step", "", 1_048_577, NEVER, NEVER, TooBig, ""),
-    ("ticks", "", 1_048_577, NEVER, NEVER, TooBig, ""),
-    ("profile", "", 1_048_577, NEVER, NEVER, TooBig, ""),
-    (
-        "step",
-        "",
-        1_048_576,
-        NEVER,
-        NEVER,
-        BadScript,
-        "line 1 code 1\n",
-    ),
+    ("check", FIRST, NEVER, 2, WriteFault, "ok threa"),
+    ("--turns 1 run", FIRST, NEVER, 2, WriteFault, "0 t lock"),
+    ("step", FIRST, 1, NEVER, ReadFault, ""),
+    ("step", FIRST, 17, NEVER, ReadFault, ""),
+    ("check", FIRST, 1, NEVER, ReadFault, ""),
+    ("run", FIRST, 1, NEVER, ReadFault, ""),
+    ("check", TOO_MANY, NEVER, NEVER, TooBig, ""),
+    ("run", TOO_MANY, NEVER, NEVER, TooBig, ""),
+    ("step", TOO_MANY, NEVER, NEVER, TooBig, ""),
+    ("ticks", TOO_MANY, NEVER, NEVER, TooBig, ""),
+    ("profile", TOO_MANY, NEVER, NEVER, TooBig, ""),
+    ("step", MOST, NEVER, NEVER, BadScript, "line 1 code 1\n"),
     // Nothing is read, since the source would fail at its first call.
-    ("", FIRST, 0, 0, NEVER, Usage, ""),
-    ("run 1", FIRST, 0, 0, NEVER, Usage, ""),
-    ("walk", FIRST, 0, 0, NEVER, Usage, ""),
-    ("step step", FIRST, 0, 0, NEVER, Usage, ""),
-    ("step --help", FIRST, 0, 0, NEVER, Usage, ""),
-    ("step --turns 0", FIRST, 0, 0, NEVER, Usage, ""),
-    ("check --chains 65", FIRST, 0, 0, NEVER, Usage, ""),
+    ("", FIRST, 0, NEVER, Usage, ""),
+    ("run 1", FIRST, 0, NEVER, Usage, ""),
+    ("walk", FIRST, 0, NEVER, Usage, ""),
+    ("step step", FIRST, 0, NEVER, Usage, ""),
+    ("step --help", FIRST, 0, NEVER, Usage, ""),
+    ("step --turns 0", FIRST, 0, NEVER, Usage, ""),
+    ("check --chains 65", FIRST, 0, NEVER, Usage, ""),
 ];
 
 #[test]
@@ -75,10 +63,9 @@ fn ends_in_memory(rt: HostRuntime) -> Result<(), Fail> {
 
 // Whether a call gives what its case says.
 fn ends_so<R: Threads + Wait + Sync>(rt: &R, alloc: Global, case: &Case) -> Result<bool, Fail> {
-    let (line, script, more, source_fails, sink_fails, status, text) = *case;
-    let bytes = bytes_of(alloc, script, more)?;
-    let (answer, sink) = call(rt, alloc, line, bytes, source_fails, sink_fails, &OpenGate)?;
-    Ok(answer == status && sink.bytes() == text.as_bytes())
+    let (line, script, source_fails, sink_fails, status, text) = *case;
+    let mut ends = Ends::failing(alloc, line, &[script], source_fails, sink_fails)?;
+    Ok(ends.lockrun(rt, alloc, &OpenGate) == status && ends.text() == text)
 }
 
 // Threads run beside each other, and the text is that of their run.
@@ -87,10 +74,7 @@ fn threads_meet(rt: HostRuntime) -> Result<(), Fail> {
     for &(script, first, second, begins) in MEETINGS {
         let gate = Meeting::new(first, second);
         let begun = begins_so(&rt, rt.alloc(), script, &gate, begins)?;
-        assert!(rt;
-            begun && !gate.missed() && gate.came() == (2, 2),
-            "{begins}"
-        );
+        check_row(begins, begun && !gate.missed() && gate.came() == (2, 2))?;
     }
     Ok(())
 }
@@ -103,8 +87,8 @@ fn begins_so<R: Threads + Wait + Sync>(
     gate: &Meeting,
     begins: &str,
 ) -> Result<bool, Fail> {
-    let (status, sink) = run(rt, alloc, script, gate)?;
-    Ok(status == Done && sink.bytes().starts_with(begins.as_bytes()))
+    let mut ends = Ends::new(alloc, "run", &[script])?;
+    Ok(ends.lockrun(rt, alloc, gate) == Done && ends.text().starts_with(begins))
 }
 
 // A thread takes a and then b, gives both back, and then takes b: an order is known though nobody holds its locks. So
@@ -117,82 +101,51 @@ const REFUSED: &str = "0 t lock a\n1 t lock b\n2 t unlock b\n3 t unlock a\n4 t l
 
 #[test]
 fn a_thread_alone_in_both_orders(rt: HostRuntime) -> Result<(), Fail> {
-    let (status, sink) = run(&rt, rt.alloc(), BOTH_ORDERS, &OpenGate)?;
-    assert!(rt; is_refused(status, sink.bytes()));
+    let mut ends = Ends::new(rt.alloc(), "run", &[BOTH_ORDERS])?;
+    let status = ends.lockrun(&rt, rt.alloc(), &OpenGate);
+    assert!(rt; status == Reversed && status as u8 == 6 && ends.text() == REFUSED);
     Ok(())
 }
 
-fn is_refused(status: Status, text: &[u8]) -> bool {
-    status == Reversed && status as u8 == 6 && text == REFUSED.as_bytes()
-}
+// The scripts of five and of 32 philosophers, who each take the fork of their own number and the next one, the last of
+// them the first, and eat once. Each takes the one of his own number first,
+const FIVE: &str = "lockrun 1;[5 mutex f# c#;]\
+    [4 thread p# 100;lock f#;lock f+;add f# 1 1;unlock f+;unlock f#;end;]\
+    thread p4 100;lock f4;lock f0;add f4 1 1;unlock f0;unlock f4;end;done;";
 
-// The script of so many philosophers, who each take the fork of their own number and the next one, the last of them the
-// first, and eat once. Each takes the one of his own number first, or, in order, the lesser one.
-fn philosophers(alloc: Global, count: u32, in_order: bool) -> Result<String, AllocError> {
-    let mut script = String::new(alloc);
-    push_philosophers(alloc, &mut script, count, in_order)?;
-    Ok(script)
-}
+const MANY: &str = "lockrun 1;[32 mutex f# c#;]\
+    [31 thread p# 100;lock f#;lock f+;add f# 1 1;unlock f+;unlock f#;end;]\
+    thread p31 100;lock f31;lock f0;add f31 1 1;unlock f0;unlock f31;end;done;";
 
-fn push_philosophers(
-    alloc: Global,
-    script: &mut String,
-    count: u32,
-    in_order: bool,
-) -> Result<(), AllocError> {
-    script.push_str("lockrun 1;")?;
-    for k in 0..count {
-        push_form(alloc, script, "mutex f% c%;", &[k, k])?;
-    }
-    for k in 0..count {
-        let (first, second) = forks_of(count, k, in_order);
-        let form = "thread p% 100;lock f%;lock f%;add f% 1 1;unlock f%;unlock f%;end;";
-        push_form(alloc, script, form, &[k, first, second, k, second, first])?;
-    }
-    script.push_str("done;")
-}
+// or, in order, the lesser one.
+const FIVE_IN_ORDER: &str = "lockrun 1;[5 mutex f# c#;]\
+    [4 thread p# 100;lock f#;lock f+;add f# 1 1;unlock f+;unlock f#;end;]\
+    thread p4 100;lock f0;lock f4;add f4 1 1;unlock f4;unlock f0;end;done;";
 
-// Which fork a philosopher takes first, and which second.
-fn forks_of(count: u32, k: u32, in_order: bool) -> (u32, u32) {
-    let behind = k.saturating_add(1);
-    let next = if behind < count { behind } else { 0 };
-    if in_order && next < k {
-        (next, k)
-    } else {
-        (k, next)
-    }
-}
+const MANY_IN_ORDER: &str = "lockrun 1;[32 mutex f# c#;]\
+    [31 thread p# 100;lock f#;lock f+;add f# 1 1;unlock f+;unlock f#;end;]\
+    thread p31 100;lock f0;lock f31;add f31 1 1;unlock f31;unlock f0;end;done;";
 
-// How many philosophers there are, and whether they take their forks in order; and how many are refused.
-const TABLES: &[(u32, bool, u32)] = &[(5, false, 1), (32, false, 1), (5, true, 0), (32, true, 0)];
+// How many philosophers sit at each table and how many of them are refused, and how the run ends.
+const TABLES: &[(&str, u32, u32, Status, &str)] = &[
+    (FIVE, 5, 1, Reversed, "reversed"),
+    (MANY, 32, 1, Reversed, "reversed"),
+    (FIVE_IN_ORDER, 5, 0, Done, "ok"),
+    (MANY_IN_ORDER, 32, 0, Done, "ok"),
+];
 
 // Each asks once for a second fork while he holds his first, and what takes have taught stays. So where each takes his
 // own fork first, the last to ask would close the circle, whoever that is: he alone is refused, and the others eat. And
 // where all take them in order, nobody is.
 #[test]
 fn one_philosopher_is_refused(rt: HostRuntime) -> Result<(), Fail> {
-    for &(count, in_order, refused) in TABLES {
-        assert!(rt; dine(&rt, rt.alloc(), count, in_order, refused)?, "{count}");
+    for &(script, count, refused, status, last) in TABLES {
+        let mut ends = Ends::new(rt.alloc(), "run", &[script])?;
+        let ended = ends.lockrun(&rt, rt.alloc(), &OpenGate);
+        let eaten = is_eaten(ends.text(), count, refused, last);
+        check_row(script, ended == status && eaten)?;
     }
     Ok(())
-}
-
-// Whether so many philosophers dine, and so many of them are refused.
-fn dine<R: Threads + Wait + Sync>(
-    rt: &R,
-    alloc: Global,
-    count: u32,
-    in_order: bool,
-    refused: u32,
-) -> Result<bool, Fail> {
-    let script = philosophers(alloc, count, in_order)?;
-    let (status, sink) = run(rt, alloc, &script, &OpenGate)?;
-    let (end, last) = if in_order {
-        (Done, "ok")
-    } else {
-        (Reversed, "reversed")
-    };
-    Ok(status == end && is_eaten(text_in(&sink), count, refused, last))
 }
 
 // Whether so many of all philosophers were refused, and the others ate.

@@ -1,7 +1,8 @@
 //! What each turn of a scheduled run answers, turn after turn, in orders that no schedule asks for.
 ghost use Rattle.lock_model.specs.Operations.{IsProper};
 
-use crate::fixtures::{REVERSED, check_row, plan_of};
+use crate::briefs::plan_of;
+use crate::fixtures::{REVERSED, check_row};
 use lock_model::{Plan, StepKind, ThreadNo, Turn};
 use std::alloc::Global;
 use std::test::Fail;
@@ -143,7 +144,7 @@ fn turns_and_their_answers(rt: HostRuntime) -> Result<(), Fail> {
 
 // Whether the turns of a script's run have those answers.
 fn runs_so(alloc: Global, script: &str, turns: &[(u8, Turn)]) -> Result<bool, Fail> {
-    let plan = plan_of(alloc, script)?;
+    let plan = plan_of(alloc, &[script])?;
     plan_runs_so(alloc, &plan, turns)
 }
 

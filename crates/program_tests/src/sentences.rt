@@ -1,5 +1,6 @@
 //! What a program says on standard error: the sentence of each status.
 use crate::briefs::is_joined;
+use crate::fixtures::check_row;
 use complaints::{Program, Status, complaint, fixed_complaint, say, speaker};
 use lock_io::MemSink;
 use std::alloc::{AllocError, Global};
@@ -179,7 +180,7 @@ const SAID: &[(Status, &str, &str)] = &[
 #[test]
 fn sentences(rt: HostRuntime) -> Result<(), Fail> {
     for &(status, text, line) in SAID {
-        assert!(rt; is_said(rt.alloc(), status, text, line)?, "{line}");
+        check_row(line, is_said(rt.alloc(), status, text, line)?)?;
     }
     Ok(())
 }

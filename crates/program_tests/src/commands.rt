@@ -1,5 +1,6 @@
 //! Command lines that a user types, and what they say.
-use crate::briefs::words_of;
+use crate::briefs::{is_joined, words_of};
+use crate::fixtures::check_row;
 use chart_command::{Asked, Form, LockchartArgs};
 use command_line::{Command, LockrunArgs};
 use std::alloc::Global;
@@ -134,7 +135,7 @@ fn words_of_lockrun(rt: HostRuntime) -> Result<(), Fail> {
             chains,
             turns,
         };
-        assert!(rt; is_run(rt.alloc(), line, Ok(said))?, "{line}");
+        check_row(line, is_run(rt.alloc(), line, Ok(said))?)?;
     }
     Ok(())
 }
@@ -142,10 +143,10 @@ fn words_of_lockrun(rt: HostRuntime) -> Result<(), Fail> {
 #[test]
 fn no_words_of_lockrun(rt: HostRuntime) -> Result<(), Fail> {
     for &line in NO_RUNS {
-        assert!(rt;
+        check_row(
+            line,
             is_run(rt.alloc(), line, Err(command_line::WordsError::Usage))?,
-            "{line}"
-        );
+        )?;
     }
     Ok(())
 }
@@ -307,7 +308,7 @@ Usage: lockchart [--turns N] [--chains N] [--from A] [--to B] [--title TEXT] [--
 #[test]
 fn words_of_lockchart(rt: HostRuntime) -> Result<(), Fail> {
     for (line, said) in PICTURES {
-        assert!(rt; is_picture(rt.alloc(), line, said)?, "{line}");
+        check_row(line, is_picture(rt.alloc(), line, said)?)?;
     }
     Ok(())
 }
@@ -332,7 +333,7 @@ fn is_picture(alloc: Global, line: &str, said: &Said) -> Result<bool, Fail> {
 #[test]
 fn no_words_of_lockchart(rt: HostRuntime) -> Result<(), Fail> {
     for line in NO_PICTURES {
-        assert!(rt; is_no_picture(rt.alloc(), line)?, "{line}");
+        check_row(line, is_no_picture(rt.alloc(), line)?)?;
     }
     Ok(())
 }
@@ -346,18 +347,17 @@ fn is_no_picture(alloc: Global, line: &str) -> Result<bool, Fail> {
 #[test]
 fn help_of_lockchart(rt: HostRuntime) -> Result<(), Fail> {
     for line in HELPS {
-        assert!(rt; is_helped(rt.alloc(), line, HELP)?, "{line}");
+        check_row(line, is_helped(rt.alloc(), line, &[HELP])?)?;
     }
-    let version = format!(in rt.alloc(); "lockchart {}\n", chart_command::VERSION)?;
-    assert!(rt; is_helped(rt.alloc(), "--version", &version)?);
-    Ok(())
+    let version = ["lockchart ", chart_command::VERSION, "\n"];
+    check_row("--version", is_helped(rt.alloc(), "--version", &version)?)
 }
 
 // Whether words ask for help, which is that text.
-fn is_helped(alloc: Global, line: &str, help: &str) -> Result<bool, Fail> {
+fn is_helped(alloc: Global, line: &str, pieces: &[&str]) -> Result<bool, Fail> {
     let words = words_of(alloc, line)?;
     match chart_command::read_words(alloc, &words) {
-        Ok(Asked::Help(text)) => Ok(text.as_str() == help),
+        Ok(Asked::Help(text)) => Ok(is_joined(text.as_bytes(), pieces)),
         Ok(Asked::Picture(_)) | Err(_) => Ok(false),
     }
 }
@@ -426,10 +426,10 @@ const CHART_MISTAKES: &[(&str, &str)] = &[
 #[test]
 fn mistakes(rt: HostRuntime) -> Result<(), Fail> {
     for (line, mistake) in RUN_MISTAKES {
-        assert!(rt; is_run_mistake(rt.alloc(), line, mistake)?, "{line}");
+        check_row(line, is_run_mistake(rt.alloc(), line, mistake)?)?;
     }
     for (line, mistake) in CHART_MISTAKES {
-        assert!(rt; is_chart_mistake(rt.alloc(), line, mistake)?, "{line}");
+        check_row(line, is_chart_mistake(rt.alloc(), line, mistake)?)?;
     }
     Ok(())
 }
@@ -479,18 +479,22 @@ impl Env for Given {
     }
 }
 
-const GIVEN: &[&[&str]] = &[
-    &[],
-    &["lockrun"],
-    &["lockrun", "step"],
-    &["lockrun", "", "step", "step", "--turns", "3", "lockrun"],
+const GIVEN: &[(&str, &[&str])] = &[
+    ("nothing", &[]),
+    ("a name", &["lockrun"]),
+    ("a name and a word", &["lockrun", "step"]),
+    (
+        "a name and more words",
+        &["lockrun", "", "step", "step", "--turns", "3", "lockrun"],
+    ),
 ];
 
 #[test]
-fn words_of_the_system(rt: HostRuntime) {
-    for words in GIVEN {
-        assert!(rt; is_given(rt.alloc(), words), "of {} words", words.len());
+fn words_of_the_system(rt: HostRuntime) -> Result<(), Fail> {
+    for (row, words) in GIVEN {
+        check_row(row, is_given(rt.alloc(), words))?;
     }
+    Ok(())
 }
 
 // Whether all words but the first are given.
@@ -502,10 +506,11 @@ fn is_given(alloc: Global, words: &'static [&'static str]) -> bool {
 }
 
 fn are_behind_the_first(given: &[String], words: &[&str]) -> bool {
-    for (word, wanted) in given.iter().zip(words.iter().skip(1)) {
-        if word.as_str() != *wanted {
+    let (_, wanted) = words.split_at(words.len().min(1));
+    for (i, word) in given.iter().enumerate() {
+        if wanted.get(i) != Some(&word.as_str()) {
             return false;
         }
     }
-    given.len() == words.len().saturating_sub(1)
+    given.len() == wanted.len()
 }

@@ -1,5 +1,6 @@
 //! Logs, histories and tables, and printed texts.
 use crate::briefs::{is_joined, plan_of};
+use crate::fixtures::check_row;
 use lock_history::{History, Last, Log, Outcome, QueueLine, Tables, merge, print, print_fault};
 use lock_model::{
     ChanNo, ClassNo, Entry, Event, LockNo, Mode, Plan, Prio, QueueName, Sequence, ThreadNo,
@@ -66,24 +67,30 @@ const EDITS: &[(Event, u64, u64)] = &[
 
 #[test]
 fn edits(rt: HostRuntime) -> Result<(), Fail> {
-    let plan = plan_of(rt.alloc(), PLAN)?;
-    assert!(rt; names_one_key(rt.alloc(), &plan)?);
-    let tables = Tables::make(rt.alloc(), &plan)?;
-    assert!(rt; are_edited(tables)?);
+    assert!(rt; has_edits(rt.alloc())?);
     Ok(())
+}
+
+fn has_edits(alloc: Global) -> Result<bool, Fail> {
+    let plan = plan_of(alloc, &[PLAN])?;
+    Ok(names_one_key(alloc, &plan)? && has_edited(alloc, &plan)?)
 }
 
 fn names_one_key(alloc: Global, plan: &Plan) -> Result<bool, AllocError> {
     Ok(plan.keys_of(alloc, M)?.as_slice() == [1].as_slice())
 }
 
+fn has_edited(alloc: Global, plan: &Plan) -> Result<bool, AllocError> {
+    let mut tables = Tables::make(alloc, plan)?;
+    are_edited(&mut tables)
+}
+
 // Whether tables without a key have, behind each edit, the value that belongs to it, and m's key 1 first.
-fn are_edited(empty: Tables) -> Result<bool, AllocError> {
-    let mut tables = empty;
+fn are_edited(tables: &mut Tables) -> Result<bool, AllocError> {
     let mut edited = tables.get(M, 1) == None;
     for &(event, key, value) in EDITS {
         tables.edit(event)?;
-        edited = edited && has_values(&tables, key, value);
+        edited = edited && has_values(tables, key, value);
     }
     Ok(edited)
 }
@@ -95,15 +102,22 @@ fn has_values(tables: &Tables, key: u64, value: u64) -> bool {
 // A copy keeps the values that it has when the tables are edited that it was made of.
 #[test]
 fn a_copy_of_tables(rt: HostRuntime) -> Result<(), Fail> {
-    let tables = Tables::with_room(rt.alloc(), &[])?;
-    assert!(rt; are_copied(tables)?);
+    assert!(rt; has_copy(rt.alloc())?);
     Ok(())
 }
 
-fn are_copied(empty: Tables) -> Result<bool, AllocError> {
-    let mut tables = empty;
+fn has_copy(alloc: Global) -> Result<bool, AllocError> {
+    let mut tables = Tables::with_room(alloc, &[])?;
+    is_copied(&mut tables)
+}
+
+fn is_copied(tables: &mut Tables) -> Result<bool, AllocError> {
     tables.edit(set_to(5))?;
     let copy = tables.clone()?;
+    keeps_its_own(&copy, tables)
+}
+
+fn keeps_its_own(copy: &Tables, tables: &mut Tables) -> Result<bool, AllocError> {
     tables.edit(set_to(6))?;
     Ok((tables.get(M, 1), copy.get(M, 1)) == (Some(6), Some(5)))
 }
@@ -124,11 +138,15 @@ const WOKE: Entry = Entry {
 
 #[test]
 fn a_log_and_its_history(rt: HostRuntime) -> Result<(), Fail> {
-    let mut log = Log::make(rt.alloc(), 2)?;
-    log.put(WOKE);
-    assert!(rt; (log.len(), log.spare()) == (1, 1));
-    assert!(rt; has_one(&History::of_log(log)));
+    assert!(rt; has_one_entry(rt.alloc())?);
     Ok(())
+}
+
+fn has_one_entry(alloc: Global) -> Result<bool, AllocError> {
+    let mut log = Log::make(alloc, 2)?;
+    log.put(WOKE);
+    let counted = (log.len(), log.spare()) == (1, 1);
+    Ok(counted && has_one(&History::of_log(log)))
 }
 
 fn has_one(history: &History) -> bool {
@@ -343,11 +361,20 @@ const REST: &str = "\n1 u set s 0 8\n2 t set m 10 7\n3 u set m 9 255\n\
 
 #[test]
 fn texts_of_runs(rt: HostRuntime) -> Result<(), Fail> {
-    let plan = plan_of(rt.alloc(), PLAN)?;
+    let plan = plan_of(rt.alloc(), &[PLAN])?;
+    check_texts(rt.alloc(), &plan)
+}
+
+fn check_texts(alloc: Global, plan: &Plan) -> Result<(), Fail> {
     for ending in ENDINGS {
-        for row in WORDS {
-            assert!(rt; is_text(rt.alloc(), &plan, row, ending)?, "{}", row.1);
-        }
+        check_words(alloc, plan, ending)?;
+    }
+    Ok(())
+}
+
+fn check_words(alloc: Global, plan: &Plan, ending: &(Last, &str)) -> Result<(), Fail> {
+    for row in WORDS {
+        check_row(row.1, is_text(alloc, plan, row, ending)?)?;
     }
     Ok(())
 }
@@ -360,8 +387,22 @@ fn is_text(
     ending: &(Last, &str),
 ) -> Result<bool, AllocError> {
     let outcome = outcome_with(alloc, row.0, ending.0)?;
-    let text = print(alloc, plan, &outcome)?;
-    Ok(is_joined(&text, &["0 t ", row.1, REST, ending.1, "\n"]))
+    is_printed(
+        alloc,
+        plan,
+        &outcome,
+        &["0 t ", row.1, REST, ending.1, "\n"],
+    )
+}
+
+fn is_printed(
+    alloc: Global,
+    plan: &Plan,
+    outcome: &Outcome,
+    pieces: &[&str],
+) -> Result<bool, AllocError> {
+    let text = print(alloc, plan, outcome)?;
+    Ok(is_joined(&text, pieces))
 }
 
 #[test]

@@ -1,47 +1,51 @@
 //! Texts read and written whole, calls that fail, limits, and the adapters over std.
+use crate::fixtures::{check_row, sink};
 use lock_io::{
-    CopiedSink, Failed, MemSink, MemSource, ReadAllError, Sink, Source, StdSink, StdSource,
-    read_all, write_all,
+    CopiedSink, Failed, MemSource, ReadAllError, Sink, Source, StdSink, StdSource, read_all,
+    write_all,
 };
-use std::alloc::Global;
+use std::alloc::{AllocError, Global};
 use std::io;
 use std::io::{ErrorKind, Read, Write};
 use std::test::Fail;
 
 // The limit, the call that fails, and the answer, where ten bytes come in pieces of four.
-const READINGS: &[(usize, u32, Option<ReadAllError>)] = &[
-    (9, 9, Some(ReadAllError::TooBig)),
-    (10, 9, None),
-    (9, 1, Some(ReadAllError::Fault(Failed))),
-    (10, 3, Some(ReadAllError::Fault(Failed))),
+const READINGS: &[(&str, usize, u32, Option<ReadAllError>)] = &[
+    ("a byte too many", 9, 9, Some(ReadAllError::TooBig)),
+    ("as many bytes as may be", 10, 9, None),
+    (
+        "the second call fails",
+        9,
+        1,
+        Some(ReadAllError::Fault(Failed)),
+    ),
+    (
+        "the call at the end fails",
+        10,
+        3,
+        Some(ReadAllError::Fault(Failed)),
+    ),
 ];
 
-// The room, the call that fails, the answer, and the bytes that are held then.
-const WRITINGS: &[(usize, u32, Result<(), Failed>, &[u8])] = &[
-    (10, 9, Ok(()), b"0 t lock m"),
-    (20, 2, Err(Failed), b"0 t lock"),
-    (20, 0, Err(Failed), b""),
-    (6, 9, Err(Failed), b"0 t lo"),
-    (20, 3, Err(Failed), b"0 t lock m"),
+// The room, the call that fails, the answer, and the bytes that are held then, where ten go in pieces of four.
+type Writing = (&'static str, usize, u32, Result<(), Failed>, &'static [u8]);
+
+const WRITINGS: &[Writing] = &[
+    ("as much room as it needs", 10, 9, Ok(()), b"0 t lock m"),
+    ("the last write fails", 20, 2, Err(Failed), b"0 t lock"),
+    ("the first write fails", 20, 0, Err(Failed), b""),
+    ("too little room", 6, 9, Err(Failed), b"0 t lo"),
+    ("the flush fails", 20, 3, Err(Failed), b"0 t lock m"),
 ];
 
 #[test]
 fn ends_in_memory(rt: HostRuntime) -> Result<(), Fail> {
-    for &(limit, fails_at, error) in READINGS {
-        assert!(rt;
-            is_read(rt.alloc(), limit, fails_at, error)?,
-            "at the limit {limit}"
-        );
+    for &(row, limit, fails_at, error) in READINGS {
+        check_row(row, is_read(rt.alloc(), limit, fails_at, error)?)?;
     }
-    for &(room, fails_at, answer, held) in WRITINGS {
-        assert!(rt;
-            is_written(rt.alloc(), room, fails_at, answer, held)?,
-            "with room for {room}"
-        );
-        assert!(rt;
-            is_copied(rt.alloc(), room, fails_at, answer, held)?,
-            "copied, with room for {room}"
-        );
+    for row in WRITINGS {
+        check_row(row.0, is_written(rt.alloc(), row)?)?;
+        check_row(row.0, is_copied(rt.alloc(), row)?)?;
     }
     Ok(())
 }
@@ -57,27 +61,16 @@ fn is_read(
     Ok(read_all(alloc, &mut source, limit).err() == error)
 }
 
-fn is_written(
-    alloc: Global,
-    room: usize,
-    fails_at: u32,
-    answer: Result<(), Failed>,
-    held: &[u8],
-) -> Result<bool, Fail> {
-    let mut sink = MemSink::new(alloc, room, 4, vec![in alloc; fails_at]?)?;
+fn is_written(alloc: Global, row: &Writing) -> Result<bool, AllocError> {
+    let (_, room, fails_at, answer, held) = *row;
+    let mut sink = sink(alloc, room, fails_at)?;
     let written = write_all(&mut sink, b"0 t lock m");
     Ok(written == answer && sink.bytes() == held)
 }
 
-fn is_copied(
-    alloc: Global,
-    room: usize,
-    fails_at: u32,
-    answer: Result<(), Failed>,
-    held: &[u8],
-) -> Result<bool, Fail> {
-    let sink = MemSink::new(alloc, room, 4, vec![in alloc; fails_at]?)?;
-    let mut copied = CopiedSink::new(alloc, sink);
+fn is_copied(alloc: Global, row: &Writing) -> Result<bool, AllocError> {
+    let (_, room, fails_at, answer, held) = *row;
+    let mut copied = CopiedSink::new(alloc, sink(alloc, room, fails_at)?);
     let written = write_all(&mut copied, b"0 t lock m");
     Ok(written == answer && copied.copy() == held)
 }

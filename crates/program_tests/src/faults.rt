@@ -1,7 +1,8 @@
 //! The first fault of a script, and what its code means.
-use crate::briefs::{joined, script_of};
+use crate::briefs::bytes_of;
+use crate::fixtures::check_row;
 use script_read::{ReadError, meaning_of, read_script};
-use std::alloc::Global;
+use std::alloc::{AllocError, Global};
 use std::test::Fail;
 
 // How scripts begin, and how each goes on, with its first fault.
@@ -144,30 +145,35 @@ const FAULTS: &[(&str, &[&str])] = &[
 #[test]
 fn the_first_fault_of_a_script(rt: HostRuntime) -> Result<(), Fail> {
     for (head, rows) in FAULTS {
-        for row in *rows {
-            assert!(rt; has_fault(rt.alloc(), head, row)?, "{row}");
-        }
+        check_faults(rt.alloc(), head, rows)?;
+    }
+    Ok(())
+}
+
+fn check_faults(alloc: Global, head: &str, rows: &[&str]) -> Result<(), Fail> {
+    for row in rows {
+        check_row(row, has_fault(alloc, head, row)?)?;
     }
     Ok(())
 }
 
 // Whether the script of a row has the fault of that row.
-fn has_fault(alloc: Global, head: &str, row: &str) -> Result<bool, Fail> {
+fn has_fault(alloc: Global, head: &str, row: &str) -> Result<bool, AllocError> {
     match row.split_once(" => ") {
-        Some((tail, fault)) => is_said(alloc, &joined(alloc, &[head, tail])?, fault),
+        Some((tail, fault)) => is_said(alloc, &[head, tail], fault),
         None => Ok(false),
     }
 }
 
-fn is_said(alloc: Global, brief: &str, fault: &str) -> Result<bool, Fail> {
-    let script = script_of(alloc, brief)?;
-    match read_script(alloc, script.as_bytes()) {
+fn is_said(alloc: Global, script: &[&str], fault: &str) -> Result<bool, AllocError> {
+    let bytes = bytes_of(alloc, script)?;
+    match read_script(alloc, &bytes) {
         Err(error) => is_worded(alloc, &error, fault),
         Ok(_) => Ok(false),
     }
 }
 
-fn is_worded(alloc: Global, error: &ReadError, fault: &str) -> Result<bool, Fail> {
+fn is_worded(alloc: Global, error: &ReadError, fault: &str) -> Result<bool, AllocError> {
     let said = format!(in alloc; "{error}")?;
     Ok(said.as_str() == fault)
 }

@@ -1,5 +1,6 @@
 //! The plan of a script, and its canonical text.
-use crate::briefs::{joined, plan_of, script_of};
+use crate::briefs::{bytes_of, plan_of};
+use crate::fixtures::check_row;
 use lock_model::{ChanNo, ClassNo, Kind, LockNo, Mode, Op, Plan, Prio, ThreadNo};
 use script_read::write_script;
 use std::alloc::Global;
@@ -150,7 +151,7 @@ const OPERATIONS: &[(&str, &[Op])] = &[
 #[test]
 fn the_operations_of_a_thread(rt: HostRuntime) -> Result<(), Fail> {
     for (lines, operations) in OPERATIONS {
-        assert!(rt; are_operations(rt.alloc(), lines, operations)?, "{lines}");
+        check_row(lines, are_operations(rt.alloc(), lines, operations)?)?;
     }
     Ok(())
 }
@@ -162,13 +163,20 @@ const HEAD: &str =
 const TAIL: &str = "end;done;";
 
 fn are_operations(alloc: Global, lines: &str, operations: &[Op]) -> Result<bool, Fail> {
-    let script = joined(alloc, &[HEAD, lines, TAIL])?;
-    let plan = plan_of(alloc, &script)?;
+    let plan = plan_of(alloc, &[HEAD, lines, TAIL])?;
     Ok(plan.operations_of(ThreadNo(0)) == operations)
 }
 
+fn declares(alloc: Global) -> Result<bool, Fail> {
+    let plan = plan_of(alloc, &[DECLARING])?;
+    Ok(is_declared(&plan))
+}
+
+const DECLARING: &str = "lockrun 1;mutex m a;rw d b;sx s a;cond v m;chan z s;\
+    thread t 100;end;thread u 0;end;schedule u t;schedule u;done;";
+
 // Whether a plan has the kinds and classes of the locks m, d and s, the sorts and locks of the channels v and z, the
-// priorities of the threads t and u, and the schedule, as the script below declares them.
+// priorities of the threads t and u, and the schedule, as that script declares them.
 fn is_declared(plan: &Plan) -> bool {
     let ([m, d, s], [v, z], [t, u], [first, second, third]) = (
         plan.locks.as_slice(),
@@ -188,12 +196,7 @@ fn is_declared(plan: &Plan) -> bool {
 
 #[test]
 fn what_a_script_declares(rt: HostRuntime) -> Result<(), Fail> {
-    let plan = plan_of(
-        rt.alloc(),
-        "lockrun 1;mutex m a;rw d b;sx s a;cond v m;chan z s;\
-        thread t 100;end;thread u 0;end;schedule u t;schedule u;done;",
-    )?;
-    assert!(rt; is_declared(&plan));
+    assert!(rt; declares(rt.alloc())?);
     Ok(())
 }
 
@@ -228,23 +231,23 @@ const TEXTS: &[(&str, &str)] = &[
 #[test]
 fn the_canonical_text_of_a_plan(rt: HostRuntime) -> Result<(), Fail> {
     for (script, canonical) in TEXTS {
-        assert!(rt; is_canonical_of(rt.alloc(), canonical, script)?, "{script}");
-        assert!(rt;
+        check_row(script, is_canonical_of(rt.alloc(), canonical, script)?)?;
+        check_row(
+            canonical,
             is_canonical_of(rt.alloc(), canonical, canonical)?,
-            "{canonical}"
-        );
+        )?;
     }
     Ok(())
 }
 
 // Whether that is the canonical text of the plan of a script.
 fn is_canonical_of(alloc: Global, canonical: &str, script: &str) -> Result<bool, Fail> {
-    let plan = plan_of(alloc, script)?;
-    let written = write_script(alloc, &plan)?;
-    is_script(alloc, &written, canonical)
+    let wanted = bytes_of(alloc, &[canonical])?;
+    let plan = plan_of(alloc, &[script])?;
+    is_written(alloc, &plan, &wanted)
 }
 
-fn is_script(alloc: Global, bytes: &[u8], brief: &str) -> Result<bool, Fail> {
-    let script = script_of(alloc, brief)?;
-    Ok(bytes == script.as_bytes())
+fn is_written(alloc: Global, plan: &Plan, wanted: &[u8]) -> Result<bool, Fail> {
+    let written = write_script(alloc, plan)?;
+    Ok(written.as_slice() == wanted)
 }

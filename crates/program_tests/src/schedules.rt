@@ -1,11 +1,11 @@
-//! Calls of `lockplan`: schedules worked by hand, which every policy leaves as they are, some that are too long, and
-//! words that are no form. In a command line words have one blank between them, and in a script `;` stands for the end
-//! of a line.
+//! Calls of `lockplan`: schedules worked by hand from what the policies are, which every policy leaves as they are,
+//! some that are too long, and words that are no form.
+use crate::briefs::bytes_of;
+use crate::fixtures::{Ends, check_row};
 use complaints::Status::{BadScript, Done, TooLong, Usage};
 use complaints::{Status, complaint};
-use lock_io::{MemSink, MemSource};
-use plan_top::{Ended, LOCKPLAN, lockplan};
-use std::alloc::Global;
+use plan_top::{LOCKPLAN, lockplan};
+use std::alloc::{AllocError, Global};
 use std::test::Fail;
 
 // low has the bus before high and medium come.
@@ -41,7 +41,9 @@ const QUEUE: &str = "lockrun 1;mutex m k;thread a 30;lock m;unlock m;end;\
     thread b 20;lock m;show;unlock m;end;thread c 10;lock m;unlock m;end;";
 
 // By the words and a script without its last lines: its schedule lines, and those that are written.
-const WRITTEN: &[(&str, &str, &str, &str)] = &[
+type Written = (&'static str, &'static str, &'static str, &'static str);
+
+const WRITTEN: &[Written] = &[
     // high blocks and lends low its 10, so low goes on before medium, frees the bus and wakes high before medium has a
     // turn.
     (
@@ -119,36 +121,35 @@ const WRITTEN: &[(&str, &str, &str, &str)] = &[
     ("--by priority", "lockrun 1;", "", ""),
 ];
 
+const POLICIES: &[&str] = &[
+    "--by priority",
+    "--by priority --without-loans",
+    "--by chance 1",
+];
+
 #[test]
 fn schedules_by_hand(rt: HostRuntime) -> Result<(), Fail> {
-    for &(line, head, read, written) in WRITTEN {
-        let text = bytes_of(rt.alloc(), head, written)?;
-        let bytes = bytes_of(rt.alloc(), head, read)?;
-        assert!(rt; is_written(rt.alloc(), line, bytes, &text)?, "{line}");
-        assert!(rt; every_policy_leaves(rt.alloc(), &text)?, "{line}");
+    for row in WRITTEN {
+        check_row(row.0, is_written(rt.alloc(), row)?)?;
+        for policy in POLICIES {
+            let left = (*policy, row.1, row.3, row.3);
+            check_row(policy, is_written(rt.alloc(), &left)?)?;
+        }
     }
     Ok(())
 }
 
-// Whether a call is done, and writes that.
-fn is_written(alloc: Global, line: &str, bytes: Vec<u8>, text: &[u8]) -> Result<bool, Fail> {
-    let (ended, sink) = call(alloc, line, bytes)?;
-    Ok(ended.status == Done && ended.fault.is_empty() && sink.bytes() == text)
+// Whether a call is done, and writes those lines.
+fn is_written(alloc: Global, row: &Written) -> Result<bool, AllocError> {
+    let (line, head, read, written) = *row;
+    let text = bytes_of(alloc, &[head, written, "done;"])?;
+    writes(alloc, line, &[head, read, "done;"], &text)
 }
 
-// Whether each policy writes the script as it is: behind its schedule all threads have ended or are idle.
-fn every_policy_leaves(alloc: Global, text: &[u8]) -> Result<bool, Fail> {
-    for line in [
-        "--by priority",
-        "--by priority --without-loans",
-        "--by chance 1",
-    ] {
-        let bytes = Vec::from_slice(alloc, text)?;
-        if !is_written(alloc, line, bytes, text)? {
-            return Ok(false);
-        }
-    }
-    Ok(true)
+fn writes(alloc: Global, line: &str, script: &[&str], text: &[u8]) -> Result<bool, AllocError> {
+    let mut ends = Ends::new(alloc, line, script)?;
+    let ended = lockplan(alloc, &ends.words, &mut ends.source, &mut ends.sink);
+    Ok(ended.status == Done && ended.fault.is_empty() && ends.sink.bytes() == text)
 }
 
 // Words and a script that is read or not, and how the call ends.
@@ -176,35 +177,32 @@ const ENDS: &[(&str, &str, Status)] = &[
 #[test]
 fn ends_of_calls(rt: HostRuntime) -> Result<(), Fail> {
     for &(line, head, status) in ENDS {
-        let bytes = bytes_of(rt.alloc(), head, "")?;
-        let (ended, _) = call(rt.alloc(), line, bytes)?;
-        assert!(rt; ended.status == status, "{line}");
+        let mut ends = Ends::new(rt.alloc(), line, &[head, "done;"])?;
+        let ended = lockplan(rt.alloc(), &ends.words, &mut ends.source, &mut ends.sink);
+        check_row(line, ended.status == status)?;
     }
     Ok(())
 }
 
-// A script's first lines, a schedule line, and how often that stands: how a call ends. The first has 100,000 turns of
-// a, all but one of which do nothing, and none is left. The second has a turn of b behind them. The third has 58,839
-// names of 16 bytes in lines of eleven, and in lines of ten more bytes than a script may have.
-const LONG: &[(&str, &str, u32, Status)] = &[
+// How calls end. The first script has 100,000 turns of a, all but one of which do nothing, and none is left. The
+// second has a turn of b behind them. The third has 58,839 names of 16 bytes in lines of eleven, and in lines of ten
+// more bytes than a script may have.
+const LONG: &[(&str, Status)] = &[
     (
-        "lockrun 1;thread a 1;show;end;",
-        "schedule a a a a a a a a a a a a a a a a a a a a a a a a a a a a a a a a a a a a a a a a a a a a a a a a a a;",
-        2000,
+        "lockrun 1;thread a 1;show;end;[2000 schedule a a a a a a a a a a a a a a a a a a a a a a a a a \
+            a a a a a a a a a a a a a a a a a a a a a a a a a;]done;",
         Done,
     ),
     (
-        "lockrun 1;thread a 1;show;end;thread b 1;show;end;",
-        "schedule a a a a a a a a a a a a a a a a a a a a a a a a a a a a a a a a a a a a a a a a a a a a a a a a a a;",
-        2000,
+        "lockrun 1;thread a 1;show;end;thread b 1;show;end;[2000 schedule a a a a a a a a a a a a a a a \
+            a a a a a a a a a a a a a a a a a a a a a a a a a a a a a a a a a a a;]done;",
         TooLong,
     ),
     (
-        "lockrun 1;thread abcdefghijklmnop 1;show;end;",
-        "schedule abcdefghijklmnop abcdefghijklmnop abcdefghijklmnop abcdefghijklmnop abcdefghijklmnop \
+        "lockrun 1;thread abcdefghijklmnop 1;show;end;[5349 schedule \
             abcdefghijklmnop abcdefghijklmnop abcdefghijklmnop abcdefghijklmnop abcdefghijklmnop \
-            abcdefghijklmnop;",
-        5349,
+            abcdefghijklmnop abcdefghijklmnop abcdefghijklmnop abcdefghijklmnop abcdefghijklmnop \
+            abcdefghijklmnop;]done;",
         TooLong,
     ),
 ];
@@ -214,47 +212,17 @@ const TOO_LONG: &str = "lockplan: the schedule would have more than 100,000 entr
 
 #[test]
 fn schedules_that_are_too_long(rt: HostRuntime) -> Result<(), Fail> {
-    for &(head, line, times, status) in LONG {
-        let bytes = repeated(rt.alloc(), head, line, times)?;
-        assert!(rt; is_long_so(rt.alloc(), bytes, status)?, "{head}");
+    for &(script, status) in LONG {
+        check_row(script, ends_so(rt.alloc(), script, status)?)?;
     }
     let said = complaint(rt.alloc(), LOCKPLAN, TooLong, b"")?;
     assert!(rt; said.as_slice() == TOO_LONG.as_bytes());
     Ok(())
 }
 
-// A script of these lines, of which the second stands so often.
-fn repeated(alloc: Global, head: &str, line: &str, times: u32) -> Result<Vec<u8>, Fail> {
-    let mut script = String::from_str(alloc, head)?;
-    for _ in 0..times {
-        script.push_str(line)?;
-    }
-    bytes_of(alloc, &script, "")
-}
-
 // Whether a call ends so, and writes nothing where the schedule is too long.
-fn is_long_so(alloc: Global, bytes: Vec<u8>, status: Status) -> Result<bool, Fail> {
-    let (ended, sink) = call(alloc, "--by priority", bytes)?;
-    Ok(ended.status == status && sink.bytes().is_empty() == (status == TooLong))
-}
-
-// A script of these lines, and `done`.
-fn bytes_of(alloc: Global, head: &str, schedule: &str) -> Result<Vec<u8>, Fail> {
-    let mut bytes = Vec::new(alloc);
-    for part in [head, schedule, "done;"] {
-        bytes.extend_from_slice(part.replace(alloc, ";", "\n")?.as_bytes())?;
-    }
-    Ok(bytes)
-}
-
-// The end of a call, and its sink.
-fn call(alloc: Global, line: &str, bytes: Vec<u8>) -> Result<(Ended, MemSink), Fail> {
-    let mut words = Vec::new(alloc);
-    for word in line.split_whitespace() {
-        words.push(String::from_str(alloc, word)?)?;
-    }
-    let mut source = MemSource::new(bytes, 4096, Vec::new(alloc));
-    let mut sink = MemSink::new(alloc, 2_000_000, 4096, Vec::new(alloc))?;
-    let ended = lockplan(alloc, &words, &mut source, &mut sink);
-    Ok((ended, sink))
+fn ends_so(alloc: Global, script: &str, status: Status) -> Result<bool, AllocError> {
+    let mut ends = Ends::new(alloc, "--by priority", &[script])?;
+    let ended = lockplan(alloc, &ends.words, &mut ends.source, &mut ends.sink);
+    Ok(ended.status == status && ends.sink.bytes().is_empty() == (status == TooLong))
 }
