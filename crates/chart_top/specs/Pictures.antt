@@ -1,5 +1,5 @@
 -- Which text is a picture of a plan, and which belongs to the bytes of a source.
-use Rattle.std.specs.Prelude.{◌≡◌, ℕ, ◌-◌, Bool, false, nat_lt, List, length, min}
+use Rattle.std.specs.Prelude.{◌≡◌, ℕ, ◌-◌, Bool, false, nat_lt, length, min}
 use Rattle.chart_command.specs.Forms.{Wanted}
 use Rattle.chart_command.specs.declared.args.Form.{Form}
 use Rattle.chart_command.specs.declared.args.Form.TheVariants as written

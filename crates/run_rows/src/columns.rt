@@ -1,7 +1,7 @@
 //! The tracks of a run: of each thread, of each lock's word, and of the queues. Behind a turn that changed something
 //! each track notes what it is now, but for those of what other threads hold, since a turn changes only what its own
 //! thread holds.
-ghost use Rattle.std.specs.Prelude.{◌≡◌, ◌+◌, ◌<◌, ℕ, length, IfOk, OnOk};
+ghost use Rattle.std.specs.Prelude.{◌+◌, ◌<◌, ℕ, length, IfOk, OnOk};
 ghost use Rattle.lock_state.specs.Run.{Run};
 ghost use Rattle.run_rows.specs.Making.{OthersHoldOn};
 ghost use Rattle.run_tracks.specs.Rows.{IsThread, TellsColumns, TellsThread};

@@ -25,7 +25,8 @@ pub struct World<'p> {
     machine: Machine,
 }
 
-// One call, which the crates above cite. They would each prove again how every object in it is dropped, were it derived.
+// One call, which the crates above cite. They would each prove again how every object in it is dropped, were it
+// derived.
 impl Drop for World<'_> {
     fn drop(self) {
         let World {
