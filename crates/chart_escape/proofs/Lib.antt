@@ -1,4 +1,3 @@
-mod Escapes
 mod Numbers
 mod Readings
 mod Strings

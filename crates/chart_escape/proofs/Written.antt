@@ -1,7 +1,6 @@
 -- What is written of a value is JSON, in which no tag begins.
-use Rattle.std.proofs.Common.{ℕ, ◌+◌, ◌<◌, ◌≤◌, ◌≡◌, ◌∙◌, ◌++◌, ap, ap₂, refl, sym, Bool, true, false, not, ◌&&◌, ◌==◌, List, [], ◌∷◌, flat_map, Some, option_and_then, append_assoc, append-nil, codes, arith}
+use Rattle.std.proofs.Common.{ℕ, ◌+◌, ◌≤◌, ◌≡◌, ◌∙◌, ◌++◌, ap, refl, sym, Bool, true, false, List, [], ◌∷◌, flat_map, Some, option_and_then, append_assoc, append-nil, codes, arith}
 use Rattle.std.proofs.lemmas.Grind.{common_steps}
-use Rattle.std.specs.List.{list_all}
 use Rattle.std.proofs.lemmas.List.Folds.{list_all-append}
 use Rattle.json.proofs.Printed.Numbers.{lex-number}
 use Rattle.json.proofs.Printed.Trees.{value-json_tokens}
@@ -11,7 +10,7 @@ use Rattle.json.specs.Lex.{Place, after_comma, after_value, begins_colon, betwee
 use Rattle.json.specs.Token.{Token}
 use Rattle.json.specs.Tree.{depth, items_depth, items_tokens, json_tokens, members_tokens}
 use Rattle.json.specs.Word.{ends_word}
-use Rattle.chart_escape.proofs.Numbers.{is_number, number_passes}
+use Rattle.chart_escape.proofs.Numbers.{is_number, number_has_no_tag}
 use Rattle.chart_escape.proofs.Strings.{string_lexed}
 use Rattle.chart_escape.specs.Json.{json_byte, json_string, HasNoTag, IsReadBack}
 use Rattle.chart_escape.specs.Values.{Value, Number, String, Array, Object, Items, NoItems, Item, Members, NoMembers, Member, items, items_bytes, members_bytes, number_bytes, separator, told_from, text_bytes, value_bytes, IsJson}
@@ -47,14 +46,12 @@ record Ends (r : List ℕ) : Type 0 where
 items_end : (is : Items) (r : List ℕ) → Ends (items_bytes false is ++ r)
 unfolding lex
 items_end NoItems r = record { word = refl; colon = refl }
-items_end (Item true v is) r = record { word = refl; colon = refl }
-items_end (Item false v is) r = record { word = refl; colon = refl }
+items_end (Item own_line v is) r = record { word = grind arith; colon = grind arith }
 
 members_end : (ms : Members) (r : List ℕ) → Ends (members_bytes false ms ++ r)
 unfolding lex
 members_end NoMembers r = record { word = refl; colon = refl }
-members_end (Member true name v ms) r = record { word = refl; colon = refl }
-members_end (Member false name v ms) r = record { word = refl; colon = refl }
+members_end (Member own_line name v ms) r = record { word = grind arith; colon = grind arith }
 
 -- where a reader is before the separator of an item, and behind it
 abbrev before : Bool → Place
@@ -68,61 +65,43 @@ behind false = after_comma
 separator_read : (first own_line : Bool) (r : List ℕ)
     → punctuate (before first) (lex between (separator first own_line ++ r)) ≡ punctuate (behind first) (lex between r)
 unfolding lex punctuate
-separator_read true true r = refl
-separator_read true false r = refl
-separator_read false true r = refl
-separator_read false false r = refl
+separator_read first own_line r = grind arith
 
 name_read : (first : Bool) (name r : List ℕ)
     → punctuate (behind first) (lex between (json_string name ++ 58 ∷ r)) ≡ Token.key name ∷ punctuate fresh (lex between r)
 unfolding lex punctuate
-name_read true name r = ap (punctuate fresh) (string_lexed name (58 ∷ r))
-name_read false name r = ap (punctuate after_comma) (string_lexed name (58 ∷ r))
-
--- what stands behind a separator, one part behind the other
-after : (a b c d : List ℕ) → a ++ b ++ c ++ d ≡ a ++ (b ++ (c ++ d))
-after a b c d = append_assoc (a ++ b) c d ∙ append_assoc a b (c ++ d)
-
-joined : (ts us x y z : List Token) → x ≡ ts ++ y → y ≡ us ++ z → x ≡ ts ++ us ++ z
-joined ts us x y z e f = e ∙ ap (λ l. ts ++ l) f ∙ sym (append_assoc ts us z)
+name_read first name r = grind (arith, string_lexed name (58 ∷ r))
 
 mutual
   unfolding lex punctuate
 
   value_read : (first : Bool) (v : Value) (r : List ℕ) → Ends r
       → punctuate (behind first) (lex between (value_bytes v ++ r)) ≡ json_tokens (json_of v) ++ punctuate after_value (lex between r)
-  value_read true (Number n) r e = ap (punctuate fresh) (lex-number (number_bytes n) r (is_number n) e.word)
-  value_read false (Number n) r e = ap (punctuate after_comma) (lex-number (number_bytes n) r (is_number n) e.word)
-  value_read true (String text) r e = ap (punctuate fresh) (string_lexed text r) ∙ rw e.colon refl
-  value_read false (String text) r e = ap (punctuate after_comma) (string_lexed text r) ∙ rw e.colon refl
-  value_read true (Array is) r e = ap (λ ts. Token.begin_array ∷ ts) (items_read true is r)
-  value_read false (Array is) r e = ap (λ ts. Token.begin_array ∷ ts) (items_read true is r)
-  value_read true (Object ms) r e = ap (λ ts. Token.begin_object ∷ ts) (members_read true ms r)
-  value_read false (Object ms) r e = ap (λ ts. Token.begin_object ∷ ts) (members_read true ms r)
+  value_read first (Number n) r e = grind (arith, lex-number (number_bytes n) r (is_number n) e.word)
+  value_read first (String text) r e = grind (arith, string_lexed text r, e.colon)
+  value_read first (Array is) r e = grind (arith, items_read true is r)
+  value_read first (Object ms) r e = grind (arith, members_read true ms r)
 
   items_read : (first : Bool) (is : Items) (r : List ℕ)
       → punctuate (before first) (lex between (items_bytes first is ++ r)) ≡ items_tokens (json_items is) ++ punctuate after_value (lex between r)
-  items_read true NoItems r = refl
-  items_read false NoItems r = refl
+  items_read first NoItems r = grind arith
   items_read first (Item own_line v is) r =
       let rest = items_bytes false is ++ r in
-      ap (λ l. punctuate (before first) (lex between l)) (after (separator first own_line) (value_bytes v) (items_bytes false is) r)
-      ∙ separator_read first own_line (value_bytes v ++ rest)
-      ∙ joined (json_tokens (json_of v)) (items_tokens (json_items is)) _ _ _ (value_read first v rest (items_end is r)) (items_read false is r)
+      simp append_assoc
+      (separator_read first own_line (value_bytes v ++ rest) ∙ value_read first v rest (items_end is r)
+      ∙ ap (λ ts. json_tokens (json_of v) ++ ts) (items_read false is r))
 
   members_read : (first : Bool) (ms : Members) (r : List ℕ)
       → punctuate (before first) (lex between (members_bytes first ms ++ r)) ≡ members_tokens (json_members ms) ++ punctuate after_value (lex between r)
-  members_read true NoMembers r = refl
-  members_read false NoMembers r = refl
+  members_read first NoMembers r = grind arith
   members_read first (Member own_line name v ms) r =
       let rest = members_bytes false ms ++ r in
-      let named = json_string name ++ 58 ∷ (value_bytes v ++ rest) in
-      ap (λ l. punctuate (before first) (lex between l))
-      (after (separator first own_line ++ json_string name ++ codes ":") (value_bytes v) (members_bytes false ms) r
-      ∙ after (separator first own_line) (json_string name) (codes ":") (value_bytes v ++ rest))
-      ∙ separator_read first own_line named ∙ name_read first name (value_bytes v ++ rest)
+      rw (append_assoc, append_assoc, append_assoc, append_assoc)
+      (separator_read first own_line (json_string name ++ 58 ∷ (value_bytes v ++ rest))
+      ∙ name_read first name (value_bytes v ++ rest)
       ∙ ap (λ ts. Token.key name ∷ ts)
-      (joined (json_tokens (json_of v)) (members_tokens (json_members ms)) _ _ _ (value_read true v rest (members_end ms r)) (members_read false ms r))
+      (value_read true v rest (members_end ms r) ∙ ap (λ ts. json_tokens (json_of v) ++ ts) (members_read false ms r)
+      ∙ sym (append_assoc (json_tokens (json_of v)) (members_tokens (json_members ms)) _)))
 
 -- 3. JSON
 
@@ -149,34 +128,22 @@ numbered_is_shallow told k each i (x ∷ xs) = omega (arith, each i x, numbered_
 
 -- 4. No tag
 
-appended : (xs ys : List ℕ) → list_all (λ b. not (b == 60)) (xs ++ ys) ≡ (list_all (λ b. not (b == 60)) xs && list_all (λ b. not (b == 60)) ys)
-appended xs ys = list_all-append (λ b. not (b == 60)) xs ys
-
-both_have_none : (xs ys : List ℕ) → HasNoTag xs → HasNoTag ys → HasNoTag (xs ++ ys)
-both_have_none xs ys h k = appended xs ys ∙ ap₂ (λ a b. a && b) h k
-
 byte_has_none : (b : ℕ) → HasNoTag (json_byte b)
 byte_has_none b = grind (arith, common_steps)
 
 text_has_none : (text : List ℕ) → HasNoTag (flat_map json_byte text)
 text_has_none [] = refl
-text_has_none (b ∷ bs) = both_have_none (json_byte b) (flat_map json_byte bs) (byte_has_none b) (text_has_none bs)
+text_has_none (b ∷ bs) = simp (list_all-append, byte_has_none b, text_has_none bs) refl
 
 pub string_has_no_tag : (text : List ℕ) → HasNoTag (json_string text)
-string_has_no_tag text = both_have_none (flat_map json_byte text) (34 ∷ []) (text_has_none text) refl
-
-digit_has_none : (d : ℕ) → d < 10 → not (48 + d == 60) ≡ true
-digit_has_none d h = grind (arith, h)
+string_has_no_tag text = simp (list_all-append, text_has_none text) refl
 
 separator_has_none : (first own_line : Bool) → HasNoTag (separator first own_line)
-separator_has_none true true = refl
-separator_has_none true false = refl
-separator_has_none false true = refl
-separator_has_none false false = refl
+separator_has_none first own_line = grind arith
 
 mutual
   value_has_none : (v : Value) → HasNoTag (value_bytes v)
-  value_has_none (Number n) = number_passes (λ b. not (b == 60)) digit_has_none n
+  value_has_none (Number n) = number_has_no_tag n
   value_has_none (String text) = string_has_no_tag text
   value_has_none (Array is) = items_have_none true is
   value_has_none (Object ms) = members_have_none true ms
@@ -184,12 +151,18 @@ mutual
   items_have_none : (first : Bool) (is : Items) → HasNoTag (items_bytes first is)
   items_have_none first NoItems = refl
   items_have_none first (Item own_line v is) =
-      simp (appended, separator_has_none first own_line, value_has_none v, items_have_none false is) refl
+      simp (list_all-append, separator_has_none first own_line, value_has_none v, items_have_none false is) refl
 
   members_have_none : (first : Bool) (ms : Members) → HasNoTag (members_bytes first ms)
   members_have_none first NoMembers = refl
   members_have_none first (Member own_line name v ms) =
-      simp (appended, separator_has_none first own_line, text_has_none name, value_has_none v, members_have_none false ms) refl
+      simp (
+        list_all-append,
+        separator_has_none first own_line,
+        text_has_none name,
+        value_has_none v,
+        members_have_none false ms,
+      ) refl
 
 pub text_has_no_tag : (v : Value) → HasNoTag (text_bytes v)
-text_has_no_tag v = both_have_none (value_bytes v) (codes "\n") (value_has_none v) refl
+text_has_no_tag v = simp (list_all-append, value_has_none v) refl

@@ -15,12 +15,9 @@ written number (Optional (Some n)) = number n
 written number (Text text) = escaped text.now
 written number (Json text) = json_string text.now
 
-abbrev pub piece_bytes : Piece → List ℕ
-piece_bytes = written decimal
-
 -- in markup
 abbrev pub pieces_bytes : List Piece → List ℕ
-pieces_bytes pieces = flat_map piece_bytes pieces
+pieces_bytes pieces = flat_map (written decimal) pieces
 
 -- in JSON
 abbrev pub tokens_bytes : List Piece → List ℕ

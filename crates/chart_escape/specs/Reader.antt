@@ -46,17 +46,6 @@ is_letter b = nat_le 97 b && nat_le b 122
 abbrev pub is_of_reference : ℕ → Bool
 is_of_reference b = is_letter b || ((nat_le 48 b && nat_le b 57) || b == 35)
 
--- a tag begins at `<` and a reference at `&`, and no `>` stands in text; an attribute ends at its quote
-abbrev pub behind_text : Text → List (List ℕ) → ℕ → Reader
-behind_text Between elements b =
-    if b == 60 then at (InName []) elements else
-    if b == 38 then at (InReference Between) elements else
-    if b == 62 then at Broken elements else at (InText Between) elements
-behind_text (Quoted name) elements b =
-    if b == 39 then at (InTag name) elements else
-    if b == 38 then at (InReference (Quoted name)) elements else
-    if b == 60 || b == 62 then at Broken elements else at (InText (Quoted name)) elements
-
 -- an element begins
 abbrev pub opened : List ℕ → List (List ℕ) → Reader
 opened [] elements = at Broken elements
@@ -68,37 +57,34 @@ closed name [] = at Broken []
 closed name (last ∷ elements) =
     if is_same name last then at (InText Between) elements else at Broken (last ∷ elements)
 
--- behind a byte of a tag's name
-abbrev pub behind_name : List ℕ → List (List ℕ) → ℕ → Reader
-behind_name name elements b =
+-- where it is behind a byte: a tag begins at `<` and a reference at `&`, and no `>` stands in text; an attribute ends
+-- at its quote
+abbrev pub behind_byte : Place → List (List ℕ) → ℕ → Reader
+behind_byte (InText Between) elements b =
+    if b == 60 then at (InName []) elements else
+    if b == 38 then at (InReference Between) elements else
+    if b == 62 then at Broken elements else at (InText Between) elements
+behind_byte (InText (Quoted name)) elements b =
+    if b == 39 then at (InTag name) elements else
+    if b == 38 then at (InReference (Quoted name)) elements else
+    if b == 60 || b == 62 then at Broken elements else at (InText (Quoted name)) elements
+behind_byte (InReference text) elements b =
+    if is_of_reference b then at (InReference text) elements else
+    if b == 59 then at (InText text) elements else at Broken elements
+behind_byte (InName name) elements b =
     if is_letter b then at (InName (b ∷ name)) elements else
     if b == 62 then opened name elements else
     if b == 47 then at (if is_empty name then InClosing [] else AtSlash) elements else
     if b == 32 then at (InTag name) elements else at Broken elements
-
--- behind a byte of a tag
-abbrev pub behind_tag : List ℕ → List (List ℕ) → ℕ → Reader
-behind_tag name elements b =
+behind_byte (InTag name) elements b =
     if b == 39 then at (InText (Quoted name)) elements else
     if b == 62 then opened name elements else
     if b == 47 then at AtSlash elements else
     if b == 60 || (b == 38 || b == 34) then at Broken elements else at (InTag name) elements
-
--- behind a byte of a closing tag's name
-abbrev pub behind_closing : List ℕ → List (List ℕ) → ℕ → Reader
-behind_closing name elements b =
+behind_byte AtSlash elements b = if b == 62 then at (InText Between) elements else at Broken elements
+behind_byte (InClosing name) elements b =
     if is_letter b then at (InClosing (b ∷ name)) elements else
     if b == 62 then closed name elements else at Broken elements
-
-abbrev pub behind_byte : Place → List (List ℕ) → ℕ → Reader
-behind_byte (InText text) elements b = behind_text text elements b
-behind_byte (InReference text) elements b =
-    if is_of_reference b then at (InReference text) elements else
-    if b == 59 then at (InText text) elements else at Broken elements
-behind_byte (InName name) elements b = behind_name name elements b
-behind_byte (InTag name) elements b = behind_tag name elements b
-behind_byte AtSlash elements b = if b == 62 then at (InText Between) elements else at Broken elements
-behind_byte (InClosing name) elements b = behind_closing name elements b
 behind_byte Broken elements b = at Broken elements
 
 -- 3. Bytes
@@ -125,15 +111,10 @@ IsWellFormed bytes = read bytes ≡ at (InText Between) []
 
 -- 4. Pieces
 
--- a number, and text that is escaped, leave a reader of text in it
+-- a number, and text that is escaped, leave a reader of text in it; elsewhere their bytes are read as any
 abbrev pub behind_words : Place → List (List ℕ) → List ℕ → Reader
 behind_words (InText text) elements bytes = at (InText text) elements
-behind_words (InReference text) elements bytes = behind (at (InReference text) elements) bytes
-behind_words (InName name) elements bytes = behind (at (InName name) elements) bytes
-behind_words (InTag name) elements bytes = behind (at (InTag name) elements) bytes
-behind_words AtSlash elements bytes = behind (at AtSlash elements) bytes
-behind_words (InClosing name) elements bytes = behind (at (InClosing name) elements) bytes
-behind_words Broken elements bytes = behind (at Broken elements) bytes
+behind_words place elements bytes = behind (at place elements) bytes
 
 abbrev pub behind_piece : Reader → Piece → Reader
 behind_piece r (piece.Own text) = behind r text.now

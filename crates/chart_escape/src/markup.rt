@@ -12,7 +12,7 @@ use std::alloc::AllocError;
 /// ```
 /// push_text(&mut out, b"a < b")?; // a &lt; b
 /// ```
-#[tactic(auto, using(crate::proofs::Escapes::stays_text))]
+#[tactic(auto, using(crate::proofs::Readings::stays_text))]
 pub fn push_text(out: &mut Vec<u8>, text: &[u8]) -> Result<(), AllocError>
     ensures pushed { OnOk result (out.new.items ≡ out.old.items ++ escaped text.now) }
     ensures stays_text { StaysText (escaped text.now) }

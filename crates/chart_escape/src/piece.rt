@@ -1,7 +1,7 @@
 //! What a line of markup or JSON is made of.
 
 ghost use Rattle.std.specs.Prelude.{◌≡◌, ◌++◌, decimal, true, OnOk};
-ghost use Rattle.chart_escape.specs.Pieces.{piece_bytes, pieces_bytes, tokens_bytes, written};
+ghost use Rattle.chart_escape.specs.Pieces.{pieces_bytes, tokens_bytes, written};
 ghost use Rattle.chart_escape.specs.Reader.{behind_pieces, read, AddsElements, AreElements, IsBetweenTags};
 ghost use Rattle.chart_escape.specs.Values.{number_bytes, separator};
 
@@ -73,7 +73,7 @@ fn push_all(out: &mut Vec<u8>, pieces: &[Piece<'_>]) -> Result<(), AllocError>
 }
 
 fn push_piece(out: &mut Vec<u8>, piece: Piece<'_>) -> Result<(), AllocError>
-    ensures pushed { OnOk result (out.new.items ≡ out.old.items ++ piece_bytes piece.entry) }
+    ensures pushed { OnOk result (out.new.items ≡ out.old.items ++ written decimal piece.entry) }
     ensures told { OnOk result (out.new.items ≡ out.old.items ++ written number_bytes piece.entry) }
 {
     match piece {

@@ -33,10 +33,7 @@ fn push_byte(out: &mut Vec<u8>, byte: u8) -> Result<(), AllocError>
         b'"' => out.extend_from_slice(b"\\\""),
         b'\\' => out.extend_from_slice(b"\\\\"),
         0..=31 | b'<' => push_number(out, byte),
-        _ => {
-            out.push(byte)?;
-            Ok(())
-        }
+        _ => out.extend_from_slice(&[byte]),
     }
 }
 
@@ -45,9 +42,7 @@ fn push_number(out: &mut Vec<u8>, byte: u8) -> Result<(), AllocError>
     ensures { OnOk result (out.new.items ≡ out.old.items ++ by_number byte) }
 {
     out.extend_from_slice(b"\\u00")?;
-    out.push(digit(byte / 16))?;
-    out.push(digit(byte % 16))?;
-    Ok(())
+    out.extend_from_slice(&[digit(byte / 16), digit(byte % 16)])
 }
 
 fn digit(n: u8) -> u8

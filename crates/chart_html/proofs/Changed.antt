@@ -1,5 +1,5 @@
 -- The changes of a column: what they tell in each row.
-use Rattle.std.proofs.Common.{◌≡◌, ℕ, suc, ◌<◌, ◌≤◌, Bool, true, false, cond, List, [], ◌∷◌, Option, Some, None, refl, sym, ap, inl, inr, arith, ◌∙◌}
+use Rattle.std.proofs.Common.{◌≡◌, ℕ, suc, ◌<◌, Bool, true, cond, List, [], ◌∷◌, Option, Some, None, refl, sym, ap, inl, inr, arith, ◌∙◌}
 use Rattle.std.specs.Prelude.{fold, option_map, slice_get}
 use Rattle.std.specs.List.{All}
 use Rattle.std.proofs.lemmas.Bool.{cases_Bool, cases_lt, le-leb}
@@ -23,28 +23,27 @@ module _ {T : Type 0} (tells : T → List ℕ) where
   all_changed : (P : ℕ × T → Type 0) (last : Option (List ℕ)) (rows : List (ℕ × T)) → All P rows → All P (changed tells last rows)
   all_changed P last [] h = h
   all_changed P last (x ∷ rows) h =
-      go (is_told last (tells x.1)) (all_changed P last rows later) (all_changed P (Some (tells x.1)) rows later)
-    where
-      later : All P rows
-      later k d l = h (suc k) d (omega arith)
-
-      go : (b : Bool) → All P (changed tells last rows) → All P (changed tells (Some (tells x.1)) rows)
-          → All P (cond b (changed tells last rows) (x ∷ changed tells (Some (tells x.1)) rows))
-      go true told new = told
-      go false told new = All-cons P x (changed tells (Some (tells x.1)) rows) (h 0 x (omega arith)) new
+      let later : All P rows = λ k d l. h (suc k) d (omega arith) in
+      elim (cases_Bool (is_told last (tells x.1))) [
+        | inl so ↦ rw so (all_changed P last rows later)
+        | inr not ↦
+            let new = all_changed P (Some (tells x.1)) rows later in
+            rw not (All-cons P x (changed tells (Some (tells x.1)) rows) (h 0 x (omega arith)) new)
+      ]
 
   -- so they ascend too
   ascend : (last : Option (List ℕ)) (rows : List (ℕ × T)) → Ascend rows → Ascend (changed tells last rows)
   ascend last [] up = up
   ascend last (x ∷ rows) up =
-      go (is_told last (tells x.1)) (ascend last rows (rest_ascends x rows up)) (ascend (Some (tells x.1)) rows (rest_ascends x rows up))
-    where
-      go : (b : Bool) → Ascend (changed tells last rows) → Ascend (changed tells (Some (tells x.1)) rows)
-          → Ascend (cond b (changed tells last rows) (x ∷ changed tells (Some (tells x.1)) rows))
-      go true told new = told
-      go false told new =
-          AllPairs-cons (λ change later. change.0 < later.0) x (changed tells (Some (tells x.1)) rows)
-          (all_changed (λ y. x.0 < y.0) (Some (tells x.1)) rows (λ k d l. up 0 (suc k) d (omega arith) (omega arith))) new
+      let rest = rest_ascends x rows up in
+      let above = all_changed (λ y. x.0 < y.0) (Some (tells x.1)) rows
+      (λ k d l. up 0 (suc k) d (omega arith) (omega arith)) in
+      elim (cases_Bool (is_told last (tells x.1))) [
+        | inl so ↦ rw so (ascend last rows rest)
+        | inr not ↦
+            rw not (AllPairs-cons (λ change later. change.0 < later.0) x (changed tells (Some (tells x.1)) rows) above
+            (ascend (Some (tells x.1)) rows rest))
+      ]
 
   pub is_track : (rows : List (ℕ × T)) → IsTrack rows → IsTrack (changed tells None rows)
   is_track rows h = record { begins = begins rows h.begins; ascends = ascend None rows h.ascends }
@@ -73,13 +72,10 @@ module _ {T : Type 0} (tells : T → List ℕ) where
         let here : (o : Option T) → replaced n o x ≡ Some x.1 = λ o. ap (λ (b : Bool). cond b (Some x.1) o) (le-leb x.0 n l) in
         let theirs = ap (λ o. told_by n o rows) (sym (here its)) in
         elim (cases_Bool (is_told last (tells x.1))) [
-          | inl so ↦
-              ap (λ (b : Bool). told_by n mine (cond b (changed tells last rows) (x ∷ changed tells (Some (tells x.1)) rows))) so
-              ∙ agree n last mine (Some x.1) rows rest is (told_is last (tells x.1) so) ∙ theirs
+          | inl so ↦ rw so (agree n last mine (Some x.1) rows rest is (told_is last (tells x.1) so) ∙ theirs)
           | inr not ↦
-              ap (λ (b : Bool). told_by n mine (cond b (changed tells last rows) (x ∷ changed tells (Some (tells x.1)) rows))) not
-              ∙ ap (λ o. told_by n o (changed tells (Some (tells x.1)) rows)) (here mine)
-              ∙ agree n (Some (tells x.1)) (Some x.1) (Some x.1) rows rest refl refl ∙ theirs
+              rw not (ap (λ o. told_by n o (changed tells (Some (tells x.1)) rows)) (here mine)
+              ∙ agree n (Some (tells x.1)) (Some x.1) (Some x.1) rows rest refl refl ∙ theirs)
         ]
   ]
     where

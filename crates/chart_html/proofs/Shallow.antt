@@ -33,11 +33,7 @@ hold_is (Some Shared) = omega arith
 
 cell_is : (plan : Plan) (column : Column) (row : ThreadRow) → IsShallow 0 (cell plan column row)
 cell_is plan columns.Base row = omega arith
-cell_is plan columns.Runs row = omega arith
-cell_is plan columns.Wait row = omega arith
-cell_is plan columns.On row = omega arith
-cell_is plan columns.Stands row = omega arith
-cell_is plan columns.Walk row = omega arith
+cell_is plan other row = omega arith
 
 column_is : (plan : Plan) (column : Column) (rows : List (ℕ × ThreadRow)) → IsShallow 2 (column_track plan column rows)
 column_is plan column rows = track_is (cell plan column) (cell_is plan column) (changed (told plan column) None rows)

@@ -4,8 +4,7 @@ ghost use Rattle.chart_escape.specs.Values.{value_bytes, IsJson};
 ghost use Rattle.chart_html.specs.Data.{data_bytes, data_value, done_words, kind_word, lock, mark, sentence};
 
 use crate::edits::push_edits;
-use crate::items::{Known, Listed, push_items};
-use chart_escape::{Piece, push_tokens};
+use crate::items::{Known, Listed, push_items, push_with_number, push_with_string};
 use chart_layout::{Chart, MarkKind, Sentence, TurnMark};
 use chart_words::{push_mark, push_note, push_sentence, push_words};
 use lock_model::{Kind, LockDecl, Plan};
@@ -37,15 +36,8 @@ fn push_data(out: &mut Vec<u8>, known: &Known<'_>) -> Result<(), AllocError>
         ++ value_bytes (data_value known.now.plan.now known.now.rows.now known.now.chart.now)) }
 {
     let (plan, rows, chart) = (known.plan, known.rows, known.chart);
-    push_tokens(
-        out,
-        &[
-            Piece::Own("{\"first\":"),
-            Piece::Number(u64::from(chart.first)),
-            Piece::Own(",\"last\":"),
-            Piece::Number(u64::from(chart.last)),
-        ],
-    )?;
+    push_with_number(out, "{\"first\":", u64::from(chart.first))?;
+    push_with_number(out, ",\"last\":", u64::from(chart.last))?;
     push_items(out, b",\n\"marks\":", known, chart.marks.as_slice())?;
     push_items(out, b",\n\"said\":", known, chart.sentences.as_slice())?;
     push_items(out, b",\n\"threads\":", known, rows.threads.as_slice())?;
@@ -64,18 +56,10 @@ impl Listed for TurnMark {
     fn push(&self, out: &mut Vec<u8>, known: &Known<'_>, _n: usize) -> Result<(), AllocError> {
         let mut words = Vec::new(*out.allocator());
         push_done(&mut words, known.plan, self.what)?;
-        push_tokens(
-            out,
-            &[
-                Piece::Own("["),
-                Piece::Number(u64::from(self.turn)),
-                Piece::Own(","),
-                Piece::Number(u64::from(self.thread.0)),
-                Piece::Own(","),
-                Piece::Json(&words),
-                Piece::Own("]"),
-            ],
-        )
+        push_with_number(out, "[", u64::from(self.turn))?;
+        push_with_number(out, ",", u64::from(self.thread.0))?;
+        push_with_string(out, ",", &words)?;
+        push_words(out, b"]")
     }
 }
 
@@ -100,16 +84,9 @@ impl Listed for Sentence {
     fn push(&self, out: &mut Vec<u8>, known: &Known<'_>, _n: usize) -> Result<(), AllocError> {
         let mut words = Vec::new(*out.allocator());
         push_sentence(&mut words, known.plan, self)?;
-        push_tokens(
-            out,
-            &[
-                Piece::Own("["),
-                Piece::Number(u64::from(self.turn)),
-                Piece::Own(","),
-                Piece::Json(&words),
-                Piece::Own("]"),
-            ],
-        )
+        push_with_number(out, "[", u64::from(self.turn))?;
+        push_with_string(out, ",", &words)?;
+        push_words(out, b"]")
     }
 }
 
@@ -118,15 +95,8 @@ impl Listed for LockDecl {
     ghost value = { λ known l its. lock known.rows.now.words l its };
 
     fn push(&self, out: &mut Vec<u8>, known: &Known<'_>, l: usize) -> Result<(), AllocError> {
-        push_tokens(
-            out,
-            &[
-                Piece::Own("{\"name\":"),
-                Piece::Json(self.name.as_bytes()),
-                Piece::Own(",\"kind\":"),
-                Piece::Json(kind_word(self.kind)),
-            ],
-        )?;
+        push_with_string(out, "{\"name\":", self.name.as_bytes())?;
+        push_with_string(out, ",\"kind\":", kind_word(self.kind))?;
         push_items(out, b",\"word\":", known, track_of(known.rows, l))?;
         push_words(out, b"}")?;
         Ok(())

@@ -1,9 +1,11 @@
 //! What was set and added in the locks' tables, each with its row.
-ghost use Rattle.std.specs.Prelude.{◌≡◌, ◌++◌, [], ◌∷◌, true, OnOk};
-ghost use Rattle.chart_escape.specs.Values.{items, tuple, value_bytes, Array, Number, String};
+ghost use Rattle.std.specs.Prelude.{◌≡◌, ◌++◌, decimal, true, OnOk};
+ghost use Rattle.chart_escape.specs.Json.{json_string};
+ghost use Rattle.chart_escape.specs.Values.{items, value_bytes, Array};
 ghost use Rattle.chart_html.specs.Data.{edit, edits_behind, table_of};
 
-use chart_escape::{Piece, begin_line_item, push_tokens};
+use crate::items::{push_with_number, push_with_string};
+use chart_escape::begin_line_item;
 use chart_words::push_words;
 use lock_model::{LockNo, OfTable, push_digits};
 use run_tracks::TurnRow;
@@ -39,7 +41,6 @@ fn table_of(turn: TurnRow) -> OfTable
     }
 }
 
-// A key and an amount may have 64 bits, so they are strings.
 fn push_edit(
     out: &mut Vec<u8>,
     row: u64,
@@ -51,39 +52,20 @@ fn push_edit(
     ensures { OnOk result (out.new.items
         ≡ out.old.items ++ value_bytes (edit row l key adds amount)) }
 {
-    let mut key_text = Vec::new(*out.allocator());
-    push_digits(&mut key_text, key)?;
-    let mut amount_text = Vec::new(*out.allocator());
-    push_digits(&mut amount_text, amount)?;
-    push_texts(out, row, l, &key_text, adds, &amount_text)
+    push_with_number(out, "[", row)?;
+    push_with_number(out, ",", u64::from(l.0))?;
+    push_digits_text(out, ",", key)?;
+    push_with_number(out, ",", adds)?;
+    push_digits_text(out, ",", amount)?;
+    push_words(out, b"]")
 }
 
-fn push_texts<'a>(
-    out: &mut Vec<u8>,
-    row: u64,
-    l: LockNo,
-    key: &'a [u8],
-    adds: u64,
-    amount: &'a [u8],
-) -> Result<(), AllocError>
+// A key and an amount may have 64 bits, so they are strings.
+fn push_digits_text(out: &mut Vec<u8>, words: &'static str, n: u64) -> Result<(), AllocError>
     ensures { OnOk result (out.new.items
-        ≡ out.old.items ++ value_bytes (tuple (Number row ∷ Number l.0 ∷ String key.now
-        ∷ Number adds ∷ String amount.now ∷ []))) }
+        ≡ out.old.items ++ (words.now ++ json_string (decimal n))) }
 {
-    push_tokens(
-        out,
-        &[
-            Piece::Own("["),
-            Piece::Number(row),
-            Piece::Own(","),
-            Piece::Number(u64::from(l.0)),
-            Piece::Own(","),
-            Piece::Json(key),
-            Piece::Own(","),
-            Piece::Number(adds),
-            Piece::Own(","),
-            Piece::Json(amount),
-            Piece::Own("]"),
-        ],
-    )
+    let mut digits = Vec::new(*out.allocator());
+    push_digits(&mut digits, n)?;
+    push_with_string(out, words, &digits)
 }

@@ -4,7 +4,7 @@
 //! - `document`: the page, part by part.
 //! - `fixed`: its fixed text: what it looks like, and what it does with the data.
 //! - `data`: what the page knows of each row, as JSON: values with the rows from which on they hold.
-//! - `items`: arrays of the data, each of whose items says which value tells it.
+//! - `items`: arrays of the data, each of whose items says which value tells it, and words with a value behind them.
 //! - `threads`, `columns`, `queues`, `edits`, `tracks`: parts of the data.
 #![tactic(auto)]
 

@@ -1,7 +1,7 @@
 //! The queues that weren't empty.
 ghost use Rattle.chart_html.specs.Data.{queue, queues_from, thread_called, waiter};
 
-use crate::items::{Known, Listed, push_items};
+use crate::items::{Known, Listed, push_items, push_with_number, push_with_string};
 use chart_escape::{Piece, push_tokens};
 use chart_words::{push_words, queue_name};
 use lock_history::QueueLine;
@@ -13,10 +13,7 @@ impl Listed for (u32, Sequence<QueueLine>) {
     ghost value = { λ known n change. queues_from known.plan.now change };
 
     fn push(&self, out: &mut Vec<u8>, known: &Known<'_>, _n: usize) -> Result<(), AllocError> {
-        push_tokens(
-            out,
-            &[Piece::Own("{\"row\":"), Piece::Number(u64::from(self.0))],
-        )?;
+        push_with_number(out, "{\"row\":", u64::from(self.0))?;
         push_items(out, b",\"lines\":", known, self.1.as_slice())?;
         push_words(out, b"}")
     }
@@ -26,17 +23,9 @@ impl Listed for QueueLine {
     ghost value = { λ known n line. queue known.plan.now line };
 
     fn push(&self, out: &mut Vec<u8>, known: &Known<'_>, _n: usize) -> Result<(), AllocError> {
-        push_tokens(
-            out,
-            &[
-                Piece::Own("{\"name\":"),
-                Piece::Json(queue_name(known.plan, self.q)),
-                Piece::Own(",\"slot\":"),
-                Piece::Number(u64::from(self.slot)),
-                Piece::Own(",\"head\":"),
-                Piece::Json(known.plan.thread_name(self.head)),
-            ],
-        )?;
+        push_with_string(out, "{\"name\":", queue_name(known.plan, self.q))?;
+        push_with_number(out, ",\"slot\":", u64::from(self.slot))?;
+        push_with_string(out, ",\"head\":", known.plan.thread_name(self.head))?;
         push_items(out, b",\"free\":", known, self.free.as_slice())?;
         push_items(out, b",\"excl\":", known, self.excl.as_slice())?;
         push_items(out, b",\"shared\":", known, self.shared.as_slice())?;
@@ -58,15 +47,8 @@ impl Listed for (ThreadNo, Prio) {
     ghost value = { λ known n its. waiter known.plan.now its };
 
     fn push(&self, out: &mut Vec<u8>, known: &Known<'_>, _n: usize) -> Result<(), AllocError> {
-        push_tokens(
-            out,
-            &[
-                Piece::Own("["),
-                Piece::Json(known.plan.thread_name(self.0)),
-                Piece::Own(","),
-                Piece::Number(u64::from(self.1.0)),
-                Piece::Own("]"),
-            ],
-        )
+        push_with_string(out, "[", known.plan.thread_name(self.0))?;
+        push_with_number(out, ",", u64::from(self.1.0))?;
+        push_words(out, b"]")
     }
 }

@@ -5,8 +5,7 @@ ghost use Rattle.chart_html.specs.Data.{done, lane_end, thread};
 ghost use Rattle.lock_model.specs.Plans.{thread_name};
 
 use crate::columns::{Column, push_column};
-use crate::items::{Known, Listed, push_items};
-use chart_escape::{Piece, push_tokens};
+use crate::items::{Known, Listed, push_items, push_with_number, push_with_string};
 use chart_layout::Chart;
 use chart_words::push_words;
 use lock_model::Plan;
@@ -19,8 +18,7 @@ impl Listed for ThreadRows {
     fn push(&self, out: &mut Vec<u8>, known: &Known<'_>, t: usize) -> Result<(), AllocError> {
         let plan = known.plan;
         let rows = self.row.changes();
-        let name = Piece::Json(name_of(plan, t));
-        push_tokens(out, &[Piece::Own("{\"name\":"), name])?;
+        push_with_string(out, "{\"name\":", name_of(plan, t))?;
         push_column(out, b",\"base\":", plan, Column::Base, rows)?;
         push_column(out, b",\"runs\":", plan, Column::Runs, rows)?;
         push_column(out, b",\"wait\":", plan, Column::Wait, rows)?;
@@ -55,14 +53,10 @@ fn push_end(out: &mut Vec<u8>, chart: &Chart, t: usize) -> Result<(), AllocError
         ≡ out.old.items ++ members_bytes false (members (done (lane_end chart.now t)))) }
 {
     match ended_of(chart, t) {
-        Some(row) => push_tokens(
-            out,
-            &[
-                Piece::Own(",\"done\":"),
-                Piece::Number(u64::from(row)),
-                Piece::Own("}"),
-            ],
-        ),
+        Some(row) => {
+            push_with_number(out, ",\"done\":", u64::from(row))?;
+            push_words(out, b"}")
+        }
         None => push_words(out, b"}"),
     }
 }

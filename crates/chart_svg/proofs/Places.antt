@@ -1,13 +1,14 @@
 -- What stands on a page draws its chart.
-use Rattle.std.proofs.Common.{ℕ, suc, zero, ◌+◌, ◌<◌, ◌≤◌, ◌≡◌, ◌∙◌, ◌++◌, flat_map, ap, refl, Bool, true, false, cond, List, [], ◌∷◌, length, Contains, arith, ◌*◌, ◌≢◌, ◌==◌, ◌⊎◌, inl, inr, sym, subst, nat_lt, if◌then◌else◌, get_or, codes, All, Option, Some, None}
-use Rattle.std.specs.Prelude.{nat_eq, slice_get, Any}
+use Rattle.std.proofs.Common.{ℕ, suc, zero, ◌+◌, ◌<◌, ◌≤◌, ◌≡◌, ◌∙◌, ◌++◌, flat_map, ap, refl, Bool, true, false, cond, List, [], ◌∷◌, length, Contains, arith, ◌*◌, ◌≢◌, ◌==◌, ◌⊎◌, inl, inr, sym, subst, nat_lt, if◌then◌else◌, codes, All, Option, Some, None}
+use Rattle.std.specs.Prelude.{nat_eq, remove, slice_get, Any}
 use Rattle.std.specs.List.{filter}
 use Rattle.std.proofs.lemmas.Bool.Decides.{nat_tests, Decides-eqb}
 use Rattle.lock_model.specs.declared.numbers.Prio.{Prio}
-use Rattle.std.proofs.lemmas.List.Elements.{All-cons, All-nil, All-weaker, Contains-append_right, filter_passes, All-contains, All-contains_itself, All-filter, Contains-get_or}
+use Rattle.std.proofs.lemmas.List.Elements.{All-cons, All-nil, All-weaker, Contains-append_right, All-contains}
 use Rattle.chart_layout.specs.declared.layout.PrioSpan.{PrioSpan}
-use Rattle.chart_svg.specs.Lanes.{prios_in, rank_in, HasPrios, bar_bottom, bar_place, bar_top, begin_of, lane_top, of_thread, pitch_of, scale_of, strip_of, top_of, AreSame, BarIsOn, BarsAreDrawn, IsLaid, IsLaidOut, IsLentAt, IsWithin, LoansAreDrawn}
-use Rattle.std.proofs.lemmas.Bool.{false≢true, le-ltb}
+use Rattle.chart_svg.specs.Lanes.{prios_in, rank_in, HasPrios, bar_bottom, bar_place, bar_top, begin_of, lane_top, pitch_of, scale_of, strip_of, top_of, AreSame, BarIsOn, BarsAreDrawn, IsLaid, IsLaidOut, IsLentAt, IsWithin, LoansAreDrawn}
+use Rattle.std.proofs.lemmas.Bool.{le-ltb}
+use Rattle.std.proofs.lemmas.List.Sums.{sum_by-le-sum_by, sum_by-remove}
 use Rattle.std.proofs.lemmas.Option.{get_or_from_slice_get, slice_get_cases, slice_get_within}
 use Rattle.chart_layout.specs.declared.layout.Bar.{Bar}
 use Rattle.chart_layout.specs.declared.layout.Chart.{Chart}
@@ -15,9 +16,9 @@ use Rattle.chart_layout.specs.declared.layout.Lane.{Lane as ChartLane}
 use Rattle.lock_model.specs.Plans.{thread_name}
 use Rattle.lock_model.specs.declared.numbers.ThreadNo.{ThreadNo}
 use Rattle.lock_model.specs.declared.plan.Plan.{Plan}
-use Rattle.chart_svg.proofs.Standing.{all_still, arrows_still, bars_kept, frame_kept, loans_kept, mark_kept, told}
-use Rattle.chart_svg.specs.Drawn.{is_walk, pixels, prio_words, row_begin, words_bytes, BarIsDrawn, Changes, Draws, HasLane, IsFlat, IsInLane, IsPrioOf, LoanIsDrawn, NameIsDrawn, PrioIsDrawn, SaysAs, Stands, StopIsDrawn}
-use Rattle.chart_svg.specs.Pages.{begin_in, row_of, shown_words, stop_at, ArrowIsOn, FrameIsOn, LanesAreDrawn, MarkIsOn, StopsAt}
+use Rattle.chart_svg.proofs.Standing.{told}
+use Rattle.chart_svg.specs.Drawn.{is_walk, of_thread, pixels, prio_words, row_begin, words_bytes, BarIsDrawn, Changes, Draws, HasLane, IsFlat, IsInLane, IsPrioOf, LoanIsDrawn, NameIsDrawn, PrioIsDrawn, SaysAs, StopIsDrawn}
+use Rattle.chart_svg.specs.Pages.{shown_words, stop_at, ArrowIsOn, FrameIsOn, LanesAreDrawn, MarkIsOn, StopsAt}
 use Rattle.chart_svg.specs.declared.page.LaneBand.{LaneBand}
 use Rattle.chart_svg.specs.declared.page.Page.{Page}
 use Rattle.chart_svg.specs.declared.pixels.Px.{Px}
@@ -48,32 +49,25 @@ of_own {X} number things x has =
 
 -- 2. Priorities
 
-counted : (b : Bool) (x : Prio) (xs : List Prio) → length (cond b (x ∷ xs) xs) ≡ cond b 1 0 + length xs
-counted true x xs = omega arith
-counted false x xs = omega arith
-
-rank-cons : (x : Prio) (xs : List Prio) (p : ℕ) → rank_in (x ∷ xs) p ≡ cond (nat_lt x.0 p) 1 0 + rank_in xs p
-rank-cons x xs p = counted (nat_lt x.0 p) x (filter (λ other. nat_lt other.0 p) xs)
-
 test-le : (x p q : ℕ) → p < q → cond (nat_lt x p) 1 0 ≤ cond (nat_lt x q) 1 0
 test-le x p q lt = grind (arith, nat_tests)
 
 test-lt : (x p q : ℕ) → x ≡ p → p < q → cond (nat_lt x p) 1 0 + 1 ≡ cond (nat_lt x q) 1 0
 test-lt x p q is lt = grind (arith, nat_tests)
 
-rank-le : (xs : List Prio) (p q : ℕ) → p < q → rank_in xs p ≤ rank_in xs q
-rank-le [] p q lt = omega arith
-rank-le (x ∷ xs) p q lt = omega (arith, rank-cons x xs p, rank-cons x xs q, test-le x.0 p q lt, rank-le xs p q lt)
-
 rank-lt : (xs : List Prio) (prio : Prio) (p q : ℕ) → prio.0 ≡ p → p < q → Contains xs prio
     → rank_in xs p < rank_in xs q
-rank-lt [] prio p q is lt (k, within, at) = absurd (omega arith)
-rank-lt (x ∷ xs) prio p q is lt (zero, within, at) =
-    let here : x.0 ≡ p = ap (λ y. y.0) at ∙ is in
-    omega (arith, rank-cons x xs p, rank-cons x xs q, test-lt x.0 p q here lt, rank-le xs p q lt)
-rank-lt (x ∷ xs) prio p q is lt (suc k, within, at) =
-    let behind : k < length xs = omega arith in
-    omega (arith, rank-cons x xs p, rank-cons x xs q, test-le x.0 p q lt, rank-lt xs prio p q is lt (k, behind, at))
+rank-lt xs prio p q is lt (k, within, at) =
+    let below : ℕ → Prio → ℕ = λ n x. cond (nat_lt x.0 n) 1 0 in
+    omega (
+      arith,
+      sum_by-remove (below p) xs k prio within,
+      sum_by-remove (below q) xs k prio within,
+      sum_by-le-sum_by (below p) (below q) (remove xs k) (λ x. test-le x.0 p q lt),
+      ap (below p) at,
+      ap (below q) at,
+      test-lt prio.0 p q is lt,
+    )
 
 pub same_prio : (x y : Prio) → nat_eq x.0 y.0 ≡ true → x ≡ y
 same_prio x y e = let prio : ℕ → Prio = λ n. record { 0 = n } in ap prio ((Decides-eqb x.0 y.0).0 e)
@@ -109,33 +103,12 @@ first_of lane step has = elim (slice_get_cases lane.steps.items 0).1 [
   | inr (past, none) ↦ (let some : has.0 < length lane.steps.items = has.1 in absurd (omega arith))
 ]
 
--- a step of a lane whose steps are the same says what all others say
-says_as : (lane : LaneBand) (step other : PrioSpan) → AreSame lane.steps.items → Contains lane.steps.items step
-    → Contains lane.steps.items other → SaysAs step other
-says_as lane step other same has others =
-    let first = first_of lane step has in
-    let all = same first.0 first.1 in
-    let this : SaysAs first.0 step = All-contains (SaysAs first.0) lane.steps.items step all has in
-    let that : SaysAs first.0 other = All-contains (SaysAs first.0) lane.steps.items other all others in
-    (that.0 ∙ sym this.0, that.1 ∙ sym this.1)
-
--- the steps of a thread whose priorities don't change are the same
-are_same : (chart : Chart) (step : PrioSpan) → IsFlat chart step
-    → AreSame (of_thread (λ other. other.thread.0) step.thread.0 chart.steps)
-are_same chart step flat =
-    let is_own : PrioSpan → Bool = λ other. other.thread.0 == step.thread.0 in
-    let own = of_thread (λ (other : PrioSpan). other.thread.0) step.thread.0 chart.steps in
-    let Own : PrioSpan → Type 0 = λ other. Contains chart.steps other × (is_own other ≡ true) in
-    let owned : All Own own = λ k d lt. (
-      All-filter is_own (Contains chart.steps) chart.steps (All-contains_itself chart.steps) k d lt,
-      filter_passes is_own chart.steps k d lt,
-    ) in
-    let numbered : ℕ → ThreadNo = λ n. record { 0 = n } in
-    let said : All (SaysAs step) own = All-weaker Own (SaysAs step)
-    (λ other has. All-contains (λ (o : PrioSpan). o.thread ≡ step.thread → SaysAs step o) chart.steps other flat has.0
-    (ap numbered ((Decides-eqb other.thread.0 step.thread.0).0 has.1))) own owned in
-    λ first at. (let this = All-contains (SaysAs step) own first said (among own 0 first at) in
-    All-weaker (SaysAs step) (SaysAs first) (λ other that. (that.0 ∙ sym this.0, that.1 ∙ sym this.1)) own said)
+-- all steps say as one of them where all say as another
+say_as : (steps : List PrioSpan) (step other : PrioSpan) → Contains steps other → All (SaysAs step) steps
+    → All (SaysAs other) steps
+say_as steps step other has all =
+    let this = All-contains (SaysAs step) steps other all has in
+    All-weaker (SaysAs step) (SaysAs other) (λ s that. (that.0 ∙ sym this.0, that.1 ∙ sym this.1)) steps all
 
 -- 3. Bars and ends
 
@@ -155,12 +128,9 @@ stop_told : (page : Page) (t row : ℕ) (own : ThreadNo) (lane : ChartLane) → 
     → lane.ended ≡ Some row → row ≤ page.chart.now.last
     → stop_at page own.0 ≡ Some (row_begin (scale_of page) page.chart.now row)
 stop_told page t row own lane is same thread ended within =
-    let scale = scale_of page in
-    let chart = page.chart.now in
-    let late : nat_lt chart.last row ≡ false = le-ltb chart.last row within in
-    ap (λ (n : ThreadNo). stop_at page n.0) same ∙ ap (stop_at page) thread
-    ∙ ap (λ o. begin_in scale chart (row_of o)) is ∙ ap (begin_in scale chart) ended
-    ∙ ap (λ b. if b then None else Some (row_begin scale chart row)) late
+    let at : own.0 ≡ t = ap (λ n. n.0) same ∙ thread in
+    let late : nat_lt page.chart.now.last row ≡ false = le-ltb page.chart.now.last row within in
+    rw (at, is, ended, late) refl
 
 -- 4. Lanes
 
@@ -252,13 +222,12 @@ module _ (page : Page) (picture : List ℕ) (out : IsLaidOut page)
       }
 
   -- a thread's step is among those of its lane
-  own_step : (lane : LaneBand) (step other : PrioSpan) → slice_get page.lanes.items step.thread.0 ≡ Some lane
-      → Contains page.chart.now.steps other → other.thread ≡ step.thread → Contains lane.steps.items other
-  own_step lane step other is in_chart same =
-      let Own : List PrioSpan → Type 0 = λ xs. Contains xs other in
-      let Of : ThreadNo → Type 0 = λ n. Contains (of_thread (λ s. s.thread.0) n.0 page.chart.now.steps) other in
+  own_step : (lane : LaneBand) (step : PrioSpan) → slice_get page.lanes.items step.thread.0 ≡ Some lane
+      → Contains page.chart.now.steps step → Contains lane.steps.items step
+  own_step lane step is in_chart =
+      let Own : List PrioSpan → Type 0 = λ xs. Contains xs step in
       subst Own (sym (out.lanes step.thread.0 lane is).steps)
-      (subst Of same (of_own (λ (s : PrioSpan). s.thread.0) page.chart.now.steps other in_chart))
+      (of_own (λ (s : PrioSpan). s.thread.0) page.chart.now.steps step in_chart)
 
   prios_drawn : (step : PrioSpan) → Contains page.chart.now.steps step → HasLane page.chart.now step.thread.0
       → IsFlat page.chart.now step → PrioIsDrawn (scale_of page) picture step
@@ -266,10 +235,12 @@ module _ (page : Page) (picture : List ℕ) (out : IsLaidOut page)
       let (lane, is) = at step.thread.0 lt in
       let laid = out.lanes step.thread.0 lane is in
       let fit = laid.fits in
-      let same : AreSame lane.steps.items = subst AreSame (sym laid.steps) (are_same page.chart.now step flat) in
-      let has = own_step lane step step is in_chart refl in
-      let (first, at_first) = first_of lane step has in
-      let this : SaysAs first step = All-contains (SaysAs first) lane.steps.items step (same first at_first) has in
+      let all : All (SaysAs step) lane.steps.items = subst (All (SaysAs step)) (sym laid.steps) flat in
+      let same : AreSame lane.steps.items =
+      λ other at. say_as lane.steps.items step other (among lane.steps.items 0 other at) all in
+      let (first, at_first) = first_of lane step (own_step lane step is in_chart) in
+      let this : SaysAs step first =
+      All-contains (SaysAs step) lane.steps.items first all (among lane.steps.items 0 first at_first) in
       let below : pixels (bar_bottom lane 0 + 20) ≤ lane.bottom.0 = fit.bars 0 (omega arith) in
       let y : ℕ = pixels (pixels (lane.begin.0 + 36) + 20) in
       record {
@@ -278,8 +249,8 @@ module _ (page : Page) (picture : List ℕ) (out : IsLaidOut page)
             (omega (arith, fit.begins, fit.begin_fits), omega (arith, below));
         stands = told picture _ _ (ap (λ (o : Option Px). words_bytes (codes "gray") 24 y (shown_words o first))
             (laid.flat.1 same)
-            ∙ ap (λ (p : Prio). words_bytes (codes "gray") 24 y (prio_words p.0 first.base.0)) (sym this.0)
-            ∙ ap (λ (p : Prio). words_bytes (codes "gray") 24 y (prio_words step.effective.0 p.0)) (sym this.1))
+            ∙ ap (λ (p : Prio). words_bytes (codes "gray") 24 y (prio_words p.0 first.base.0)) this.0
+            ∙ ap (λ (p : Prio). words_bytes (codes "gray") 24 y (prio_words step.effective.0 p.0)) this.1)
             ((framed step.thread.0 lane is).prio first at_first);
       }
 
@@ -300,7 +271,7 @@ module _ (page : Page) (picture : List ℕ) (out : IsLaidOut page)
       record {
         top_in_lane = place step.effective.0;
         base_in_lane = place step.base.0;
-        stands = All-contains (IsLentAt page picture strip.0) lane.steps.items step
+        stands = All-contains (IsLentAt page strip.0 picture) lane.steps.items step
             (All-contains (LoansAreDrawn page picture) page.lanes.items lane drawn.loans
             (among page.lanes.items step.thread.0 lane is) strip has_strip) has here lent;
       }
@@ -309,14 +280,14 @@ module _ (page : Page) (picture : List ℕ) (out : IsLaidOut page)
       → Changes page.chart.now step → step.effective ≢ step.base
       → LoanIsDrawn page.chart.now (scale_of page) picture step
   loans_drawn step in_chart lt changes lent =
-      let steps = page.chart.now.steps in
       let (lane, is) = at step.thread.0 lt in
+      let laid = out.lanes step.thread.0 lane is in
+      let has = own_step lane step is in_chart in
+      let (first, at_first) = first_of lane step has in
       elim (some_or_none lane.strip) [
-        | inl (strip, has) ↦ loan_drawn lane strip step is has (own_step lane step step is in_chart refl) lent
-        | inr none ↦ absurd (changes (λ k d below same.
-            says_as lane step (get_or steps k d) ((out.lanes step.thread.0 lane is).flat.0 none)
-            (own_step lane step step is in_chart refl)
-            (own_step lane step (get_or steps k d) is (Contains-get_or steps k d below) same)))
+        | inl (strip, is_strip) ↦ loan_drawn lane strip step is is_strip has lent
+        | inr none ↦ absurd (changes (subst (All (SaysAs step)) laid.steps
+            (say_as lane.steps.items first step has (laid.flat.0 none first at_first))))
       ]
 
   page_drawn : Draws page.plan.now page.chart.now picture
@@ -332,21 +303,10 @@ module _ (page : Page) (picture : List ℕ) (out : IsLaidOut page)
     prios = prios_drawn;
     loans = loans_drawn;
     arrows = λ arrow in_chart from to. All-contains (ArrowIsOn page picture picture) page.chart.now.arrows arrow
-        drawn.arrows in_chart (omega (arith, from), omega (arith, to));
+        drawn.arrows in_chart (omega (arith, from)) (omega (arith, to));
     marks = λ mark in_chart on. All-contains (MarkIsOn page picture) page.chart.now.marks mark drawn.marks in_chart
         (omega (arith, on));
   }
-
--- what is drawn in a part of a picture is drawn in the picture
-pub lanes_still : (page : Page) (laned picture : List ℕ) → Stands picture laned → LanesAreDrawn page laned
-    → LanesAreDrawn page picture
-lanes_still page laned picture on h = record {
-  frame = all_still (FrameIsOn page) (frame_kept page) laned picture page.lanes.items on h.frame;
-  bars = all_still (BarsAreDrawn page) (bars_kept page) laned picture page.lanes.items on h.bars;
-  loans = all_still (LoansAreDrawn page) (loans_kept page) laned picture page.lanes.items on h.loans;
-  arrows = arrows_still page laned laned picture page.chart.now.arrows on on h.arrows;
-  marks = all_still (MarkIsOn page) (mark_kept page) laned picture page.chart.now.marks on h.marks;
-}
 
 pub picture_draws : (page : Page) (plan : Plan) (chart : Chart) (picture : List ℕ) → page.plan.now ≡ plan
     → page.chart.now ≡ chart → IsLaidOut page → length page.lanes.items ≡ length chart.lanes

@@ -5,7 +5,7 @@ use Rattle.std.specs.Prelude.{slice_get, nat_lt}
 use Rattle.std.proofs.Math.Nat.{mul-le-mul_right}
 use Rattle.std.proofs.lemmas.Option.{none-some, same_Some, slice_get_past, slice_get_within}
 use Rattle.std.proofs.lemmas.List.{length-append}
-use Rattle.std.proofs.lemmas.List.Sums.{length-filter, count_by-le-length}
+use Rattle.std.proofs.lemmas.List.Sums.{count_by-le-length}
 use Rattle.lock_model.specs.declared.numbers.Prio.{Prio}
 use Rattle.chart_svg.specs.Drawn.{pixels}
 use Rattle.chart_svg.specs.Lanes.{bar_bottom, lane_top, pitch_of, rank_in, top_of, Fits, HasPrios, IsLaidOut, IsLane}
@@ -14,10 +14,6 @@ use Rattle.chart_svg.specs.declared.page.Page.{Page}
 use Rattle.chart_svg.specs.declared.pixels.Px.{Px}
 
 -- 1. Lanes
-
-rank-le : (prios : List Prio) (prio : ℕ) → rank_in prios prio ≤ length prios
-rank-le prios prio = omega
-    (arith, length-filter (λ other. nat_lt other.0 prio) prios, count_by-le-length (λ other. nat_lt other.0 prio) prios)
 
 -- a strip that begins below the bars ends before the lane does
 strip_room : (end y rank gaps pitch bottom : ℕ) → y ≡ pixels (end + 5) → rank ≤ gaps + 1 → pitch ≤ 15
@@ -43,7 +39,7 @@ fits_lent prios lane end strip top begin bars is place bottom =
       bars = λ level below. (let bar : pixels (bar_bottom lane level + 4) ≤ end.0 = bars level below in omega arith);
       strip = λ y prio e.
           (let same : y.0 ≡ pixels (end.0 + 5) = ap (λ p. p.0) (same_Some y strip (sym e ∙ is)) ∙ place in
-          let rank : rank_in prios prio ≤ length prios = rank-le prios prio in (
+          let rank : rank_in prios prio ≤ length prios = count_by-le-length (λ other. nat_lt other.0 prio) prios in (
             omega arith,
             strip_room end.0 y.0 (rank_in prios prio) (length prios - 1) (pitch_of (length prios)) lane.bottom.0 same
                 (omega arith) (omega arith) (omega arith),
@@ -81,13 +77,8 @@ top_more [] lane old new (suc t) is le = absurd (omega arith)
 top_more (l ∷ lanes) lane old new zero is le = refl
 top_more (l ∷ lanes) lane old new (suc t) is le = top_more lanes lane old new t is (omega arith)
 
-lane_still : (page : Page) (lanes : Vec LaneBand) (bottom : Px) (t : ℕ) (lane : LaneBand) → IsLane page t lane
-    → IsLane (record page { lanes = lanes; bottom = bottom }) t lane
-lane_still page lanes bottom t lane h =
-    record { fits = h.fits; thread = h.thread; bars = h.bars; steps = h.steps; flat = h.flat }
-
 pub laid_more : (page : Page) (lane : LaneBand) (lanes : Vec LaneBand) → lanes.items ≡ page.lanes.items ++ lane ∷ []
-    → lane.top ≡ page.bottom → IsLane page (length page.lanes.items) lane → IsLaidOut page
+    → lane.top ≡ page.bottom → IsLane page.prios.items page.chart.now (length page.lanes.items) lane → IsLaidOut page
     → IsLaidOut (record page { lanes = lanes; bottom = lane.bottom })
 laid_more page lane lanes pushed top own h =
     let old = page.lanes.items in
@@ -104,11 +95,12 @@ laid_more page lane lanes pushed top own h =
       wide = h.wide;
       prios = h.prios;
       bottom_fits = own.fits.bottom_fits;
-      lanes = λ t other is. lane_still page lanes lane.bottom t other (elim (read t other is) [
+      lanes = λ t other is. elim (read t other is) [
         | inl (lt, was) ↦ h.lanes t other was
-        | inr (e, same) ↦ (let Own : LaneBand → Type 0 = λ l. IsLane page t l in
-            let At : ℕ → Type 0 = λ n. IsLane page n lane in subst Own same (subst At (sym e) own))
-      ]);
+        | inr (e, same) ↦ (let Own : LaneBand → Type 0 = λ l. IsLane page.prios.items page.chart.now t l in
+            let At : ℕ → Type 0 = λ n. IsLane page.prios.items page.chart.now n lane in
+            subst Own same (subst At (sym e) own))
+      ];
       ends = λ t other is. elim (read t other is) [
         | inl (lt, was) ↦ h.ends t other was ∙ sym (tops (t + 1) (omega arith))
         | inr (e, same) ↦ ap (λ l. l.bottom.0) (sym same) ∙ sym last ∙ ap (λ n. lane_top new (n + 1)) (sym e)

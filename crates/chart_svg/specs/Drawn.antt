@@ -1,6 +1,6 @@
 -- Where the names of threads and their ends, bars, loans, arrows and marks of a chart stand in its picture.
 use Rattle.std.specs.Prelude.{◌≡◌, ◌≢◌, ◌⊎◌, ℕ, ◌+◌, ◌-◌, ◌*◌, ◌/◌, ◌<◌, ◌≤◌, ◌==◌, nat_lt, min, max, Bool, true, false, if◌then◌else◌, All, Any, List, [], ◌∷◌, ◌++◌, length, slice_get, Some, codes, decimal, Contains}
-use Rattle.std.specs.List.{concat}
+use Rattle.std.specs.List.{concat, filter}
 use Rattle.chart_escape.specs.Markup.{escaped}
 use Rattle.chart_layout.specs.Marks.{is_refusal}
 use Rattle.chart_layout.specs.declared.layout.Arrow.{Arrow}
@@ -243,9 +243,14 @@ pub record LoanIsDrawn (chart : Chart) (scale : Scale) (picture : List ℕ) (ste
 abbrev pub SaysAs : PrioSpan → PrioSpan → Type 0
 SaysAs step other = (other.effective ≡ step.effective) × (other.base ≡ step.base)
 
+-- the things of a thread, in order
+abbrev pub of_thread : {X : Type 0} → (X → ℕ) → ℕ → List X → List X
+of_thread number t things = filter (λ thing. number thing == t) things
+
 -- the priorities of the step's thread don't change in the window
 abbrev pub IsFlat : Chart → PrioSpan → Type 0
-IsFlat chart step = All (λ other. other.thread ≡ step.thread → SaysAs step other) chart.steps
+IsFlat chart step =
+    All (SaysAs step) (of_thread (λ other. other.thread.0) step.thread.0 chart.steps)
 
 abbrev pub Changes : Chart → PrioSpan → Type 0
 Changes chart step = IsFlat chart step → ⊥
@@ -263,20 +268,15 @@ PrioIsDrawn scale picture step = StandsIn scale picture step.thread.0
 
 -- 7. Arrows
 
--- a loan that changes nothing is pale
-abbrev pub line_class : ArrowKind → List ℕ
-line_class (Lends before prio) = if before.0 == prio.0 then codes "pale" else codes "lends"
-line_class Wakes = codes "wakes"
-line_class BlockedOn = codes "block"
-line_class Behind = codes "block"
-line_class Refused = codes "refused"
-
-abbrev pub head_class : ArrowKind → List ℕ
-head_class (Lends before prio) = if before.0 == prio.0 then codes "palehead" else codes "lendhead"
-head_class Wakes = codes "wakehead"
-head_class BlockedOn = codes "blockhead"
-head_class Behind = codes "blockhead"
-head_class Refused = codes "refusedhead"
+-- the classes of its line and of its head; a loan that changes nothing is pale
+abbrev pub arrow_classes : ArrowKind → List ℕ × List ℕ
+arrow_classes (Lends before prio) =
+    if before.0 == prio.0 then (codes "pale", codes "palehead")
+    else (codes "lends", codes "lendhead")
+arrow_classes Wakes = (codes "wakes", codes "wakehead")
+arrow_classes BlockedOn = (codes "block", codes "blockhead")
+arrow_classes Behind = (codes "block", codes "blockhead")
+arrow_classes Refused = (codes "refused", codes "refusedhead")
 
 -- the head points to the lane to which the arrow goes
 abbrev pub head_figure : Scale → Arrow → Figure
@@ -305,9 +305,9 @@ pub record ArrowIsDrawn (plan : Plan) (chart : Chart) (scale : Scale) (lines hea
   pub tip : ℕ
   pub begins : IsInLane scale arrow.from.0 begin
   pub ends : IsInLane scale arrow.to.0 tip
-  pub line : Stands lines (line_bytes (line_class arrow.kind)
+  pub line : Stands lines (line_bytes (arrow_classes arrow.kind).0
       (turn_at scale chart arrow.turn) begin tip)
-  pub head : Stands heads (figure_bytes (head_class arrow.kind) (head_figure scale arrow)
+  pub head : Stands heads (figure_bytes (arrow_classes arrow.kind).1 (head_figure scale arrow)
       (turn_at scale chart arrow.turn) tip (arrow_title plan arrow))
 
 -- 8. Marks

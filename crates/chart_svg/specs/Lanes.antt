@@ -1,12 +1,12 @@
 -- Where the lanes of a page are, and what stands in them.
-use Rattle.std.specs.Prelude.{◌≡◌, ◌≢◌, ◌↔◌, ℕ, ◌+◌, ◌-◌, ◌*◌, ◌/◌, ◌≤◌, ◌==◌, nat_lt, if◌then◌else◌, min, max, List, [], ◌∷◌, ◌++◌, length, slice_get, codes, decimal, Contains, All, Option, Some, None}
-use Rattle.std.specs.List.{filter}
+use Rattle.std.specs.Prelude.{◌≡◌, ◌≢◌, ◌↔◌, ℕ, ◌+◌, ◌-◌, ◌*◌, ◌/◌, ◌≤◌, nat_lt, if◌then◌else◌, min, max, List, [], ◌∷◌, ◌++◌, length, count_by, slice_get, codes, decimal, Contains, All, Option, Some, None}
 use Rattle.chart_layout.specs.declared.layout.Bar.{Bar}
 use Rattle.chart_layout.specs.declared.layout.BarKind.{BarKind}
+use Rattle.chart_layout.specs.declared.layout.Chart.{Chart}
 use Rattle.chart_layout.specs.declared.layout.Lane.{Lane as ChartLane}
 use Rattle.chart_layout.specs.declared.layout.PrioSpan.{PrioSpan}
 use Rattle.lock_model.specs.declared.numbers.Prio.{Prio}
-use Rattle.chart_svg.specs.Drawn.{bar_area, bar_class, bar_title, is_walk, loan_area, pixels, rect_bytes, SaysAs, Scale, Stands}
+use Rattle.chart_svg.specs.Drawn.{bar_area, bar_class, bar_title, is_walk, loan_area, of_thread, pixels, rect_bytes, SaysAs, Scale, Stands}
 use Rattle.chart_svg.specs.declared.packing.Packed.{Packed}
 use Rattle.chart_svg.specs.declared.page.LaneBand.{LaneBand}
 use Rattle.chart_svg.specs.declared.page.Page.{Page}
@@ -33,7 +33,7 @@ strip_of (Some lane) = begin_of lane.strip
 
 -- how many of the priorities go before one
 abbrev pub rank_in : List Prio → ℕ → ℕ
-rank_in prios prio = length (filter (λ other. nat_lt other.0 prio) prios)
+rank_in prios prio = count_by (λ other. nat_lt other.0 prio) prios
 
 -- how far so many priorities lie apart in a strip
 abbrev pub pitch_of : ℕ → ℕ
@@ -81,10 +81,6 @@ pub record Fits (prios : List Prio) (lane : LaneBand) : Type 0 where
 
 -- 3. What is of a thread
 
--- the things of a thread, in order
-abbrev pub of_thread : {X : Type 0} → (X → ℕ) → ℕ → List X → List X
-of_thread number t things = filter (λ thing. number thing == t) things
-
 -- the bar lies on some level, or is a walk below one
 abbrev pub IsLaid : Packed → Bar → Type 0
 IsLaid packed bar = (level : ℕ) × (level ≤ length packed.ends.items - 1)
@@ -94,14 +90,13 @@ IsLaid packed bar = (level : ℕ) × (level ≤ length packed.ends.items - 1)
 abbrev pub AreSame : List PrioSpan → Type 0
 AreSame steps = (first : PrioSpan) → slice_get steps 0 ≡ Some first → All (SaysAs first) steps
 
--- the t-th lane of a page has room for what stands in it; it is that of the thread that the chart names there, with the
--- bars and the steps of this, and has no strip exactly where the steps are all the same
-pub record IsLane (page : Page) (t : ℕ) (lane : LaneBand) : Type 0 where
-  pub fits : Fits page.prios.items lane
-  pub thread : (own : ChartLane) → slice_get page.chart.now.lanes t ≡ Some own
-      → lane.thread ≡ own.thread
-  pub bars : All (IsLaid lane.bars) (of_thread (λ bar. bar.thread.0) t page.chart.now.bars)
-  pub steps : lane.steps.items ≡ of_thread (λ step. step.thread.0) t page.chart.now.steps
+-- the t-th lane of a page with these priorities has room for what stands in it; it is that of the thread that the chart
+-- names there, with the bars and the steps of this, and has no strip exactly where the steps are all the same
+pub record IsLane (prios : List Prio) (chart : Chart) (t : ℕ) (lane : LaneBand) : Type 0 where
+  pub fits : Fits prios lane
+  pub thread : (own : ChartLane) → slice_get chart.lanes t ≡ Some own → lane.thread ≡ own.thread
+  pub bars : All (IsLaid lane.bars) (of_thread (λ bar. bar.thread.0) t chart.bars)
+  pub steps : lane.steps.items ≡ of_thread (λ step. step.thread.0) t chart.steps
   pub flat : lane.strip ≡ None ↔ AreSame lane.steps.items
 
 -- the priority by which a thread runs in a step, and its own
@@ -118,7 +113,7 @@ pub record IsLaidOut (page : Page) : Type 0 where
   pub wide : 9 ≤ page.column
   pub prios : HasPrios page.prios.items page.chart.now.steps
   pub lanes : (t : ℕ) (lane : LaneBand) → slice_get page.lanes.items t ≡ Some lane
-      → IsLane page t lane
+      → IsLane page.prios.items page.chart.now t lane
   pub ends : (t : ℕ) (lane : LaneBand) → slice_get page.lanes.items t ≡ Some lane
       → lane.bottom.0 ≡ lane_top page (t + 1)
   pub bottom_fits : page.bottom.0 ≤ 4294967295
@@ -130,14 +125,10 @@ abbrev pub bar_bytes : Page → ℕ → Bar → List ℕ
 bar_bytes page top bar = rect_bytes (bar_class bar.what)
     (bar_area (scale_of page) page.chart.now bar top) (bar_title page.plan.now page.chart.now bar)
 
--- the bar stands in the picture with its top there
-abbrev pub IsDrawnAt : Page → List ℕ → ℕ → Bar → Type 0
-IsDrawnAt page picture top bar = Stands picture (bar_bytes page top bar)
-
 -- a bar on its level in a lane stands there
 abbrev pub BarIsOn : Page → LaneBand → List ℕ → Bar × ℕ → Type 0
 BarIsOn page lane picture at =
-    IsDrawnAt page picture (bar_place lane at.0.what at.1) at.0
+    Stands picture (bar_bytes page (bar_place lane at.0.what at.1) at.0)
 
 -- all bars of a lane stand there
 abbrev pub BarsAreDrawn : Page → List ℕ → LaneBand → Type 0
@@ -146,8 +137,8 @@ BarsAreDrawn page picture lane = All (BarIsOn page lane picture) lane.bars.laid.
 -- 5. Loans
 
 -- a loan stands in the picture if the strip of its thread's lane begins there
-abbrev pub IsLentAt : Page → List ℕ → ℕ → PrioSpan → Type 0
-IsLentAt page picture strip step =
+abbrev pub IsLentAt : Page → ℕ → List ℕ → PrioSpan → Type 0
+IsLentAt page strip picture step =
     (scale_of page).strip step.thread.0 ≡ strip → step.effective ≢ step.base
     → Stands picture (rect_bytes (codes "loan")
     (loan_area (scale_of page) page.chart.now step) (codes "runs as " ++ decimal step.effective.0))
@@ -155,4 +146,4 @@ IsLentAt page picture strip step =
 -- all loans of a lane that has a strip stand in the picture
 abbrev pub LoansAreDrawn : Page → List ℕ → LaneBand → Type 0
 LoansAreDrawn page picture lane = (y : Px) → lane.strip ≡ Some y
-    → All (IsLentAt page picture y.0) lane.steps.items
+    → All (IsLentAt page y.0 picture) lane.steps.items

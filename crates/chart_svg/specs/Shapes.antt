@@ -1,8 +1,8 @@
 -- What shapes are written as.
-use Rattle.std.specs.Prelude.{ℕ, List, [], ◌∷◌, Option, Some, None, codes, decimal, flat_map}
+use Rattle.std.specs.Prelude.{ℕ, List, [], ◌∷◌, Option, Some, None, codes, decimal, flat_map, All}
 use Rattle.std.specs.List.{concat}
 use Rattle.chart_escape.specs.Markup.{escaped}
-use Rattle.chart_svg.specs.Drawn.{class_bytes, curve_bytes, dot_bytes, rect_bytes, stroke_bytes, words_bytes}
+use Rattle.chart_svg.specs.Drawn.{class_bytes, curve_bytes, dot_bytes, rect_bytes, stroke_bytes, words_bytes, Stands}
 use Rattle.chart_svg.specs.declared.shapes.Area.{Area}
 use Rattle.chart_svg.specs.declared.shapes.Form.{Form}
 use Rattle.chart_svg.specs.declared.shapes.Form.TheVariants as form
@@ -50,6 +50,18 @@ shape_bytes shape = form_bytes (class_bytes shape.0) shape.1
 -- shapes, one behind the other
 abbrev pub shapes_bytes : List Shape → List ℕ
 shapes_bytes shapes = flat_map shape_bytes shapes
+
+-- the shapes stand in a picture, one behind the other
+abbrev pub AreOn : List ℕ → List Shape → Type 0
+AreOn picture shapes = Stands picture (shapes_bytes shapes)
+
+-- the shapes show what is so of each picture in which they stand
+abbrev pub Show : List Shape → (List ℕ → Type 0) → Type 0
+Show shapes Is = (picture : List ℕ) → AreOn picture shapes → Is picture
+
+-- they show it of each of the things
+abbrev pub ShowAll : {X : Type 0} → List Shape → (List ℕ → X → Type 0) → List X → Type 0
+ShowAll shapes Is things = Show shapes (λ picture. All (Is picture) things)
 
 -- a shape, if there is one
 abbrev pub shapes_in : Option Shape → List Shape

@@ -1,24 +1,24 @@
 //! The arrows from lane to lane, in the column of their turn. Their lines pass behind bars; their heads and words stand
 //! before all of these.
-ghost use Rattle.std.specs.Prelude.{◌≡◌, ◌-◌, ◌≤◌, ◌++◌, if◌then◌else◌, length, slice_get, All, IfOk, OnOk, Some};
-ghost use Rattle.chart_svg.specs.Drawn.{arrow_title, class_bytes, figure_bytes, head_class, line_bytes, line_class, to_word, turn_at, ArrowIsDrawn};
+ghost use Rattle.std.specs.Prelude.{◌≡◌, ◌-◌, ◌≤◌, ◌++◌, if◌then◌else◌, length, slice_get, IfOk, OnOk, Some};
+ghost use Rattle.chart_svg.specs.Drawn.{arrow_classes, arrow_title, class_bytes, figure_bytes, line_bytes, to_word, turn_at, ArrowIsDrawn};
 ghost use Rattle.chart_svg.specs.Lanes.{scale_of, Fits, IsLaidOut, IsWithin};
-ghost use Rattle.chart_svg.specs.Pages.{heads_in, lines_in, ArrowIsOn, HasPlaces};
-ghost use Rattle.chart_svg.specs.Shapes.{shape_bytes, shapes_bytes};
+ghost use Rattle.chart_svg.specs.Pages.{ArrowIsOn, HasPlaces};
+ghost use Rattle.chart_svg.specs.Shapes.{shape_bytes, Show, ShowAll};
 ghost use Rattle.chart_svg.specs.declared.shapes.Figure.TheVariants.{Up, Down};
 
 use crate::packing::is_wait;
 use crate::page::{LaneBand, Page};
 use crate::pixels::{Px, count};
 use crate::shapes::Class::Word;
-use crate::shapes::{Class, Figure, Form, MaybeShape, Shape, add, add_some};
+use crate::shapes::{Class, Figure, Form, MaybeShape, Shape, add, add_all, add_some};
 use crate::wording::Pushed;
 use chart_layout::{Arrow, ArrowKind, BarKind, Saying};
 use chart_words::{push_arrow, push_words};
 use lock_model::LockNo;
 use std::alloc::{AllocError, Global};
 
-/// The arrows of a page, as shapes.
+/// Arrows, as shapes.
 #[derive(Drop)]
 pub struct ArrowShapes {
     pub lines: Vec<Shape>,
@@ -26,59 +26,51 @@ pub struct ArrowShapes {
     pub heads: Vec<Shape>,
 }
 
-/// One arrow: its line, its head, and its words where there is room for them.
-#[derive(Drop)]
-struct ArrowShape {
-    line: Shape,
-    head: Shape,
-    words: Option<Shape>,
-}
-
 impl ArrowShapes {
-    // Adds an arrow, if there is one.
-    fn add(&mut self, arrow: Option<ArrowShape>) -> Pushed
+    fn new(alloc: Global) -> ArrowShapes {
+        ArrowShapes {
+            lines: Vec::new(alloc),
+            heads: Vec::new(alloc),
+        }
+    }
+
+    // Adds arrows behind those so far.
+    fn add(&mut self, more: ArrowShapes) -> Pushed
         ensures lines { OnOk result (self.new.lines.items
-            ≡ self.old.lines.items ++ lines_in arrow) }
+            ≡ self.old.lines.items ++ more.lines.items) }
         ensures heads { OnOk result (self.new.heads.items
-            ≡ self.old.heads.items ++ heads_in arrow) }
+            ≡ self.old.heads.items ++ more.heads.items) }
     {
-        let Some(arrow) = arrow else {
-            return Ok(());
-        };
-        add(&mut self.lines, arrow.line)?;
-        add(&mut self.heads, arrow.head)?;
-        add_some(&mut self.heads, arrow.words)
+        add_all(&mut self.lines, more.lines)?;
+        add_all(&mut self.heads, more.heads)
     }
 }
 
 /// The arrows of a page, those whose lanes are there.
 pub fn arrows(alloc: Global, page: &Page<'_>) -> Result<ArrowShapes, AllocError>
     requires { IsLaidOut page.now }
-    ensures { IfOk result (λ arrows. All (ArrowIsOn page.now (shapes_bytes arrows.lines.items)
-        (shapes_bytes arrows.heads.items)) page.now.chart.now.arrows) }
+    ensures { IfOk result (λ arrows. Show arrows.lines.items (λ lines.
+        ShowAll arrows.heads.items (ArrowIsOn page.now lines) page.now.chart.now.arrows)) }
 {
-    let mut arrows = ArrowShapes {
-        lines: Vec::new(alloc),
-        heads: Vec::new(alloc),
-    };
+    let mut arrows = ArrowShapes::new(alloc);
     for arrow in page.chart.arrows.as_slice() {
         arrows.add(one_arrow(alloc, page, *arrow)?)?;
     }
     Ok(arrows)
 }
 
-fn one_arrow(alloc: Global, page: &Page<'_>, arrow: Arrow) -> Result<Option<ArrowShape>, AllocError>
+fn one_arrow(alloc: Global, page: &Page<'_>, arrow: Arrow) -> Result<ArrowShapes, AllocError>
     requires { IsLaidOut page.now }
-    ensures { IfOk result (λ one. ArrowIsOn page.now (shapes_bytes (lines_in one))
-        (shapes_bytes (heads_in one)) arrow) }
+    ensures { IfOk result (λ one. Show one.lines.items (λ lines.
+        Show one.heads.items (λ heads. ArrowIsOn page.now lines heads arrow))) }
 {
     let Some(from) = page.lane_of(arrow.from) else {
-        return Ok(None);
+        return Ok(ArrowShapes::new(alloc));
     };
     let Some(to) = page.lane_of(arrow.to) else {
-        return Ok(None);
+        return Ok(ArrowShapes::new(alloc));
     };
-    Ok(Some(arrow_between(alloc, page, arrow, from, to)?))
+    arrow_between(alloc, page, arrow, from, to)
 }
 
 fn arrow_between(
@@ -87,24 +79,23 @@ fn arrow_between(
     arrow: Arrow,
     from: &LaneBand,
     to: &LaneBand,
-) -> Result<ArrowShape, AllocError>
+) -> Result<ArrowShapes, AllocError>
     requires out { IsLaidOut page.now }
     requires begins { slice_get page.now.lanes.items arrow.from.0 ≡ Some from.now }
     requires ends { slice_get page.now.lanes.items arrow.to.0 ≡ Some to.now }
-    ensures { IfOk result (λ one. ArrowIsDrawn page.now.plan.now page.now.chart.now
-        (scale_of page.now) (shapes_bytes (lines_in (Some one)))
-        (shapes_bytes (heads_in (Some one))) arrow) }
+    ensures { IfOk result (λ one. Show one.lines.items (λ lines. Show one.heads.items (λ heads.
+        ArrowIsDrawn page.now.plan.now page.now.chart.now (scale_of page.now) lines heads arrow))) }
 {
     let goes_up = to.top.0 < from.top.0;
     let begin = begin_of(arrow, from, goes_up);
     let tip = tip_of(page, arrow, to, goes_up);
     let head = head_of(alloc, page, arrow, figure_of(goes_up), tip)?;
     let words = words_of(alloc, page, arrow, height_of(from, goes_up))?;
-    Ok(ArrowShape {
-        line: line_of(page, arrow, begin, tip),
-        head,
-        words,
-    })
+    let mut one = ArrowShapes::new(alloc);
+    add(&mut one.lines, line_of(page, arrow, begin, tip))?;
+    add(&mut one.heads, head)?;
+    add_some(&mut one.heads, words)?;
+    Ok(one)
 }
 
 fn figure_of(goes_up: bool) -> Figure
@@ -123,7 +114,7 @@ fn height_of(from: &LaneBand, goes_up: bool) -> Px {
 }
 
 fn line_of(page: &Page<'_>, arrow: Arrow, begin: Px, tip: Px) -> Shape
-    ensures { shape_bytes result ≡ line_bytes (line_class arrow.kind)
+    ensures { shape_bytes result ≡ line_bytes (arrow_classes arrow.kind).0
         (turn_at (scale_of page.now) page.now.chart.now arrow.turn) begin.0 tip.0 }
 {
     let x = page.turn_at(arrow.turn);
@@ -139,7 +130,7 @@ fn head_of(
     tip: Px,
 ) -> Result<Shape, AllocError>
     ensures { IfOk result (λ shape. shape_bytes shape
-        ≡ figure_bytes (head_class arrow.kind) figure
+        ≡ figure_bytes (arrow_classes arrow.kind).1 figure
         (turn_at (scale_of page.now) page.now.chart.now arrow.turn) tip.0
         (arrow_title page.now.plan.now arrow)) }
 {
@@ -150,8 +141,8 @@ fn head_of(
 
 // The classes of its line and of its head.
 fn classes(kind: ArrowKind) -> (Class, Class)
-    ensures line { class_bytes result.0 ≡ line_class kind }
-    ensures head { class_bytes result.1 ≡ head_class kind }
+    ensures line { class_bytes result.0 ≡ (arrow_classes kind).0 }
+    ensures head { class_bytes result.1 ≡ (arrow_classes kind).1 }
 {
     match kind {
         ArrowKind::Lends { before, prio } if before == prio => (Word("pale"), Word("palehead")),

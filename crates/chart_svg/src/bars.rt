@@ -1,8 +1,8 @@
-//! The bars of a lane.
-ghost use Rattle.std.specs.Prelude.{◌≡◌, ◌++◌, All, IfOk, OnOk};
-ghost use Rattle.chart_svg.specs.Drawn.{bar_area, bar_class, bar_height, bar_title, class_bytes, lasting_words};
-ghost use Rattle.chart_svg.specs.Lanes.{bar_bytes, scale_of, BarsAreDrawn, IsDrawnAt};
-ghost use Rattle.chart_svg.specs.Shapes.{shape_bytes, shapes_bytes};
+//! The bars of the lanes.
+ghost use Rattle.std.specs.Prelude.{◌≡◌, ◌++◌, IfOk, OnOk};
+ghost use Rattle.chart_svg.specs.Drawn.{bar_area, bar_class, bar_height, bar_title, class_bytes, lasting_words, Stands};
+ghost use Rattle.chart_svg.specs.Lanes.{bar_bytes, scale_of, BarIsOn};
+ghost use Rattle.chart_svg.specs.Shapes.{shape_bytes, Show, ShowAll};
 
 use crate::packing::is_walk;
 use crate::page::{LaneBand, Page};
@@ -15,21 +15,10 @@ use chart_words::{push_bar, push_words, queue_name};
 use lock_model::{Mode, QueueName, ThreadNo};
 use std::alloc::{AllocError, Global};
 
-/// The bars of all lanes.
-pub fn bars(alloc: Global, page: &Page<'_>) -> Shapes
+/// The bars of a lane.
+pub fn bars_of(alloc: Global, page: &Page<'_>, lane: &LaneBand) -> Shapes
     ensures { IfOk result (λ shapes.
-        All (BarsAreDrawn page.now (shapes_bytes shapes.items)) page.now.lanes.items) }
-{
-    let mut shapes = Vec::new(alloc);
-    for lane in &page.lanes {
-        add_all(&mut shapes, bars_of(alloc, page, lane)?)?;
-    }
-    Ok(shapes)
-}
-
-fn bars_of(alloc: Global, page: &Page<'_>, lane: &LaneBand) -> Shapes
-    ensures { IfOk result (λ shapes.
-        BarsAreDrawn page.now (shapes_bytes shapes.items) lane.now) }
+        ShowAll shapes.items (BarIsOn page.now lane.now) lane.now.bars.laid.items) }
 {
     let mut shapes = Vec::new(alloc);
     for (bar, level) in &lane.bars.laid {
@@ -70,7 +59,8 @@ fn push_lasting(out: &mut Vec<u8>, chart: &Chart, bar: Bar) -> Pushed
 }
 
 fn one_bar(alloc: Global, page: &Page<'_>, bar: Bar, top: Px) -> Shapes
-    ensures { IfOk result (λ shapes. IsDrawnAt page.now (shapes_bytes shapes.items) top.0 bar) }
+    ensures { IfOk result (λ shapes.
+        Show shapes.items (λ picture. Stands picture (bar_bytes page.now top.0 bar))) }
 {
     let mut shapes = Vec::new(alloc);
     add_some(&mut shapes, ground_of(page, bar, top))?;

@@ -3,18 +3,18 @@ ghost use Rattle.std.specs.Prelude.{IfOk};
 ghost use Rattle.chart_escape.specs.Reader.{IsWellFormed};
 ghost use Rattle.chart_svg.specs.Drawn.{Draws};
 ghost use Rattle.chart_svg.specs.Lanes.{IsLaidOut};
-ghost use Rattle.chart_svg.specs.Pages.{LanesAreDrawn};
-ghost use Rattle.chart_svg.specs.Shapes.{shapes_bytes};
+ghost use Rattle.chart_svg.specs.Pages.{FrameIsOn, LanesAreDrawn, LayerIsOn};
+ghost use Rattle.chart_svg.specs.Shapes.{Show, ShowAll};
 
 use crate::arrows::arrows;
-use crate::bars::bars;
+use crate::bars::bars_of;
 use crate::below::{Below, shapes_below};
-use crate::frame::{frame, heading, paper};
+use crate::frame::{columns, heading, hint, lane_frame, paper};
 use crate::head::{TitleBlock, add_above};
 use crate::marks::{marks, reasons};
-use crate::page::Page;
-use crate::shapes::{Shape, Shapes, add, add_all, picture_of};
-use crate::strips::{strip_words, strips};
+use crate::page::{LaneBand, Page};
+use crate::shapes::{Shape, Shapes, add, add_all, add_some, picture_of};
+use crate::strips::{labels_of, strip_of};
 use crate::style::add_style;
 use chart_layout::Chart;
 use lock_model::Plan;
@@ -70,16 +70,60 @@ fn picture_with(
 // What stands in the lanes and beside them, the words in front.
 fn shapes_in_lanes(alloc: Global, page: &Page<'_>) -> Shapes
     requires { IsLaidOut page.now }
-    ensures { IfOk result (λ shapes. LanesAreDrawn page.now (shapes_bytes shapes.items)) }
+    ensures { IfOk result (λ shapes. Show shapes.items (LanesAreDrawn page.now)) }
 {
     let arrows = arrows(alloc, page)?;
     let mut shapes = frame(alloc, page)?;
-    add_all(&mut shapes, strips(alloc, page)?)?;
+    add_all(&mut shapes, layer_of_lanes(alloc, page, Layer::Strip)?)?;
     add_all(&mut shapes, arrows.lines)?;
-    add_all(&mut shapes, bars(alloc, page)?)?;
-    add_all(&mut shapes, strip_words(alloc, page)?)?;
+    add_all(&mut shapes, layer_of_lanes(alloc, page, Layer::Bars)?)?;
+    add_all(&mut shapes, layer_of_lanes(alloc, page, Layer::Labels)?)?;
     add_all(&mut shapes, arrows.heads)?;
     add_all(&mut shapes, marks(alloc, page)?)?;
     add_all(&mut shapes, reasons(alloc, page)?)?;
     Ok(shapes)
+}
+
+// What stands behind all else: the columns, and the frames of the lanes.
+fn frame(alloc: Global, page: &Page<'_>) -> Shapes
+    ensures { IfOk result (λ shapes.
+        ShowAll shapes.items (FrameIsOn page.now) page.now.lanes.items) }
+{
+    let mut shapes = columns(alloc, page)?;
+    add_all(&mut shapes, layer_of_lanes(alloc, page, Layer::Frame)?)?;
+    add_some(&mut shapes, hint(alloc, page)?)?;
+    Ok(shapes)
+}
+
+// What is drawn of a lane, each layer of all lanes before the next.
+#[derive(Clone, Copy)]
+enum Layer {
+    Frame,
+    Strip,
+    Bars,
+    // The words of loans.
+    Labels,
+}
+
+fn layer_of_lanes(alloc: Global, page: &Page<'_>, layer: Layer) -> Shapes
+    ensures { IfOk result (λ shapes.
+        ShowAll shapes.items (LayerIsOn layer page.now) page.now.lanes.items) }
+{
+    let mut shapes = Vec::new(alloc);
+    for lane in &page.lanes {
+        add_all(&mut shapes, layer_of_lane(alloc, page, lane, layer)?)?;
+    }
+    Ok(shapes)
+}
+
+fn layer_of_lane(alloc: Global, page: &Page<'_>, lane: &LaneBand, layer: Layer) -> Shapes
+    ensures { IfOk result (λ shapes.
+        Show shapes.items (λ picture. LayerIsOn layer page.now picture lane.now)) }
+{
+    match layer {
+        Layer::Frame => lane_frame(alloc, page, lane),
+        Layer::Strip => strip_of(alloc, page, lane),
+        Layer::Bars => bars_of(alloc, page, lane),
+        Layer::Labels => labels_of(alloc, page, lane),
+    }
 }

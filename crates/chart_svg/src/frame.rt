@@ -1,8 +1,8 @@
 //! What stands round the lanes: what is read aloud, the names of the threads and the numbers of the turns.
-ghost use Rattle.std.specs.Prelude.{◌≡◌, ◌+◌, ◌<◌, codes, option_map, Some, All, IfOk};
+ghost use Rattle.std.specs.Prelude.{◌≡◌, ◌+◌, ◌<◌, codes, option_map, Some, IfOk};
 ghost use Rattle.chart_svg.specs.Drawn.{line_bytes, pixels, prio_words};
 ghost use Rattle.chart_svg.specs.Pages.{shown_words, stop_at, FrameIsOn, PrioIsOn, StopsAt};
-ghost use Rattle.chart_svg.specs.Shapes.{shape_bytes, shapes_bytes, shapes_in};
+ghost use Rattle.chart_svg.specs.Shapes.{shape_bytes, shapes_in, Show};
 
 use crate::page::{LaneBand, Page};
 use crate::pixels::{Px, width_of};
@@ -41,18 +41,11 @@ pub fn paper(size: (u32, u32)) -> Shape {
     Shape(Word("paper"), Form::Rect(all, None))
 }
 
-/// The columns with the numbers of the turns, and the names of the lanes.
-pub fn frame(alloc: Global, page: &Page<'_>) -> Shapes
-    ensures { IfOk result (λ shapes.
-        All (FrameIsOn page.now (shapes_bytes shapes.items)) page.now.lanes.items) }
-{
+/// The columns with the numbers of the turns.
+pub fn columns(alloc: Global, page: &Page<'_>) -> Shapes {
     let mut shapes = Vec::new(alloc);
     add_zebra(&mut shapes, page)?;
     add_turns(alloc, &mut shapes, page)?;
-    for lane in &page.lanes {
-        add_all(&mut shapes, lane_frame(alloc, page, lane)?)?;
-    }
-    add_some(&mut shapes, hint(alloc, page)?)?;
     Ok(shapes)
 }
 
@@ -116,9 +109,10 @@ fn turns_apart(page: &Page<'_>) -> u32
     }
 }
 
-// The name of a lane's thread, its priority, and its line.
-fn lane_frame(alloc: Global, page: &Page<'_>, lane: &LaneBand) -> Shapes
-    ensures { IfOk result (λ shapes. FrameIsOn page.now (shapes_bytes shapes.items) lane.now) }
+/// The name of a lane's thread, its priority, and its line.
+pub fn lane_frame(alloc: Global, page: &Page<'_>, lane: &LaneBand) -> Shapes
+    ensures { IfOk result (λ shapes.
+        Show shapes.items (λ picture. FrameIsOn page.now picture lane.now)) }
 {
     let name = page.plan.thread_name(lane.thread);
     let mut shapes = Vec::new(alloc);
@@ -133,8 +127,8 @@ fn lane_frame(alloc: Global, page: &Page<'_>, lane: &LaneBand) -> Shapes
 
 // The line of a lane's thread, to its end.
 fn own_line(alloc: Global, page: &Page<'_>, lane: &LaneBand) -> Shapes
-    ensures { IfOk result (λ shapes.
-        StopsAt (shapes_bytes shapes.items) lane.now (stop_at page.now lane.now.thread.0)) }
+    ensures { IfOk result (λ shapes. Show shapes.items (λ picture.
+        StopsAt picture lane.now (stop_at page.now lane.now.thread.0))) }
 {
     match end_of(page, lane.thread) {
         Some(x) => ended_line(alloc, page, lane, x),
@@ -153,7 +147,8 @@ fn line_to(page: &Page<'_>, lane: &LaneBand, x: Px) -> Shape {
 
 // One that ends there: a stroke across it, and a word.
 fn ended_line(alloc: Global, page: &Page<'_>, lane: &LaneBand, x: Px) -> Shapes
-    ensures { IfOk result (λ shapes. StopsAt (shapes_bytes shapes.items) lane.now (Some x.0)) }
+    ensures { IfOk result (λ shapes.
+        Show shapes.items (λ picture. StopsAt picture lane.now (Some x.0))) }
 {
     let mut shapes = Vec::new(alloc);
     add(&mut shapes, line_to(page, lane, x))?;
@@ -178,8 +173,8 @@ fn stroke(lane: &LaneBand, x: Px) -> Shape
     )
 }
 
-// Below the first lane's priority: which of two goes first.
-fn hint(alloc: Global, page: &Page<'_>) -> MaybeShape {
+/// Below the first lane's priority: which of two goes first.
+pub fn hint(alloc: Global, page: &Page<'_>) -> MaybeShape {
     let Some(lane) = page.lanes.first() else {
         return Ok(None);
     };
@@ -202,7 +197,8 @@ pub fn end_of(page: &Page<'_>, t: ThreadNo) -> Option<Px>
 
 // Its priority, as the lane's first step says it.
 fn priority(alloc: Global, lane: &LaneBand) -> MaybeShape
-    ensures { IfOk result (λ shape. PrioIsOn (shapes_bytes (shapes_in shape)) lane.now) }
+    ensures { IfOk result (λ shape.
+        Show (shapes_in shape) (λ picture. PrioIsOn picture lane.now)) }
 {
     let Some(step) = lane.steps.first() else {
         return Ok(None);

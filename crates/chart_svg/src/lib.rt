@@ -14,6 +14,7 @@
 //! - `frame`: what stands round the lanes: names and turns.
 //! - `bars`, `strips`, `arrows`, `marks`: what stands in the lanes.
 //! - `below`: sentences and the printed end.
+//! - `drawing`: all of these, one behind the other; what stands in the lanes in layers.
 #![tactic(auto)]
 
 mod arrows;

@@ -1,9 +1,9 @@
 //! The marks of the turns, with their words where there is room for words.
-ghost use Rattle.std.specs.Prelude.{◌≡◌, ◌++◌, All, IfOk, OnOk};
+ghost use Rattle.std.specs.Prelude.{◌≡◌, ◌++◌, IfOk, OnOk};
 ghost use Rattle.chart_svg.specs.Drawn.{class_bytes, dot_class, mark_bytes, mark_title, note_of};
 ghost use Rattle.chart_svg.specs.Lanes.{IsLaidOut};
 ghost use Rattle.chart_svg.specs.Pages.{MarkIsOn};
-ghost use Rattle.chart_svg.specs.Shapes.{shape_bytes, shapes_bytes};
+ghost use Rattle.chart_svg.specs.Shapes.{shape_bytes, Show, ShowAll};
 
 use crate::lines::{Line, add_lines, wrap};
 use crate::page::Page;
@@ -23,7 +23,7 @@ const LINE_HEIGHT: u32 = 12;
 pub fn marks(alloc: Global, page: &Page<'_>) -> Shapes
     requires { IsLaidOut page.now }
     ensures { IfOk result (λ shapes.
-        All (MarkIsOn page.now (shapes_bytes shapes.items)) page.now.chart.now.marks) }
+        ShowAll shapes.items (MarkIsOn page.now) page.now.chart.now.marks) }
 {
     let mut shapes = Vec::new(alloc);
     for mark in page.chart.marks.as_slice() {
@@ -34,7 +34,8 @@ pub fn marks(alloc: Global, page: &Page<'_>) -> Shapes
 
 fn one_mark(alloc: Global, page: &Page<'_>, mark: TurnMark) -> Shapes
     requires { IsLaidOut page.now }
-    ensures { IfOk result (λ shapes. MarkIsOn page.now (shapes_bytes shapes.items) mark) }
+    ensures { IfOk result (λ shapes.
+        Show shapes.items (λ picture. MarkIsOn page.now picture mark)) }
 {
     let Some(lane) = page.lane_of(mark.thread) else {
         return Ok(Vec::new(alloc));

@@ -1,8 +1,8 @@
 //! Where all columns and lanes are. A column is a turn, and its mark stands in the middle of it; a row of the run goes
 //! from the middle of one column to the middle of the next.
 ghost use Rattle.std.specs.Prelude.{◌≡◌, ◌↔◌, false, ℕ, ◌+◌, ◌-◌, ◌*◌, ◌≤◌, ◌++◌, ◌∷◌, [], length, All, IfOk, OnOk, slice_get, MatchOption, None, Some};
-ghost use Rattle.chart_svg.specs.Drawn.{pixels, right_edge, row_begin, row_end, turn_at, SaysAs};
-ghost use Rattle.chart_svg.specs.Lanes.{bar_bottom, bar_place, bar_top, pitch_of, rank_in, scale_of, of_thread, AreSame, Fits, HasPrios, IsLaidOut, IsLane};
+ghost use Rattle.chart_svg.specs.Drawn.{of_thread, pixels, right_edge, row_begin, row_end, turn_at, SaysAs};
+ghost use Rattle.chart_svg.specs.Lanes.{bar_bottom, bar_place, bar_top, pitch_of, rank_in, scale_of, AreSame, Fits, HasPrios, IsLaidOut, IsLane};
 
 use crate::marks::{height_of, reason_lines};
 use crate::packing::{Packed, is_walk, pack};
@@ -201,7 +201,7 @@ impl<'c> Page<'c> {
         requires fits { self.now.bottom.0 ≤ 4294967295 }
         requires own { slice_get self.now.chart.now.lanes t ≡ Some own.now }
         ensures top { IfOk result (λ lane. lane.top ≡ self.now.bottom) }
-        ensures lane { IfOk result (IsLane self.now t) }
+        ensures lane { IfOk result (IsLane self.now.prios.items self.now.chart.now t) }
     {
         let begin = self.bottom.plus(self.reasons_height(alloc, own.thread)?);
         let bars = pack(alloc, &bars_of(alloc, self.chart, t)?)?;

@@ -1,9 +1,9 @@
 //! The strips of priorities, in the lanes whose priorities change: a line where the thread runs, and a loan as a filled
 //! step. More important is up.
-ghost use Rattle.std.specs.Prelude.{◌≡◌, ◌++◌, codes, decimal, All, IfOk};
+ghost use Rattle.std.specs.Prelude.{◌≡◌, ◌++◌, codes, decimal, IfOk};
 ghost use Rattle.chart_svg.specs.Drawn.{loan_area};
 ghost use Rattle.chart_svg.specs.Lanes.{scale_of, IsLentAt, LoansAreDrawn};
-ghost use Rattle.chart_svg.specs.Shapes.{shapes_bytes};
+ghost use Rattle.chart_svg.specs.Shapes.{Show, ShowAll};
 
 use crate::frame::end_of;
 use crate::page::{LaneBand, Page, prios_of};
@@ -16,21 +16,10 @@ use chart_words::push_words;
 use lock_model::{Prio, push_digits};
 use std::alloc::{AllocError, Global};
 
-/// The strips of all lanes, without the words of their loans.
-pub fn strips(alloc: Global, page: &Page<'_>) -> Shapes
+/// The strip of a lane, if it has one, without the words of its loans.
+pub fn strip_of(alloc: Global, page: &Page<'_>, lane: &LaneBand) -> Shapes
     ensures { IfOk result (λ shapes.
-        All (LoansAreDrawn page.now (shapes_bytes shapes.items)) page.now.lanes.items) }
-{
-    let mut shapes = Vec::new(alloc);
-    for lane in &page.lanes {
-        add_all(&mut shapes, strip_of(alloc, page, lane)?)?;
-    }
-    Ok(shapes)
-}
-
-fn strip_of(alloc: Global, page: &Page<'_>, lane: &LaneBand) -> Shapes
-    ensures { IfOk result (λ shapes.
-        LoansAreDrawn page.now (shapes_bytes shapes.items) lane.now) }
+        Show shapes.items (λ picture. LoansAreDrawn page.now picture lane.now)) }
 {
     let Some(strip) = lane.strip else {
         return Ok(Vec::new(alloc));
@@ -72,7 +61,7 @@ fn ticks_of(alloc: Global, page: &Page<'_>, strip: Px, prios: &[Prio]) -> Shapes
 // The steps of the loans of a lane, whose strip begins there.
 fn loans(alloc: Global, page: &Page<'_>, lane: &LaneBand, strip: Px) -> Shapes
     ensures { IfOk result (λ shapes.
-        All (IsLentAt page.now (shapes_bytes shapes.items) strip.0) lane.now.steps.items) }
+        ShowAll shapes.items (IsLentAt page.now strip.0) lane.now.steps.items) }
 {
     let mut shapes = Vec::new(alloc);
     for step in &lane.steps {
@@ -82,7 +71,8 @@ fn loans(alloc: Global, page: &Page<'_>, lane: &LaneBand, strip: Px) -> Shapes
 }
 
 fn one_loan(alloc: Global, page: &Page<'_>, strip: Px, step: PrioSpan) -> Shapes
-    ensures { IfOk result (λ shapes. IsLentAt page.now (shapes_bytes shapes.items) strip.0 step) }
+    ensures { IfOk result (λ shapes.
+        Show shapes.items (λ picture. IsLentAt page.now strip.0 picture step)) }
 {
     let mut shapes = Vec::new(alloc);
     if step.effective == step.base {
@@ -127,28 +117,15 @@ fn loan_words(alloc: Global, step: PrioSpan) -> Result<Vec<u8>, AllocError>
     Ok(words)
 }
 
-/// The words of the loans of all lanes, where there is room for them.
-pub fn strip_words(alloc: Global, page: &Page<'_>) -> Shapes {
+/// The words of a lane's loans, where there is room for them.
+pub fn labels_of(alloc: Global, page: &Page<'_>, lane: &LaneBand) -> Shapes {
     let mut shapes = Vec::new(alloc);
-    for lane in &page.lanes {
-        if let Some(strip) = lane.strip {
-            add_labels(alloc, &mut shapes, page, strip, &lane.steps)?;
+    if let Some(strip) = lane.strip {
+        for step in &lane.steps {
+            add_some(&mut shapes, label_of(alloc, page, strip, *step)?)?;
         }
     }
     Ok(shapes)
-}
-
-fn add_labels(
-    alloc: Global,
-    shapes: &mut Vec<Shape>,
-    page: &Page<'_>,
-    strip: Px,
-    steps: &[PrioSpan],
-) -> Pushed {
-    for step in steps {
-        add_some(shapes, label_of(alloc, page, strip, *step)?)?;
-    }
-    Ok(())
 }
 
 // The words of a loan, where it has room for them. A step without one has no height.

@@ -1,6 +1,6 @@
 -- A chart as lines of text, one for each turn. Lines that begin with `#` are of no turn: the title, the heads of the
 -- columns, and how the run ended.
-use Rattle.std.specs.Prelude.{ℕ, ◌-◌, ◌==◌, nat_lt, ◌||◌, if◌then◌else◌, max, List, [], ◌∷◌, ◌++◌, length, map, flat_map, fold, nat_eq, replicate, slice_get, codes, decimal, Option, Some, None}
+use Rattle.std.specs.Prelude.{ℕ, ◌-◌, ◌==◌, nat_lt, ◌||◌, if◌then◌else◌, max, List, [], ◌∷◌, ◌++◌, length, map, flat_map, fold, nat_eq, replicate, slice_get, codes, decimal, Option, Some, None, option_map, unwrap_or}
 use Rattle.std.specs.List.{range_with_len}
 use Rattle.std.specs.Global.{Vec}
 use Rattle.std.specs.HashMap.{HashMap, get}
@@ -39,11 +39,8 @@ abbrev pub at_left : ℕ → List ℕ → List ℕ
 at_left width word = word ++ spaces (width - length word)
 
 -- the column of names is as wide as the longest name of a thread, and not narrower than its head
-abbrev pub wider : ℕ → ThreadDecl → ℕ
-wider width thread = max width (length thread.name)
-
 abbrev pub name_width : List ThreadDecl → ℕ
-name_width threads = fold wider 6 threads
+name_width threads = fold max 6 (map (λ thread. length thread.name) threads)
 
 -- 2. What a turn did
 
@@ -86,13 +83,9 @@ told_by plan n arrow = if arrow.turn == n then told_words plan arrow.kind arrow.
 abbrev pub Said : Type 0
 Said = HashMap ℕ (Vec ℕ) (BuildHasherDefault FoldHasher)
 
-abbrev pub words_in : Option (Vec ℕ) → List ℕ
-words_in None = []
-words_in (Some words) = words.items
-
 -- what is said of the n-th turn there, and nothing where its number doesn't stand there
 abbrev pub words_at : Said → ℕ → List ℕ
-words_at said n = words_in (get nat_eq said n)
+words_at said n = unwrap_or (option_map (λ words. words.items) (get nat_eq said n)) []
 
 -- all that a chart says of the n-th turn
 abbrev pub said_of : Plan → Chart → ℕ → List ℕ
@@ -113,14 +106,11 @@ line_of plan width n None said = []
 line_of plan width n (Some turn) said =
     columns_of plan width n turn ++ did_words plan turn.answer turn.entry ++ said ++ 10 ∷ []
 
-abbrev pub line_in : Plan → ℕ → Rows → Chart → ℕ → List ℕ
-line_in plan width rows chart n =
-    line_of plan width n (slice_get rows.turns n) (said_of plan chart n)
-
 -- those of so many turns from one on
 abbrev pub lines_from : Plan → ℕ → Rows → Chart → ℕ → ℕ → List ℕ
-lines_from plan width rows chart n turns =
-    flat_map (line_in plan width rows chart) (range_with_len n turns)
+lines_from plan width rows chart first turns =
+    flat_map (λ n. line_of plan width n (slice_get rows.turns n) (said_of plan chart n))
+    (range_with_len first turns)
 
 -- a byte of a title: a space in place of one that moves a terminal's cursor
 abbrev pub shown_byte : ℕ → ℕ

@@ -1,5 +1,5 @@
 //! Words in columns of their own.
-ghost use Rattle.std.specs.Prelude.{◌≡◌, ◌++◌, OnOk};
+ghost use Rattle.std.specs.Prelude.{◌≡◌, ◌++◌, ◌∷◌, [], OnOk};
 ghost use Rattle.chart_text.specs.Lines.{at_left, at_right, name_width, spaces};
 
 use chart_words::push_words;
@@ -10,19 +10,17 @@ use std::alloc::AllocError;
 pub fn name_width(threads: &[ThreadDecl]) -> usize
     ensures { result ≡ name_width threads.now }
 {
-    let mut width: usize = 6;
-    for thread in threads {
-        width = width.max(thread.name.as_bytes().len());
-    }
-    width
+    let widths = threads.iter().map(|thread| thread.name.as_bytes().len());
+    widths.fold(6, |widest: usize, width| widest.max(width))
 }
 
-/// Pushes a word at the right of a column so wide.
+/// Pushes a word at the right of a column so wide, and the space behind the column.
 pub fn push_right(out: &mut Vec<u8>, width: usize, word: &[u8]) -> Result<(), AllocError>
-    ensures { OnOk result (out.new.items ≡ out.old.items ++ at_right width word.now) }
+    ensures { OnOk result (out.new.items ≡ out.old.items ++ at_right width word.now ++ 32 ∷ []) }
 {
     push_spaces(out, width.saturating_sub(word.len()))?;
-    push_words(out, word)
+    push_words(out, word)?;
+    push_words(out, b" ")
 }
 
 /// Pushes a word at the left of a column so wide.

@@ -31,7 +31,7 @@ pub fn text(
     let said = said_by_turn(alloc, plan, chart)?;
     let mut out = Vec::new(alloc);
     push_head(&mut out, width, title.as_bytes())?;
-    push_lines(alloc, &mut out, plan, width, rows, chart, &said)?;
+    push_lines(&mut out, plan, width, rows, chart, &said)?;
     push_end_line(&mut out, plan, &chart.end)?;
     Ok(out)
 }
@@ -65,7 +65,6 @@ fn shown_byte(byte: u8) -> u8
 
 // The lines of the turns between the rows of the window.
 fn push_lines(
-    alloc: Global,
     out: &mut Vec<u8>,
     plan: &Plan,
     width: usize,
@@ -79,7 +78,7 @@ fn push_lines(
         (chart.now.last - chart.now.first)) }
 {
     for turn in chart.first..chart.last {
-        push_turn(alloc, out, plan, width, rows, turn, words_of(said, turn))?;
+        push_turn(out, plan, width, rows, turn, words_of(said, turn))?;
     }
     Ok(())
 }

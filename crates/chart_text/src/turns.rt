@@ -1,6 +1,6 @@
 //! The line of a turn.
-ghost use Rattle.std.specs.Prelude.{◌≡◌, ◌++◌, ◌∷◌, [], decimal, slice_get, Some, IfOk, OnOk};
-ghost use Rattle.chart_text.specs.Lines.{at_right, columns_of, did_words, line_of, ticket_word};
+ghost use Rattle.std.specs.Prelude.{◌≡◌, ◌++◌, decimal, slice_get, Some, IfOk, OnOk};
+ghost use Rattle.chart_text.specs.Lines.{columns_of, did_words, line_of, ticket_word};
 
 use crate::columns::{push_left, push_right};
 use chart_layout::MarkKind;
@@ -11,7 +11,6 @@ use std::alloc::{AllocError, Global};
 
 /// Pushes the line of a turn of which this is said, if the run has that turn.
 pub fn push_turn(
-    alloc: Global,
     out: &mut Vec<u8>,
     plan: &Plan,
     width: usize,
@@ -23,13 +22,12 @@ pub fn push_turn(
         ++ line_of plan.now width turn (slice_get rows.now.turns turn) said.now) }
 {
     match rows.turns.as_slice().get(turn as usize) {
-        Some(row) => push_line(alloc, out, plan, width, turn, *row, said),
+        Some(row) => push_line(out, plan, width, turn, *row, said),
         None => Ok(()),
     }
 }
 
 fn push_line(
-    alloc: Global,
     out: &mut Vec<u8>,
     plan: &Plan,
     width: usize,
@@ -40,14 +38,13 @@ fn push_line(
     ensures { OnOk result (out.new.items
         ≡ out.old.items ++ line_of plan.now width turn (Some row) said.now) }
 {
-    push_columns(alloc, out, plan, width, turn, row)?;
+    push_columns(out, plan, width, turn, row)?;
     push_did(out, plan, row)?;
     push_words(out, said)?;
     push_words(out, b"\n")
 }
 
 fn push_columns(
-    alloc: Global,
     out: &mut Vec<u8>,
     plan: &Plan,
     width: usize,
@@ -57,16 +54,9 @@ fn push_columns(
     ensures { OnOk result (out.new.items
         ≡ out.old.items ++ columns_of plan.now width turn row) }
 {
-    push_cell(out, 6, &number_of(alloc, turn)?)?;
-    push_cell(out, 5, &ticket_of(alloc, row.entry)?)?;
+    push_right(out, 6, &number_of(*out.allocator(), turn)?)?;
+    push_right(out, 5, &ticket_of(*out.allocator(), row.entry)?)?;
     push_left(out, width, plan.thread_name(row.who))?;
-    push_words(out, b" ")
-}
-
-fn push_cell(out: &mut Vec<u8>, width: usize, word: &[u8]) -> Result<(), AllocError>
-    ensures { OnOk result (out.new.items ≡ out.old.items ++ at_right width word.now ++ 32 ∷ []) }
-{
-    push_right(out, width, word)?;
     push_words(out, b" ")
 }
 

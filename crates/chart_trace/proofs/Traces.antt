@@ -5,7 +5,7 @@ use Rattle.chart_escape.proofs.Written.{is_json, numbered_is_shallow, IsShallow}
 use Rattle.chart_escape.specs.Json.{json_string}
 use Rattle.chart_escape.specs.Values.{items, items_bytes, told_from, value_bytes, IsJson}
 use Rattle.chart_layout.specs.declared.layout.Chart.{Chart}
-use Rattle.chart_trace.specs.Events.{Event, Process, Order, Track, Slice, Counter, From, To, Said, beginning, end_event, event_value, next_line, next_lines, other_events, trace_bytes, trace_value}
+use Rattle.chart_trace.specs.Events.{Event, Process, beginning, end_event, event_value, next_line, next_lines, other_events, trace_bytes, trace_value}
 use Rattle.lock_model.specs.declared.plan.Plan.{Plan}
 
 -- events that are pushed behind others
@@ -33,13 +33,7 @@ trace_is plan chart title =
 event_is_shallow : (e : Event) → IsShallow 2 (event_value e)
 unfolding event_value
 event_is_shallow (Process pid name) = omega arith
-event_is_shallow (Order pid) = omega arith
-event_is_shallow (Track pid tid name) = omega arith
-event_is_shallow (Slice at name lasts) = omega arith
-event_is_shallow (Counter pid time height) = omega arith
-event_is_shallow (From id name at) = omega arith
-event_is_shallow (To id name at) = omega arith
-event_is_shallow (Said scope name at) = omega arith
+event_is_shallow other = omega arith
 
 pub trace_is_json : (plan : Plan) (chart : Chart) (title : List ℕ) → IsJson (trace_bytes plan chart title)
 trace_is_json plan chart title =

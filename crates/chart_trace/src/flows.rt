@@ -2,11 +2,10 @@
 //! the owner holds.
 
 ghost use Rattle.std.specs.Prelude.{◌≡◌, ◌++◌, codes, ℕ, nat_eq, IfOk, OnOk};
-ghost use Rattle.std.specs.Option.{option_or};
 ghost use Rattle.std.specs.HashMap as table;
 ghost use Rattle.chart_escape.specs.Json.{json_string};
 ghost use Rattle.chart_escape.specs.Values.{number_bytes};
-ghost use Rattle.chart_trace.specs.Events.{From, To, arrow_events, end_of, flow_to, lent_in, loan_lock, lock_lent, next_line, next_lines};
+ghost use Rattle.chart_trace.specs.Events.{From, To, arrow_events, end_of, flow_to, loan_lock, lock_lent, next_line, next_lines};
 
 use crate::told::Pushed;
 use crate::tracks::{Place, TURNS, WAITS, holds_of, place_of, time_of};
@@ -19,19 +18,14 @@ use std::alloc::{AllocError, Global};
 use std::collections::HashMap;
 
 /// Pushes the arrows of wakes and loans. Which lock a loan is for, the sentence of its turn says.
-pub fn push_flows(
-    alloc: Global,
-    out: &mut Vec<u8>,
-    arrows: &[Arrow],
-    sentences: &[Sentence],
-) -> Pushed
+pub fn push_flows(out: &mut Vec<u8>, arrows: &[Arrow], sentences: &[Sentence]) -> Pushed
     ensures { OnOk result (out.new.items
         ≡ out.old.items ++ next_lines (arrow_events sentences.now 0 arrows.now)) }
 {
-    let locks = loan_locks(alloc, sentences)?;
+    let locks = loan_locks(*out.allocator(), sentences)?;
     for (id, arrow) in arrows.iter().enumerate() {
         let lock = locks.get(&arrow.turn).copied();
-        push_flow_to(alloc, out, id as u64, *arrow, end_of(lock, arrow.kind))?;
+        push_flow_to(out, id as u64, *arrow, end_of(lock, arrow.kind))?;
     }
     Ok(())
 }
@@ -43,19 +37,11 @@ fn loan_locks(alloc: Global, sentences: &[Sentence]) -> Result<HashMap<u32, Lock
 {
     let mut locks = HashMap::new(alloc);
     for sentence in sentences {
-        add_loan(&mut locks, sentence)?;
+        if let Some(lock) = lock_lent(&sentence.saying) {
+            locks.insert(sentence.turn, lock)?;
+        }
     }
     Ok(locks)
-}
-
-fn add_loan(locks: &mut HashMap<u32, LockNo>, sentence: &Sentence) -> Pushed
-    ensures { OnOk result ((turn : ℕ) → table.get nat_eq locks.new turn
-        ≡ option_or (lent_in sentence.now turn) (table.get nat_eq locks.old turn)) }
-{
-    if let Some(lock) = lock_lent(&sentence.saying) {
-        locks.insert(sentence.turn, lock)?;
-    }
-    Ok(())
 }
 
 fn lock_lent(saying: &Saying) -> Option<LockNo>
@@ -87,19 +73,13 @@ fn end_of(lock: Option<LockNo>, kind: ArrowKind) -> Option<u64>
     }
 }
 
-fn push_flow_to(
-    alloc: Global,
-    out: &mut Vec<u8>,
-    id: u64,
-    arrow: Arrow,
-    track: Option<u64>,
-) -> Pushed
+fn push_flow_to(out: &mut Vec<u8>, id: u64, arrow: Arrow, track: Option<u64>) -> Pushed
     ensures { OnOk result (out.new.items
         ≡ out.old.items ++ next_lines (flow_to id arrow track)) }
 {
     match track {
         Some(track) => {
-            let mut name = Vec::new(alloc);
+            let mut name = Vec::new(*out.allocator());
             push_arrow(&mut name, arrow)?;
             let time = time_of(arrow.turn);
             let from = place_of(arrow.from, TURNS, time);
@@ -126,7 +106,6 @@ fn push_end(out: &mut Vec<u8>, begin: &'static str, id: u64, name: &[u8], at: Pl
         ++ (codes ",\"pid\":" ++ (number_bytes at.pid ++ (codes ",\"tid\":" ++ (number_bytes at.tid
         ++ (codes ",\"ts\":" ++ (number_bytes at.time ++ codes "}"))))))))))) }
 {
-    let Place { pid, tid, time } = at;
     push_tokens(
         out,
         &[
@@ -135,11 +114,11 @@ fn push_end(out: &mut Vec<u8>, begin: &'static str, id: u64, name: &[u8], at: Pl
             Own(",\"cat\":\"lock\",\"id\":"),
             Number(id),
             Own(",\"pid\":"),
-            Number(pid),
+            Number(at.pid),
             Own(",\"tid\":"),
-            Number(tid),
+            Number(at.tid),
             Own(",\"ts\":"),
-            Number(time),
+            Number(at.time),
             Own("}"),
         ],
     )

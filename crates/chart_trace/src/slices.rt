@@ -10,14 +10,13 @@ use chart_escape::push_tokens;
 use chart_layout::{Bar, MarkKind, PrioSpan, Sentence, TurnMark};
 use chart_words::{push_bar, push_lost, push_mark, push_note, push_sentence};
 use lock_model::Plan;
-use std::alloc::Global;
 
 /// A slice, from the turn that began it to the turn that ended it.
 impl Told for Bar {
     ghost events = { bar_events };
 
-    fn push(&self, alloc: Global, out: &mut Vec<u8>, plan: &Plan) -> Pushed {
-        let mut name = Vec::new(alloc);
+    fn push(&self, out: &mut Vec<u8>, plan: &Plan) -> Pushed {
+        let mut name = Vec::new(*out.allocator());
         push_bar(&mut name, plan, self.what)?;
         let begin = begin_of(self.first);
         let at = place_of(self.thread, track_of(self.what), begin);
@@ -36,8 +35,8 @@ fn begin_of(row: u32) -> u64
 impl Told for TurnMark {
     ghost events = { mark_events };
 
-    fn push(&self, alloc: Global, out: &mut Vec<u8>, plan: &Plan) -> Pushed {
-        let mut name = Vec::new(alloc);
+    fn push(&self, out: &mut Vec<u8>, plan: &Plan) -> Pushed {
+        let mut name = Vec::new(*out.allocator());
         let at = place_of(self.thread, TURNS, time_of(self.turn));
         match self.what {
             MarkKind::Noted(event) => {
@@ -59,8 +58,8 @@ impl Told for TurnMark {
 impl Told for Sentence {
     ghost events = { sentence_events };
 
-    fn push(&self, alloc: Global, out: &mut Vec<u8>, plan: &Plan) -> Pushed {
-        let mut words = Vec::new(alloc);
+    fn push(&self, out: &mut Vec<u8>, plan: &Plan) -> Pushed {
+        let mut words = Vec::new(*out.allocator());
         push_sentence(&mut words, plan, self)?;
         let at = place_of(self.thread, TURNS, time_of(self.turn));
         push_said(out, at, &words)
@@ -71,7 +70,7 @@ impl Told for Sentence {
 impl Told for PrioSpan {
     ghost events = { step_events };
 
-    fn push(&self, _alloc: Global, out: &mut Vec<u8>, _plan: &Plan) -> Pushed {
+    fn push(&self, out: &mut Vec<u8>, _plan: &Plan) -> Pushed {
         let height = 255 - u64::from(self.effective.0);
         push_counter(out, process_of(self.thread), begin_of(self.first), height)
     }
@@ -82,18 +81,17 @@ fn push_slice(out: &mut Vec<u8>, at: Place, name: &[u8], lasts: u64) -> Pushed
     ensures { OnOk result (out.new.items
         ≡ out.old.items ++ next_line (Slice at name.now lasts)) }
 {
-    let Place { pid, tid, time } = at;
     push_tokens(
         out,
         &[
             Own(",\n{\"ph\":\"X\",\"name\":"),
             Json(name),
             Own(",\"pid\":"),
-            Number(pid),
+            Number(at.pid),
             Own(",\"tid\":"),
-            Number(tid),
+            Number(at.tid),
             Own(",\"ts\":"),
-            Number(time),
+            Number(at.time),
             Own(",\"dur\":"),
             Number(lasts),
             Own("}"),
@@ -106,18 +104,17 @@ fn push_said(out: &mut Vec<u8>, at: Place, words: &[u8]) -> Pushed
     ensures { OnOk result (out.new.items
         ≡ out.old.items ++ next_line (Said (codes "t") words.now at)) }
 {
-    let Place { pid, tid, time } = at;
     push_tokens(
         out,
         &[
             Own(",\n{\"ph\":\"i\",\"s\":\"t\",\"name\":"),
             Json(words),
             Own(",\"pid\":"),
-            Number(pid),
+            Number(at.pid),
             Own(",\"tid\":"),
-            Number(tid),
+            Number(at.tid),
             Own(",\"ts\":"),
-            Number(time),
+            Number(at.time),
             Own("}"),
         ],
     )

@@ -26,7 +26,7 @@ pub fn trace(alloc: Global, plan: &Plan, chart: &Chart, title: &str) -> Result<V
 {
     let mut out = Vec::new(alloc);
     push_begin(&mut out, chart, title)?;
-    push_others(alloc, &mut out, plan, chart)?;
+    push_others(&mut out, plan, chart)?;
     push_tokens(&mut out, &[Own("]}\n")])?;
     Ok(out)
 }
@@ -56,17 +56,17 @@ fn push_begin(out: &mut Vec<u8>, chart: &Chart, title: &str) -> Pushed
 
 // The events behind the first.
 #[tactic(auto, using(crate::proofs::Traces::lines_more), unfolding(crate::specs::Events::other_events))]
-fn push_others(alloc: Global, out: &mut Vec<u8>, plan: &Plan, chart: &Chart) -> Pushed
+fn push_others(out: &mut Vec<u8>, plan: &Plan, chart: &Chart) -> Pushed
     ensures { OnOk result (out.new.items
         ≡ out.old.items ++ next_lines (other_events plan.now chart.now)) }
 {
     let bars = chart.bars.as_slice();
     let sentences = chart.sentences.as_slice();
-    push_each(alloc, out, plan, chart.lanes.as_slice())?;
+    push_each(out, plan, chart.lanes.as_slice())?;
     push_locks(out, plan, bars)?;
-    push_each(alloc, out, plan, bars)?;
-    push_each(alloc, out, plan, chart.marks.as_slice())?;
-    push_each(alloc, out, plan, sentences)?;
-    push_each(alloc, out, plan, chart.steps.as_slice())?;
-    push_flows(alloc, out, chart.arrows.as_slice(), sentences)
+    push_each(out, plan, bars)?;
+    push_each(out, plan, chart.marks.as_slice())?;
+    push_each(out, plan, sentences)?;
+    push_each(out, plan, chart.steps.as_slice())?;
+    push_flows(out, chart.arrows.as_slice(), sentences)
 }

@@ -9,7 +9,6 @@ use chart_escape::Piece::{Json, Number, Own};
 use chart_escape::push_tokens;
 use chart_layout::{Bar, BarKind, Lane};
 use lock_model::{LockNo, Plan, ThreadNo};
-use std::alloc::Global;
 
 /// A track of a process, and a time in microseconds.
 #[derive(Clone, Copy)]
@@ -77,7 +76,7 @@ pub fn time_of(turn: u32) -> u64
 impl Told for Lane {
     ghost events = { lane_events };
 
-    fn push(&self, _alloc: Global, out: &mut Vec<u8>, plan: &Plan) -> Pushed {
+    fn push(&self, out: &mut Vec<u8>, plan: &Plan) -> Pushed {
         let pid = process_of(self.thread);
         push_process(out, pid, plan.thread_name(self.thread))?;
         push_order(out, pid)?;

@@ -1,7 +1,6 @@
 -- What a chart says of a turn, and of the end of the run.
 use Rattle.std.specs.Prelude.{ℕ, Bool, ◌==◌, if◌then◌else◌, List, [], ◌∷◌, ◌++◌, length, codes, Option, Some, None, decimal}
 use Rattle.lock_model.specs.Text.{thread_name, lock_name, chan_name}
-use Rattle.lock_model.specs.declared.numbers.LockNo.{LockNo}
 use Rattle.lock_model.specs.declared.numbers.Prio.{Prio}
 use Rattle.lock_model.specs.declared.numbers.ThreadNo.{ThreadNo}
 use Rattle.lock_model.specs.declared.plan.Plan.{Plan}
@@ -20,17 +19,13 @@ unfoldable pub change_words : Prio → Prio → List ℕ
 change_words before prio =
     codes " (" ++ decimal before.0 ++ 32 ∷ 226 ∷ 134 ∷ 146 ∷ 32 ∷ decimal prio.0 ++ codes ")"
 
--- what readers do with a lock, by their number
-unfoldable pub reading_words : ℕ → List ℕ
-reading_words readers = if readers == 1 then codes " reads it, but " else codes " read it, but "
-
--- for which lock it waits, and who holds that; where readers do, a writer came first
-unfoldable pub waiting_words : Plan → LockNo → List ThreadNo → Option ThreadNo → List ℕ
-waiting_words plan l holders None =
-    codes " waits for " ++ lock_name plan l.0 ++ codes ", held by " ++ thread_names plan holders
-waiting_words plan l holders (Some writer) =
-    codes " waits for " ++ lock_name plan l.0 ++ codes ": " ++ thread_names plan holders
-    ++ reading_words (length holders) ++ thread_name plan writer.0 ++ codes " came first"
+-- who holds a lock that it waits for; where readers do, a writer came first
+unfoldable pub holders_words : Plan → List ThreadNo → Option ThreadNo → List ℕ
+holders_words plan holders None = codes ", held by " ++ thread_names plan holders
+holders_words plan holders (Some writer) =
+    codes ": " ++ thread_names plan holders
+    ++ (if length holders == 1 then codes " reads" else codes " read") ++ codes " it, but "
+    ++ thread_name plan writer.0 ++ codes " came first"
 
 -- whether the walk goes on behind a loan
 unfoldable pub walk_words : Bool → List ℕ
@@ -59,7 +54,8 @@ heard_words plan (t ∷ ts) = to_wake_words plan (t ∷ ts)
 
 -- what is said of a turn
 unfoldable pub saying_words : Plan → Saying → List ℕ
-saying_words plan (Waits l holders behind) = waiting_words plan l holders behind
+saying_words plan (Waits l holders behind) =
+    codes " waits for " ++ lock_name plan l.0 ++ holders_words plan holders behind
 saying_words plan (Lends to l before prio goes_on) =
     codes " lends " ++ decimal prio.0 ++ codes " to " ++ thread_name plan to.0
     ++ codes ", the owner of " ++ lock_name plan l.0 ++ change_words before prio

@@ -2,10 +2,13 @@
 
 ghost use Rattle.std.specs.Prelude.{◌≡◌, ◌++◌, codes, decimal, OnOk};
 ghost use Rattle.lock_model.specs.Text.{class_name};
-ghost use Rattle.chart_words.specs.Words.{between, other_names, queue_name, queue_words, thread_names};
+ghost use Rattle.chart_words.specs.Words.{queue_name, queue_words, thread_names};
 
 use lock_model::{ClassNo, Plan, Prio, QueueName, ThreadNo, push_digits};
 use std::alloc::AllocError;
+
+/// Whether memory was there for what is pushed.
+pub type Pushed = Result<(), AllocError>;
 
 /// The name of what a queue belongs to.
 pub fn queue_name(plan: &Plan, q: QueueName) -> &[u8]
@@ -23,15 +26,14 @@ pub fn push_queue(out: &mut Vec<u8>, plan: &Plan, q: QueueName) -> Result<(), Al
     ensures { OnOk result (out.new.items ≡ out.old.items ++ queue_words plan.now q) }
 {
     match q {
-        QueueName::Lock(_) => push_words(out, b"waits for ")?,
-        QueueName::Chan(_) => push_words(out, b"sleeps on ")?,
+        QueueName::Lock(l) => push_named(out, b"waits for ", plan.lock_name(l)),
+        QueueName::Chan(c) => push_named(out, b"sleeps on ", plan.chan_name(c)),
     }
-    push_words(out, queue_name(plan, q))
 }
 
 /// Pushes the names of threads: `a`, `a and b`, `a, b and c`.
 #[tactic(auto, unfolding(crate::specs::Words::thread_names))]
-pub fn push_threads(out: &mut Vec<u8>, plan: &Plan, threads: &[ThreadNo]) -> Result<(), AllocError>
+pub fn push_threads(out: &mut Vec<u8>, plan: &Plan, threads: &[ThreadNo]) -> Pushed
     ensures { OnOk result (out.new.items
         ≡ out.old.items ++ thread_names plan.now threads.now) }
 {
@@ -39,29 +41,13 @@ pub fn push_threads(out: &mut Vec<u8>, plan: &Plan, threads: &[ThreadNo]) -> Res
         return Ok(());
     };
     push_words(out, plan.thread_name(*first))?;
-    push_others(out, plan, others)
-}
-
-// Names that follow another.
-fn push_others(out: &mut Vec<u8>, plan: &Plan, threads: &[ThreadNo]) -> Result<(), AllocError>
-    ensures { OnOk result (out.new.items ≡ out.old.items ++ other_names plan.now threads.now) }
-{
-    let mut left = threads;
+    let mut left = others;
     while let Some((t, behind)) = left.split_first() {
-        push_named(out, between(behind), plan.thread_name(*t))?;
+        let between: &[u8] = if behind.is_empty() { b" and " } else { b", " };
+        push_named(out, between, plan.thread_name(*t))?;
         left = behind;
     }
     Ok(())
-}
-
-// What stands before a name that others are behind, or none.
-fn between(behind: &[ThreadNo]) -> &'static [u8]
-    ensures { result.now ≡ between behind.now }
-{
-    match behind {
-        [] => b" and ",
-        [_, ..] => b", ",
-    }
 }
 
 /// Pushes words.
@@ -88,7 +74,7 @@ pub fn push_prio(out: &mut Vec<u8>, words: &[u8], prio: Prio) -> Result<(), Allo
 }
 
 /// Pushes under which class a lock was refused.
-pub fn push_class(out: &mut Vec<u8>, plan: &Plan, held: ClassNo) -> Result<(), AllocError>
+pub fn push_class(out: &mut Vec<u8>, plan: &Plan, held: ClassNo) -> Pushed
     ensures { OnOk result (out.new.items
         ≡ out.old.items ++ codes " under class " ++ class_name plan.now held.0) }
 {

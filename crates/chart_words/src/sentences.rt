@@ -1,14 +1,13 @@
 //! What is said of turns, and of the end.
 
-ghost use Rattle.std.specs.Prelude.{◌≡◌, ◌++◌, codes, decimal, length, OnOk};
+ghost use Rattle.std.specs.Prelude.{◌≡◌, ◌++◌, codes, decimal, OnOk};
 ghost use Rattle.lock_model.specs.Text.{lock_name, thread_name};
-ghost use Rattle.chart_words.specs.Sentences.{change_words, claim_words, end_words, given_back_words, headline, heard_words, reading_words, saying_words, sentence_words, to_wake_words, waiting_words, waits_behind, walk_words};
-ghost use Rattle.chart_words.specs.Words.{thread_names};
+ghost use Rattle.chart_words.specs.Sentences.{change_words, claim_words, end_words, given_back_words, headline, heard_words, holders_words, saying_words, sentence_words, to_wake_words, waits_behind, walk_words};
 
-use crate::names::{push_named, push_prio, push_queue, push_threads, push_words};
+use crate::names::{Pushed, push_named, push_prio, push_queue, push_threads, push_words};
 use crate::things::push_refusal;
 use chart_layout::{End, Saying, Sentence};
-use lock_model::{LockNo, Plan, Prio, QueueName, ThreadNo, push_digits};
+use lock_model::{LockNo, Plan, Prio, QueueName, ThreadNo};
 use std::alloc::AllocError;
 
 /// Pushes what is said of a turn: `high waits for bus, held by low`.
@@ -31,7 +30,10 @@ pub fn push_saying(out: &mut Vec<u8>, plan: &Plan, saying: &Saying) -> Result<()
             lock,
             holders,
             behind,
-        } => push_waits(out, plan, *lock, holders.as_slice(), *behind),
+        } => {
+            push_named(out, b" waits for ", plan.lock_name(*lock))?;
+            push_holders(out, plan, holders.as_slice(), *behind)
+        }
         Saying::Lends {
             to,
             lock,
@@ -39,7 +41,8 @@ pub fn push_saying(out: &mut Vec<u8>, plan: &Plan, saying: &Saying) -> Result<()
             prio,
             goes_on,
         } => {
-            push_lends(out, plan, *to, *lock, *before, *prio)?;
+            push_lends(out, plan, *to, *lock, *prio)?;
+            push_change(out, *before, *prio)?;
             push_walk(out, *goes_on)
         }
         Saying::Sorts { other, lock } => push_sorts(out, plan, *other, *lock),
@@ -74,7 +77,7 @@ pub fn push_saying(out: &mut Vec<u8>, plan: &Plan, saying: &Saying) -> Result<()
 }
 
 #[tactic(auto, unfolding(crate::specs::Sentences::walk_words))]
-fn push_walk(out: &mut Vec<u8>, goes_on: bool) -> Result<(), AllocError>
+fn push_walk(out: &mut Vec<u8>, goes_on: bool) -> Pushed
     ensures { OnOk result (out.new.items ≡ out.old.items ++ walk_words goes_on) }
 {
     if goes_on {
@@ -84,79 +87,47 @@ fn push_walk(out: &mut Vec<u8>, goes_on: bool) -> Result<(), AllocError>
     }
 }
 
-#[tactic(auto, unfolding(crate::specs::Sentences::waiting_words))]
-fn push_waits(
+// Who holds a lock; of readers, behind whom which writer came first.
+#[tactic(auto, unfolding(crate::specs::Sentences::holders_words))]
+fn push_holders(
     out: &mut Vec<u8>,
     plan: &Plan,
-    lock: LockNo,
     holders: &[ThreadNo],
     behind: Option<ThreadNo>,
-) -> Result<(), AllocError>
+) -> Pushed
     ensures { OnOk result (out.new.items
-        ≡ out.old.items ++ waiting_words plan.now lock holders.now behind) }
+        ≡ out.old.items ++ holders_words plan.now holders.now behind) }
 {
-    push_named(out, b" waits for ", plan.lock_name(lock))?;
     match behind {
         None => {
             push_words(out, b", held by ")?;
             push_threads(out, plan, holders)
         }
-        Some(writer) => push_behind(out, plan, holders, writer),
+        Some(writer) => {
+            push_words(out, b": ")?;
+            push_threads(out, plan, holders)?;
+            let alone = holders.len() == 1;
+            let reads: &[u8] = if alone { b" reads" } else { b" read" };
+            push_words(out, reads)?;
+            push_named(out, b" it, but ", plan.thread_name(writer))?;
+            push_words(out, b" came first")
+        }
     }
 }
 
-// Of readers, behind whom a writer came first.
-fn push_behind(
-    out: &mut Vec<u8>,
-    plan: &Plan,
-    readers: &[ThreadNo],
-    writer: ThreadNo,
-) -> Result<(), AllocError>
-    ensures { OnOk result (out.new.items
-        ≡ out.old.items ++ codes ": " ++ thread_names plan.now readers.now
-        ++ reading_words (length readers.now) ++ thread_name plan.now writer.0
-        ++ codes " came first") }
-{
-    push_words(out, b": ")?;
-    push_threads(out, plan, readers)?;
-    push_named(out, reading(readers.len()), plan.thread_name(writer))?;
-    push_words(out, b" came first")
-}
-
-#[tactic(auto, unfolding(crate::specs::Sentences::reading_words))]
-fn reading(readers: usize) -> &'static [u8]
-    ensures { result.now ≡ reading_words readers }
-{
-    if readers == 1 {
-        b" reads it, but "
-    } else {
-        b" read it, but "
-    }
-}
-
-// The owner ran as one priority, and runs as the other now.
-fn push_lends(
-    out: &mut Vec<u8>,
-    plan: &Plan,
-    to: ThreadNo,
-    lock: LockNo,
-    before: Prio,
-    prio: Prio,
-) -> Result<(), AllocError>
+fn push_lends(out: &mut Vec<u8>, plan: &Plan, to: ThreadNo, lock: LockNo, prio: Prio) -> Pushed
     ensures { OnOk result (out.new.items
         ≡ out.old.items ++ codes " lends " ++ decimal prio.0 ++ codes " to "
-        ++ thread_name plan.now to.0 ++ codes ", the owner of " ++ lock_name plan.now lock.0
-        ++ change_words before prio) }
+        ++ thread_name plan.now to.0 ++ codes ", the owner of " ++ lock_name plan.now lock.0) }
 {
     push_prio(out, b" lends ", prio)?;
     push_named(out, b" to ", plan.thread_name(to))?;
-    push_named(out, b", the owner of ", plan.lock_name(lock))?;
-    push_change(out, before, prio)
+    push_named(out, b", the owner of ", plan.lock_name(lock))
 }
 
 // Of those whose turnstile the new owner has.
 #[tactic(auto, unfolding(crate::specs::Sentences::claim_words, crate::specs::Sentences::change_words))]
-fn push_claim(out: &mut Vec<u8>, before: Prio, prio: Prio) -> Result<(), AllocError>
+fn push_claim(out: &mut Vec<u8>, before: Prio, prio: Prio) -> Pushed
     ensures { OnOk result (out.new.items ≡ out.old.items ++ claim_words before prio) }
 {
     if before == prio {
@@ -169,22 +140,15 @@ fn push_claim(out: &mut Vec<u8>, before: Prio, prio: Prio) -> Result<(), AllocEr
 
 // From which priority to which, as ` (200 → 10)`.
 #[tactic(auto, unfolding(crate::specs::Sentences::change_words))]
-fn push_change(out: &mut Vec<u8>, before: Prio, prio: Prio) -> Result<(), AllocError>
+fn push_change(out: &mut Vec<u8>, before: Prio, prio: Prio) -> Pushed
     ensures { OnOk result (out.new.items ≡ out.old.items ++ change_words before prio) }
 {
-    push_words(out, b" (")?;
-    push_digits(out, u64::from(before.0))?;
-    push_words(out, " → ".as_bytes())?;
-    push_digits(out, u64::from(prio.0))?;
+    push_prio(out, b" (", before)?;
+    push_prio(out, " → ".as_bytes(), prio)?;
     push_words(out, b")")
 }
 
-fn push_sorts(
-    out: &mut Vec<u8>,
-    plan: &Plan,
-    other: ThreadNo,
-    lock: LockNo,
-) -> Result<(), AllocError>
+fn push_sorts(out: &mut Vec<u8>, plan: &Plan, other: ThreadNo, lock: LockNo) -> Pushed
     ensures { OnOk result (out.new.items
         ≡ out.old.items ++ codes " sorts " ++ thread_name plan.now other.0
         ++ codes " anew among the waiters of " ++ lock_name plan.now lock.0) }
@@ -194,7 +158,7 @@ fn push_sorts(
 }
 
 #[tactic(auto, unfolding(crate::specs::Sentences::given_back_words, crate::specs::Sentences::change_words))]
-fn push_given_back(out: &mut Vec<u8>, before: Prio, prio: Prio) -> Result<(), AllocError>
+fn push_given_back(out: &mut Vec<u8>, before: Prio, prio: Prio) -> Pushed
     ensures { OnOk result (out.new.items ≡ out.old.items ++ given_back_words before prio) }
 {
     if before == prio {
@@ -205,7 +169,7 @@ fn push_given_back(out: &mut Vec<u8>, before: Prio, prio: Prio) -> Result<(), Al
 }
 
 #[tactic(auto, unfolding(crate::specs::Sentences::to_wake_words))]
-fn push_to_wake(out: &mut Vec<u8>, plan: &Plan, takes_off: &[ThreadNo]) -> Result<(), AllocError>
+fn push_to_wake(out: &mut Vec<u8>, plan: &Plan, takes_off: &[ThreadNo]) -> Pushed
     ensures { OnOk result (out.new.items
         ≡ out.old.items ++ to_wake_words plan.now takes_off.now) }
 {
@@ -214,7 +178,7 @@ fn push_to_wake(out: &mut Vec<u8>, plan: &Plan, takes_off: &[ThreadNo]) -> Resul
 }
 
 #[tactic(auto, unfolding(crate::specs::Sentences::heard_words))]
-fn push_heard(out: &mut Vec<u8>, plan: &Plan, takes_off: &[ThreadNo]) -> Result<(), AllocError>
+fn push_heard(out: &mut Vec<u8>, plan: &Plan, takes_off: &[ThreadNo]) -> Pushed
     ensures { OnOk result (out.new.items ≡ out.old.items ++ heard_words plan.now takes_off.now) }
 {
     if takes_off.is_empty() {
@@ -264,11 +228,7 @@ pub fn push_end(out: &mut Vec<u8>, plan: &Plan, end: &End) -> Result<(), AllocEr
 }
 
 // Threads, and what each waits for.
-fn push_stuck(
-    out: &mut Vec<u8>,
-    plan: &Plan,
-    waits: &[(ThreadNo, QueueName)],
-) -> Result<(), AllocError>
+fn push_stuck(out: &mut Vec<u8>, plan: &Plan, waits: &[(ThreadNo, QueueName)]) -> Pushed
     ensures { OnOk result (out.new.items
         ≡ out.old.items ++ waits_behind plan.now (codes ": ") waits.now) }
 {

@@ -4,7 +4,7 @@ ghost use Rattle.std.specs.Prelude.{◌≡◌, ◌++◌, OnOk};
 ghost use Rattle.lock_model.specs.Text.{mode_letter, lock_kind, lock_name};
 ghost use Rattle.chart_words.specs.Words.{arrow_words, bar_words, event_word, hold_word, lost_words, mark_words, note_words, order_words, refusal_words, verb};
 
-use crate::names::{push_class, push_named, push_queue, push_words};
+use crate::names::{Pushed, push_class, push_named, push_queue, push_words};
 use chart_layout::{Arrow, ArrowKind, BarKind, MarkKind};
 use lock_model::{ClassNo, Event, Kind, LockNo, Mode, Plan, StepKind, push_number, push_word};
 use std::alloc::AllocError;
@@ -94,13 +94,16 @@ pub fn verb_of(kind: StepKind) -> &'static [u8]
 // The word of an event. A lock's name stands in it where the lock is taken, released or
 // refused.
 #[tactic(auto, unfolding(crate::specs::Words::event_word))]
-fn push_event(out: &mut Vec<u8>, plan: &Plan, event: Event) -> Result<(), AllocError>
+fn push_event(out: &mut Vec<u8>, plan: &Plan, event: Event) -> Pushed
     ensures { OnOk result (out.new.items ≡ out.old.items ++ event_word plan.now event) }
 {
     match event {
-        Event::Locked { l, mode } => push_mode(out, plan, b"", l, mode, b"lock "),
-        Event::Tried { l, mode } => push_mode(out, plan, b"try", l, mode, b"lock "),
-        Event::Unlocked { l, mode } => push_mode(out, plan, b"", l, mode, b"unlock "),
+        Event::Locked { l, mode } => push_mode(out, plan, l, mode, b"lock "),
+        Event::Tried { l, mode } => {
+            push_words(out, b"try")?;
+            push_mode(out, plan, l, mode, b"lock ")
+        }
+        Event::Unlocked { l, mode } => push_mode(out, plan, l, mode, b"unlock "),
         Event::Busy { l, .. } => push_named(out, b"busy ", plan.lock_name(l)),
         Event::Set { .. } => push_words(out, b"set"),
         Event::Added { .. } => push_words(out, b"add"),
@@ -116,21 +119,13 @@ fn push_event(out: &mut Vec<u8>, plan: &Plan, event: Event) -> Result<(), AllocE
     }
 }
 
-fn push_mode(
-    out: &mut Vec<u8>,
-    plan: &Plan,
-    before: &[u8],
-    l: LockNo,
-    mode: Mode,
-    behind: &[u8],
-) -> Result<(), AllocError>
+fn push_mode(out: &mut Vec<u8>, plan: &Plan, l: LockNo, mode: Mode, words: &[u8]) -> Pushed
     ensures { OnOk result (out.new.items
-        ≡ out.old.items ++ before.now ++ mode_letter (lock_kind plan.now l.0) mode ++ behind.now
+        ≡ out.old.items ++ mode_letter (lock_kind plan.now l.0) mode ++ words.now
         ++ lock_name plan.now l.0) }
 {
-    push_words(out, before)?;
     push_words(out, mode.letter(plan.lock_kind(l)))?;
-    push_named(out, behind, plan.lock_name(l))
+    push_named(out, words, plan.lock_name(l))
 }
 
 /// Pushes what an event tells beside its word: keys, values, priorities, and under which class a take was

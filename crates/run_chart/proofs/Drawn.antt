@@ -20,10 +20,7 @@ cond_same false vs = refl
 
 module _ {X V : Type 0} (drawn : X → Drawn V) where
   drawn-append : (t n : ℕ) (xs ys : List X) → drawn_at drawn t n (xs ++ ys) ≡ drawn_at drawn t n xs ++ drawn_at drawn t n ys
-  drawn-append t n xs ys =
-      ap (λ ds. map (λ d. d.value) (filter (is_drawn t n) ds)) (map-append drawn xs ys)
-      ∙ ap (map (λ d. d.value)) (filter-append (is_drawn t n) (map drawn xs) (map drawn ys))
-      ∙ map-append (λ d. d.value) (filter (is_drawn t n) (map drawn xs)) (filter (is_drawn t n) (map drawn ys))
+  drawn-append t n xs ys = simp (map-append, filter-append)
 
   module _ (thread from to : ℕ) where
     -- 1. What calls add: nothing,
@@ -35,24 +32,17 @@ module _ {X V : Type 0} (drawn : X → Drawn V) where
     }
 
     -- what two of them do, one behind the other,
-    pub adds_both : {init old new : List X} {before here : ℕ → List V} → Adds drawn thread from to init old before
-        → Adds drawn thread from to old new here → Adds drawn thread from to init new (λ n. before n ++ here n)
-    adds_both {init} {old} {new} {before} {here} had pushed = record {
+    pub adds_both : {init old new : List X} {before here : ℕ → List V} (is : ℕ → List V)
+        → Adds drawn thread from to init old before → Adds drawn thread from to old new here
+        → ((n : ℕ) → before n ++ here n ≡ is n) → Adds drawn thread from to init new is
+    adds_both {init} {old} {new} {before} {here} is had pushed same = record {
       says = λ t n a b.
           pushed.says t n a b ∙ ap (λ vs. vs ++ cond (t == thread) (here n) []) (had.says t n a b)
           ∙ append_assoc (drawn_at drawn t n init) (cond (t == thread) (before n) []) (cond (t == thread) (here n) [])
-          ∙ ap (λ vs. drawn_at drawn t n init ++ vs) (sym (cond_append (t == thread) (before n) (here n)));
+          ∙ ap (λ vs. drawn_at drawn t n init ++ vs) (sym (cond_append (t == thread) (before n) (here n))
+          ∙ ap (λ vs. cond (t == thread) vs []) (same n));
       within = λ threads l all. pushed.within threads l (had.within threads l all);
     }
-
-    pub adds_as : {old new : List X} {told : ℕ → List V} (is : ℕ → List V) → Adds drawn thread from to old new told
-        → ((n : ℕ) → told n ≡ is n) → Adds drawn thread from to old new is
-    adds_as {old} is added same =
-        record {
-          says = λ t n a b. added.says t n a b
-              ∙ ap (λ vs. drawn_at drawn t n old ++ cond (t == thread) vs []) (same n);
-          within = added.within;
-        }
 
     -- and what spans say, each of which draws what it has, if it has something
     module _ {U : Type 0} (value : U → Option V) (draw : Span U → V → X) (is : (s : Span U) (v : V)

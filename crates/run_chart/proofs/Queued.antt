@@ -1,6 +1,6 @@
 -- The lists of a lock's queue, by the lines of the queues that aren't empty.
 use Rattle.std.proofs.Common.{◌≡◌, ◌≢◌, ℕ, zero, suc, ◌+◌, ◌<◌, ◌≤◌, Bool, true, false, cond, ◌==◌, ◌||◌, List, [], ◌∷◌, ◌++◌, append_assoc, flat_map, length, map, Option, Some, None, refl, sym, ap, inl, inr, arith, ◌∙◌}
-use Rattle.std.specs.Prelude.{option_map, slice_get, unwrap_or}
+use Rattle.std.specs.Prelude.{unwrap_or}
 use Rattle.std.specs.List.{find, list_any, range_with_len}
 use Rattle.std.proofs.lemmas.Bool.{cases_eq, ne_eqb}
 use Rattle.std.proofs.lemmas.List.{length-map}
@@ -23,9 +23,8 @@ use Rattle.lock_model.specs.declared.plan.QueueName.{QueueName}
 use Rattle.lock_state.specs.Facts.{Lawful, HeadsFitWaiters}
 use Rattle.lock_state.specs.Run.{line_of_queue, queue_lines}
 use Rattle.lock_state.specs.State.{State}
-use Rattle.run_chart.specs.Lines.{first_in, is_line_of, is_waiter, lists_of}
+use Rattle.run_chart.specs.Lines.{is_line_of, lists_of}
 use Rattle.run_chart.specs.Runs.{IsRunOf}
-use Rattle.run_chart.specs.Turns.{first_writer}
 use Rattle.run_chart.proofs.Told.{so_at}
 use Rattle.run_tracks.specs.Rows.{run_in}
 use Rattle.run_tracks.specs.Tracks.{value_in}
@@ -49,21 +48,11 @@ found_lists l (line ∷ lines) = go (is_line_of l line) (found_lists l lines)
     go true h = refl
     go false h = h
 
--- as a line of the queue tells it
-any_seen : (t : ℕ) (ws : List (ThreadNo × Prio))
-    → list_any (is_waiter t) ws ≡ list_any (λ w. w.thread == t) (map waiter_seen ws)
+-- whether a thread waits, as a line of the queue tells it
+pub any_seen : (t : ℕ) (ws : List (ThreadNo × Prio))
+    → list_any (λ w. w.0.0 == t) ws ≡ list_any (λ w. w.thread == t) (map waiter_seen ws)
 any_seen t [] = refl
-any_seen t (w ∷ ws) = ap (λ b. is_waiter t w || b) (any_seen t ws)
-
-first_seen : (ws : List (ThreadNo × Prio)) → first_in ws ≡ option_map (λ w. record { 0 = w.thread }) (slice_get (map waiter_seen ws) 0)
-first_seen [] = refl
-first_seen (w ∷ ws) = refl
-
-pub line_behind : (line : QueueLine) (t : ℕ) (b : Bool) → b ≡ list_any (is_waiter t) line.shared
-    → cond b (first_in line.excl) None ≡ first_writer (lists_of (Some line)) t
-line_behind line t b e =
-    ap (λ d. cond d (first_in line.excl) None) (e ∙ any_seen t line.shared)
-    ∙ ap (λ o. cond (list_any (λ w. w.thread == t) (map waiter_seen line.shared)) o None) (first_seen line.excl)
+any_seen t (w ∷ ws) = ap (λ b. (w.0.0 == t) || b) (any_seen t ws)
 
 -- 2. The lines of a state
 

@@ -1,8 +1,8 @@
 -- What the rows of a run tell of its states: of its threads and turns, of its locks, and how it ended.
-use Rattle.std.proofs.Common.{◌≡◌, ℕ, ◌+◌, ◌<◌, ◌≤◌, false, cond, ltb, not, List, length, Option, Some, None, IfSome, refl, sym, ap, subst, inl, inr, arith, ◌∙◌}
-use Rattle.std.specs.Prelude.{find, option_map, slice_get, IsSomeAnd}
+use Rattle.std.proofs.Common.{◌≡◌, ℕ, ◌+◌, ◌<◌, ◌≤◌, false, cond, ltb, not, List, [], length, Option, Some, None, IfSome, refl, sym, ap, subst, inl, inr, arith, ◌∙◌}
+use Rattle.std.specs.Prelude.{find, option_and_then, option_map, slice_get, IsSomeAnd}
 use Rattle.std.proofs.lemmas.Bool.{cases_lt, lt-ltb, ltb-true}
-use Rattle.std.proofs.lemmas.Option.{cond_some, slice_get_cases, slice_get_within}
+use Rattle.std.proofs.lemmas.Option.{cond_some, option_and_then_some, slice_get-get_or, slice_get_within}
 use Rattle.lock_history.specs.Endings as seen
 use Rattle.lock_laws.proofs.AtTurn.{well_formed}
 use Rattle.lock_laws.proofs.Shown.{exclusive_is, owner-owns}
@@ -12,7 +12,7 @@ use Rattle.lock_model.specs.Operations.{IsProper}
 use Rattle.lock_model.specs.Plans.{config_of}
 use Rattle.lock_model.specs.Queues.{stands}
 use Rattle.lock_model.specs.Text as text
-use Rattle.lock_model.specs.Words.{IsWellFormed, owner_of, word_of}
+use Rattle.lock_model.specs.Words.{IsWellFormed, word_of}
 use Rattle.lock_model.specs.declared.numbers.ThreadNo.{ThreadNo}
 use Rattle.lock_model.specs.declared.plan.Mode.TheVariants.{Excl}
 use Rattle.lock_model.specs.declared.plan.Plan.{Plan}
@@ -21,15 +21,16 @@ use Rattle.lock_objects.specs.Represents.{wait_of}
 use Rattle.lock_state.specs.Facts.{OnlyLocksAreHeld, OnlyThreadsHold, OnlyThreadsStand, WordsMatchHolders}
 use Rattle.lock_state.specs.Run.{course_after, ending_of, has_ended, scheduled_run}
 use Rattle.lock_state.specs.State.{State}
-use Rattle.run_chart.specs.Bars.{standing, standing_at, woken_kind}
+use Rattle.run_chart.specs.Bars.{standing, woken_kind}
 use Rattle.run_chart.specs.Charts.{ended_in}
 use Rattle.run_chart.specs.Runs.{IsRunOf, IsTurnOf}
+use Rattle.run_chart.specs.declared.rows.TurnOf.{TurnOf}
 use Rattle.run_chart.specs.Turns.{holds, owner_in}
 use Rattle.run_chart.proofs.Values.{first_so, so_of}
 use Rattle.run_laws.proofs.Turning.{behind_course}
 use Rattle.run_laws.proofs.TurnsOfCourses.{stays_over}
 use Rattle.run_laws.specs.OnTrack.{IsOnTrack}
-use Rattle.run_tracks.specs.Rows.{run_in, IsThread, IsWhereItStands, TellsRun, TellsThread}
+use Rattle.run_tracks.specs.Rows.{run_in, IsThread, IsWhereItStands, TellsRun}
 use Rattle.run_tracks.specs.Tracks.{value_in, IsTrack, Tells}
 use Rattle.run_tracks.specs.declared.rows.Rows.{Rows}
 use Rattle.run_tracks.specs.declared.rows.TurnRow.{TurnRow}
@@ -41,33 +42,22 @@ use Rattle.run_tracks.specs.declared.threads.ThreadRows.{ThreadRows}
 pub so_at : {T : Type 0} (track : List (ℕ × T)) (rows : ℕ) (IsSo : ℕ → T → Type 0) → Tells track rows IsSo → (n : ℕ) → n < rows → (v : T) → value_in n track ≡ Some v → IsSo n v
 so_at track rows IsSo h n l v e = subst (λ o. IsSomeAnd o (IsSo n)) e (h.value n l)
 
-pub beyond : {X : Type 0} (xs : List X) (i : ℕ) → None ≡ slice_get xs i → length xs ≤ i
-beyond xs i none = elim ((slice_get_cases xs i).1) [
-  | inl found ↦ let both : None ≡ Some found.0 = none ∙ found.2 in absurd cc
-  | inr past ↦ past.0
-]
-
 -- 2. Who holds a lock
 
 module _ (plan : Plan) (proper : IsProper plan) (n : ℕ) where
   abbrev on_track : IsOnTrack plan (run_in plan n)
   on_track = behind_course plan n proper
 
-  owner_holds : (l o : ℕ) → owner_of ((run_in plan n).state.word l).holder ≡ Some o → (run_in plan n).state.held o l ≡ Holds Excl
-  unfolding WordsMatchHolders
-  owner_holds l o e =
-      exclusive_is ((run_in plan n).state.held o l) ((on_track.lawful.lawful.words.words_match_holders l).owner o
-      ∙ owner-owns o ((run_in plan n).state.word l).holder e)
-
-  -- the owner of a lock is a thread,
-  pub owner_is_thread : (l o : ℕ) → owner_of ((run_in plan n).state.word l).holder ≡ Some o → o < length plan.threads
-  unfolding OnlyThreadsHold
-  owner_is_thread l o e = on_track.lawful.lawful.words.only_threads_hold o l Excl (owner_holds l o e)
-
-  -- and what it owns is a lock
-  pub owned_is_lock : (l o : ℕ) → owner_of ((run_in plan n).state.word l).holder ≡ Some o → l < length plan.locks
-  unfolding OnlyLocksAreHeld
-  owned_is_lock l o e = on_track.taken.only_locks_are_held o l Excl (owner_holds l o e)
+  -- the owner of a lock is a thread, and what it owns is a lock
+  pub owner_told : (l o : ℕ) → owner_in plan n l ≡ Some o → (o < length plan.threads) × (l < length plan.locks)
+  unfolding WordsMatchHolders OnlyThreadsHold OnlyLocksAreHeld
+  owner_told l o e =
+      let s = (run_in plan n).state in
+      let held : s.held o l ≡ Holds Excl = exclusive_is (s.held o l)
+      ((on_track.lawful.lawful.words.words_match_holders l).owner o ∙ owner-owns o (s.word l).holder e) in (
+        on_track.lawful.lawful.words.only_threads_hold o l Excl held,
+        on_track.taken.only_locks_are_held o l Excl held,
+      )
 
   pub word_fits : (l w : ℕ) → word_of w ≡ (run_in plan n).state.word l → IsWellFormed (word_of w)
   word_fits l w e = subst IsWellFormed (sym e) (well_formed (config_of plan) (run_in plan n).state l on_track.lawful.lawful (omega (arith, proper.threads)))
@@ -78,20 +68,23 @@ pub run_of : (plan : Plan) (rows : Rows) → IsProper plan → (chains : ℕ) ×
     → length rows.turns ≤ 1000000 → IsRunOf plan rows
 run_of plan rows proper run few = record { proper = proper; chains = run.0; most = run.1; told = run.2; few = few }
 
+pub turn_of : (at : TurnOf) → IsRunOf at.plan.now at.rows.now → (row : TurnRow)
+    → slice_get at.rows.now.turns at.turn ≡ Some row → row.who ≡ at.who → IsTurnOf at
+turn_of at h row here who = record {
+  run = h;
+  turn = slice_get_within at.rows.now.turns at.turn row here;
+  thread = let its = ap (λ (t : ThreadNo). t.0) who in
+      omega (arith, (h.told.each at.turn row here).thread, h.told.columns.thread_each, its);
+}
+
 module _ (plan : Plan) (rows : Rows) (h : IsRunOf plan rows) where
-  pub turn_of : (n : ℕ) (row : TurnRow) → slice_get rows.turns n ≡ Some row → IsTurnOf plan rows n row.who.0
-  turn_of n row at = record {
-    run = h;
-    turn = slice_get_within rows.turns n row at;
-    thread = omega (arith, (h.told.each n row at).thread, h.told.columns.thread_each);
-  }
-
-  pub thread_at : (t : ℕ) (thread : ThreadRows) → slice_get rows.threads t ≡ Some thread → TellsThread plan (run_in plan) (length rows.turns + 1) t thread
-  thread_at t thread e = h.told.columns.of_threads t thread e
-
   -- what a thread was in a row
-  pub row_told : (t : ℕ) (thread : ThreadRows) → slice_get rows.threads t ≡ Some thread → (n : ℕ) → n < length rows.turns + 1 → (row : ThreadRow) → value_in n thread.row ≡ Some row → IsThread plan (run_in plan n) t row
-  row_told t thread e n l row is = so_at thread.row (length rows.turns + 1) (λ m row. IsThread plan (run_in plan m) t row) (thread_at t thread e).row n l row is
+  pub row_told : (t : ℕ) (thread : ThreadRows) → slice_get rows.threads t ≡ Some thread → (n : ℕ)
+      → n < length rows.turns + 1 → (row : ThreadRow) → value_in n thread.row ≡ Some row
+      → IsThread plan (run_in plan n) t row
+  row_told t thread e n l row is =
+      so_at thread.row (length rows.turns + 1) (λ m row. IsThread plan (run_in plan m) t row)
+      (h.told.columns.of_threads t thread e).row n l row is
 
   -- 4. What a thread doesn't hold, and where what is none stands
 
@@ -104,7 +97,7 @@ module _ (plan : Plan) (rows : Rows) (h : IsRunOf plan rows) where
       go NotHeld e = refl
       go (Holds mode) e =
           let lock = (behind_course plan n h.proper).taken.only_locks_are_held t l mode e in
-          absurd (omega (arith, lock, past, (thread_at t thread at).locks))
+          absurd (omega (arith, lock, past, (h.told.columns.of_threads t thread at).locks))
 
   -- what is no thread has a record that names nothing
   pub named_nowhere : (n t : ℕ) → length rows.threads ≤ t → None ≡ (run_in plan n).state.blocked_on t
@@ -130,14 +123,15 @@ module _ (plan : Plan) (rows : Rows) (h : IsRunOf plan rows) where
       go : (o : Option ℕ) → owner_in plan n k ≡ o → None ≡ o
       go None e = refl
       go (Some u) e =
-          let lock = owned_is_lock plan h.proper n k u e in
-          absurd (omega (arith, lock, beyond rows.words k at, h.told.columns.word_each))
+          let lock = (owner_told plan h.proper n k u e).1 in
+          let here = at ∙ slice_get-get_or rows.words k [] (omega (arith, lock, h.told.columns.word_each)) in absurd cc
 
   -- an owner is a thread
-  pub owner_named : (n k : ℕ) (o : Option ThreadNo) → option_map (λ t. t.0) o ≡ owner_in plan n k → IfSome o (λ t. t.0 < length rows.threads)
+  pub owner_named : (n k : ℕ) (o : Option ThreadNo) → option_map (λ t. t.0) o ≡ owner_in plan n k
+      → IfSome o (λ t. t.0 < length rows.threads)
   owner_named n k None e = tt
   owner_named n k (Some t) e =
-      let thread = owner_is_thread plan h.proper n k t.0 (sym e) in omega (arith, thread, h.told.columns.thread_each)
+      let thread = (owner_told plan h.proper n k t.0 (sym e)).0 in omega (arith, thread, h.told.columns.thread_each)
 
   -- 6. How the run ended, and where threads come to their end
 
@@ -163,7 +157,7 @@ module _ (plan : Plan) (rows : Rows) (h : IsRunOf plan rows) where
       track.ascends told.within (λ n l. go n (value_in n thread.row) (told.value n l))
     where
       told : Tells thread.row (last + 1) (λ n row. IsThread plan (run_in plan n) t row)
-      told = (thread_at t thread e).row
+      told = (h.told.columns.of_threads t thread e).row
 
       go : (n : ℕ) (o : Option ThreadRow) → IsSomeAnd o (IsThread plan (run_in plan n) t)
           → has_ended plan (run_in plan n) t ≡ so_of (λ row. row.ended) o
@@ -175,17 +169,14 @@ module _ (plan : Plan) (rows : Rows) (h : IsRunOf plan rows) where
 -- the queue that its record names, where it is in the lists of that, is the one in whose lists it is
 stands_there : (s : State) (t : ℕ) → ((q : QueueName) → 0 < stands t (s.lists q) → s.blocked_on t ≡ Some q)
     → IsWhereItStands s t (standing s t)
-stands_there s t named q = (
-  there (s.blocked_on t),
-  λ some. ap (standing_at s t) (named q some)
-      ∙ ap (λ b. cond b (Some q) None) (lt-ltb 0 (stands t (s.lists q)) some),
-)
-  where
-    there : (o : Option QueueName) → standing_at s t o ≡ Some q → 0 < stands t (s.lists q)
-    there None e = absurd cc
-    there (Some r) e =
-        let both = cond_some (ltb 0 (stands t (s.lists r))) r q e in
-        subst (λ (k : QueueName). 0 < stands t (s.lists k)) both.1 (ltb-true 0 (stands t (s.lists r)) both.0)
+stands_there s t named q =
+    let on = λ (r : QueueName). cond (ltb 0 (stands t (s.lists r))) (Some r) None in (
+      λ e. option_and_then_some on (s.blocked_on t) q e (λ r names stays.
+          let both = cond_some (ltb 0 (stands t (s.lists r))) r q stays in
+          subst (λ (k : QueueName). 0 < stands t (s.lists k)) both.1 (ltb-true 0 (stands t (s.lists r)) both.0)),
+      λ some. ap (option_and_then on) (named q some)
+          ∙ ap (λ b. cond b (Some q) None) (lt-ltb 0 (stands t (s.lists q)) some),
+    )
 
 pub stands_law : (plan : Plan) (n t : ℕ) → IsProper plan
     → IsWhereItStands (run_in plan n).state t (standing (run_in plan n).state t)

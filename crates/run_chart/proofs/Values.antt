@@ -1,5 +1,5 @@
 -- What spans say of a row, with one more, and of a track's changes; and where something is so for the first time.
-use Rattle.std.proofs.Common.{◌≡◌, ℕ, zero, suc, ◌+◌, ◌-◌, ◌<◌, ◌≤◌, Bool, true, false, cond, leb, List, [], ◌∷◌, ◌++◌, length, map, filter, get_or, take, Option, Some, None, refl, sym, ap, subst, inl, inr, arith, append-nil, ◌∙◌}
+use Rattle.std.proofs.Common.{◌≡◌, ℕ, zero, suc, ◌+◌, ◌-◌, ◌<◌, ◌≤◌, Bool, true, false, cond, leb, List, [], ◌∷◌, ◌++◌, length, map, get_or, take, Option, Some, None, refl, sym, ap, subst, inl, inr, arith, append-nil, ◌∙◌}
 use Rattle.std.specs.Prelude.{find, fold, option_map, IsSomeAnd}
 use Rattle.std.specs.List.{All, range_with_len}
 use Rattle.std.proofs.lemmas.Bool.{cases_Bool, cases_lt, le-leb, lt-leb}
@@ -20,9 +20,7 @@ module _ {U : Type 0} where
   values_push : (n : ℕ) (ss : List (Span U)) (s : Span U)
       → values_at n (ss ++ s ∷ []) ≡ values_at n ss ++ cond (covers n s) (s.value ∷ []) []
   values_push n ss s =
-      ap (map (λ t. t.value)) (filter-append (covers n) ss (s ∷ []))
-      ∙ map-append (λ t. t.value) (filter (covers n) ss) (cond (covers n s) (s ∷ []) [])
-      ∙ ap (λ vs. values_at n ss ++ vs) (map_cond (covers n s) s)
+      simp (filter-append, map-append) (ap (λ vs. values_at n ss ++ vs) (map_cond (covers n s) s))
 
   -- what they say, with one that goes on from its first row
   abbrev pub shown : ℕ → List (Span U) → ℕ → U → List U

@@ -1,5 +1,5 @@
 -- What the bars of a chart say: of which threads, in which rows, and by which of the run's states.
-use Rattle.std.specs.Prelude.{ℕ, List, ◌++◌, nat_lt, if◌then◌else◌, length, option_map, option_to_list, Option, Some, None}
+use Rattle.std.specs.Prelude.{ℕ, List, ◌++◌, nat_lt, if◌then◌else◌, length, option_and_then, option_map, option_to_list, Option, Some, None}
 use Rattle.std.specs.List.{flat_map, range_with_len}
 use Rattle.chart_layout.specs.declared.layout.Bar.{Bar}
 use Rattle.chart_layout.specs.declared.layout.BarKind.{BarKind}
@@ -42,12 +42,9 @@ IsBarOf threads from to bar = IsDrawnIn threads from to (bar_drawn bar)
 -- 2. What is so of a thread
 
 -- the queue on which it stands: the one that its record names, where it is in the lists of that
-abbrev pub standing_at : State → ℕ → Option QueueName → Option QueueName
-standing_at s t None = None
-standing_at s t (Some q) = if nat_lt 0 (stands t (s.lists q)) then Some q else None
-
 abbrev pub standing : State → ℕ → Option QueueName
-standing s t = standing_at s t (s.blocked_on t)
+standing s t =
+    option_and_then (λ q. if nat_lt 0 (stands t (s.lists q)) then Some q else None) (s.blocked_on t)
 
 -- by how it holds a lock
 abbrev pub held_kind : ℕ → Hold → Option BarKind
@@ -56,8 +53,7 @@ held_kind l (Holds mode) = Some (kinds.Holds (record { 0 = l }) mode)
 
 -- by where it stands
 abbrev pub waited_kind : Option QueueName → Option BarKind
-waited_kind None = None
-waited_kind (Some q) = Some (kinds.Waits q)
+waited_kind stands = option_map (λ q. kinds.Waits q) stands
 
 -- by the queue that its record names, and where it stands: it was taken off the one where it stands on none
 abbrev pub taken_kind : Option QueueName → Option QueueName → Option BarKind

@@ -1,7 +1,7 @@
 -- What a chart shows of the scheduled run of its plan. Row n is the run behind n turns, and turn n leads from row n to
 -- row n + 1. A bar covers a row, and an arrow stands at a turn, exactly where what it says is so in the run.
-use Rattle.std.specs.Prelude.{◌≡◌, ◌≤◌, ◌<◌, ℕ, ◌+◌, All, List, find, flat_map, length, map, option_map, option_to_list, Option}
-use Rattle.std.specs.List.{range_with_len}
+use Rattle.std.specs.Prelude.{◌≡◌, ◌≤◌, ◌<◌, ℕ, ◌+◌, All, List, find, length, map, option_map, Option}
+use Rattle.std.specs.List.{filter_map, range_with_len}
 use Rattle.chart_layout.specs.declared.layout.Chart.{Chart}
 use Rattle.chart_layout.specs.declared.layout.Lane.{Lane}
 use Rattle.chart_layout.specs.declared.sentence.End.{End}
@@ -30,13 +30,12 @@ lane_in plan turns t = record { thread = record { 0 = t }; ended = ended_in plan
 -- 2. The end
 
 -- a thread that stands on a queue in a row, with its queue
-abbrev pub wait_in : Plan → ℕ → ℕ → List (ThreadNo × QueueName)
-wait_in plan n t =
-    option_to_list (option_map (λ q. (record { 0 = t }, q)) (standing (run_in plan n).state t))
+abbrev pub wait_in : Plan → ℕ → ℕ → Option (ThreadNo × QueueName)
+wait_in plan n t = option_map (λ q. (record { 0 = t }, q)) (standing (run_in plan n).state t)
 
 -- who stands on one, by number
 abbrev pub waits_in : Plan → ℕ → List (ThreadNo × QueueName)
-waits_in plan n = flat_map (wait_in plan n) (threads_of plan)
+waits_in plan n = filter_map (wait_in plan n) (threads_of plan)
 
 -- the end is that of a run of so many turns, and where it is stuck, these wait
 abbrev pub IsEnd : Plan → ℕ → End → Type 0

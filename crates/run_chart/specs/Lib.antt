@@ -1,6 +1,5 @@
 pub mod Runs
 pub mod Turns
-pub mod Asked
 pub mod Lines
 pub mod Bars
 pub mod Spans

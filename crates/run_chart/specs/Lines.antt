@@ -1,10 +1,8 @@
 -- The waiters of a lock, by the lines of the queues that aren't empty.
-use Rattle.std.specs.Prelude.{ℕ, ◌==◌, Bool, List, [], ◌∷◌, map, Option, Some, None}
+use Rattle.std.specs.Prelude.{ℕ, Bool, [], map, Option, Some, None}
 use Rattle.lock_history.specs.Outcomes.{waiter_seen}
 use Rattle.lock_history.specs.declared.outcome.QueueLine.{QueueLine}
 use Rattle.lock_model.specs.Queues.{Lists, is_queue, lock_queue}
-use Rattle.lock_model.specs.declared.numbers.Prio.{Prio}
-use Rattle.lock_model.specs.declared.numbers.ThreadNo.{ThreadNo}
 
 -- whether a line is that of the lock's queue
 abbrev pub is_line_of : ℕ → QueueLine → Bool
@@ -15,12 +13,3 @@ abbrev pub lists_of : Option QueueLine → Lists
 lists_of None = record { exclusive = []; shared = [] }
 lists_of (Some line) =
     record { exclusive = map waiter_seen line.excl; shared = map waiter_seen line.shared }
-
--- whether a waiter of a line is the thread
-abbrev pub is_waiter : ℕ → ThreadNo × Prio → Bool
-is_waiter t w = w.0.0 == t
-
--- the thread of a line's first waiter
-abbrev pub first_in : List (ThreadNo × Prio) → Option ThreadNo
-first_in [] = None
-first_in (w ∷ ws) = Some w.0

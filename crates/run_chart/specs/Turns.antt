@@ -25,13 +25,16 @@ use Rattle.lock_model.specs.declared.numbers.ThreadNo.{ThreadNo}
 use Rattle.lock_model.specs.declared.plan.Plan.{Plan}
 use Rattle.lock_model.specs.declared.plan.QueueName.{QueueName}
 use Rattle.lock_model.specs.declared.plan.QueueName.TheVariants as queue
-use Rattle.lock_model.specs.declared.turn.StepKind.{StepKind}
 use Rattle.lock_model.specs.declared.turn.StepKind.TheVariants as step
 use Rattle.lock_model.specs.declared.turn.Turn.{Turn}
 use Rattle.lock_model.specs.declared.turn.Turn.TheVariants.{Did, Idle, Ended}
 use Rattle.lock_state.specs.Run.{course_after, next_turn, threads_of}
 use Rattle.lock_state.specs.State.{State, Wait, Walk, NoWalk, AtLock, AtThread, Running, Queued, Woken}
 use Rattle.run_chart.specs.declared.lookup.HopLoan.{HopLoan}
+use Rattle.run_chart.specs.declared.naming.Asked.{Asked}
+use Rattle.run_chart.specs.declared.naming.Asked.TheVariants as asked
+use Rattle.run_chart.specs.declared.naming.Sought.{Sought}
+use Rattle.run_chart.specs.declared.naming.Sought.TheVariants as sought
 use Rattle.run_tracks.specs.Rows.{entry_in, run_in}
 
 -- 1. What is so in a row
@@ -68,49 +71,38 @@ of_some makes (Some value) = makes value
 
 -- 2. Who is named of a turn
 
--- the threads of a plan of whom it is so, by number
-abbrev pub those : Plan → (ℕ → Bool) → List ThreadNo
-those plan is_so = filter (λ t. is_so t.0) (map (λ t. record { 0 = t }) (threads_of plan))
+-- whether who waited so before the turn was queued, and was woken in it
+abbrev pub wakes_up : Wait → Wait → Bool
+wakes_up Running behind = false
+wakes_up (Woken q cause) behind = false
+wakes_up Queued Running = false
+wakes_up Queued Queued = false
+wakes_up Queued (Woken q BySignal) = true
+wakes_up Queued (Woken q ByAbort) = false
 
--- those who hold the lock before the turn
-abbrev pub holders : Plan → ℕ → ℕ → List ThreadNo
-holders plan n l = those plan (holds plan n l)
+-- whether what is asked of the threads in a turn is so of one
+abbrev pub passes : Plan → ℕ → Asked → ℕ → Bool
+passes plan n (asked.Holds l) t = holds plan n l.0 t
+passes plan n (asked.Leaves q) t = stands_on plan n q t && not (stands_on plan (n + 1) q t)
+passes plan n asked.WakesUp t =
+    wakes_up ((state_in plan n).wait t) ((state_in plan (n + 1)).wait t)
 
--- who stood on the queue before the turn, and doesn't behind it
-abbrev pub leaves : Plan → ℕ → QueueName → ℕ → Bool
-leaves plan n q t = stands_on plan n q t && not (stands_on plan (n + 1) q t)
+-- the threads of which that is so, by number
+abbrev pub those : Plan → ℕ → Asked → List ThreadNo
+those plan n asked =
+    filter (λ t. passes plan n asked t.0) (map (λ t. record { 0 = t }) (threads_of plan))
 
-abbrev pub taken_off : Plan → ℕ → QueueName → List ThreadNo
-taken_off plan n q = those plan (leaves plan n q)
+-- whether what is asked of the locks in a turn, and of its thread, is so of one
+abbrev pub fits : Plan → ℕ → ℕ → Sought → ℕ → Bool
+fits plan n t sought.Gained l = holds plan (n + 1) l t && not (holds plan n l t)
+fits plan n t sought.GivenUp l = holds plan n l t && not (holds plan (n + 1) l t)
+fits plan n t (sought.OfClass class) l = holds plan n l t && lock_class plan l == class.0
 
--- who was queued before the turn, and is woken behind it
-abbrev pub is_queued : Wait → Bool
-is_queued Running = false
-is_queued Queued = true
-is_queued (Woken q cause) = false
-
-abbrev pub is_woken : Wait → Bool
-is_woken Running = false
-is_woken Queued = false
-is_woken (Woken q BySignal) = true
-is_woken (Woken q ByAbort) = false
-
-abbrev pub wakes_up : Plan → ℕ → ℕ → Bool
-wakes_up plan n t =
-    is_queued ((state_in plan n).wait t) && is_woken ((state_in plan (n + 1)).wait t)
-
--- the first lock of a plan of which it is so
-abbrev pub first_lock : Plan → (ℕ → Bool) → Option LockNo
-first_lock plan is_so =
-    option_map (λ l. record { 0 = l }) (find is_so (range_with_len 0 (length plan.locks)))
-
--- the lock that a thread holds in a row, and not in the other
-abbrev pub held_only : Plan → ℕ → ℕ → ℕ → Option LockNo
-held_only plan n m t = first_lock plan (λ l. holds plan n l t && not (holds plan m l t))
-
--- a lock of the class that it holds
-abbrev pub held_of : Plan → ℕ → ℕ → ℕ → Option LockNo
-held_of plan n t class = first_lock plan (λ l. holds plan n l t && lock_class plan l == class)
+-- the first lock of which that is so
+abbrev pub first_lock : Plan → ℕ → ℕ → Sought → Option LockNo
+first_lock plan n t sought =
+    find (λ l. fits plan n t sought l.0)
+    (map (λ l. record { 0 = l }) (range_with_len 0 (length plan.locks)))
 
 -- 3. Whom a turn lent to, and on what it blocked
 
@@ -171,8 +163,11 @@ marked_of Idle entry = Some marked.Idle
 marked_of (Did kind) None = Some (marked.Did kind)
 marked_of (Did kind) (Some entry) = Some (marked.Noted entry.event)
 
-abbrev pub mark : ℕ → ℕ → MarkKind → TurnMark
-mark n t what = record { turn = n; thread = record { 0 = t }; what = what }
+-- the mark of a turn with the answer, where something is marked
+abbrev pub mark_shown : Plan → ℕ → ℕ → Turn → List TurnMark
+mark_shown plan n t answer =
+    option_to_list (option_map (λ what. record { turn = n; thread = record { 0 = t }; what = what })
+    (marked_of answer (entry_in plan n)))
 
 -- 6. Arrows
 
@@ -186,27 +181,30 @@ abbrev pub block_arrows : ℕ → ℕ → Option ThreadNo → List ThreadNo → 
 block_arrows n from (Some writer) held_by = arrows_to n Behind from (writer ∷ [])
 block_arrows n from None held_by = arrows_to n BlockedOn from held_by
 
--- Those of a turn that made a step: to whom it lent, to each that it woke, to whom it went behind or to each that holds
--- the lock on which it blocked, and to each that holds the lock that it was refused.
-abbrev pub step_arrows : Plan → ℕ → ℕ → StepKind → List Arrow
-step_arrows plan n t step.Lend =
+-- Those of a turn by its answer. It made a step: to whom it lent, to each that it woke, to whom it went behind or to
+-- each that holds the lock on which it blocked, and to each that holds the lock that it was refused.
+abbrev pub arrows_shown : Plan → ℕ → ℕ → Turn → List Arrow
+arrows_shown plan n t (Did step.Lend) =
     of_some (λ loan. arrows_to n (Lends loan.before loan.prio) t (loan.to ∷ []))
     (loan_in plan n t)
-step_arrows plan n t step.Mark = arrows_to n Wakes t (those plan (wakes_up plan n))
-step_arrows plan n t step.Enter =
-    of_some (λ l. block_arrows n t (went_behind plan n l.0 t) (holders plan n l.0))
+arrows_shown plan n t (Did step.Mark) = arrows_to n Wakes t (those plan n asked.WakesUp)
+arrows_shown plan n t (Did step.Enter) =
+    of_some (λ l. block_arrows n t (went_behind plan n l.0 t) (those plan n (asked.Holds l)))
     (blocked_on plan n t)
-step_arrows plan n t step.Note =
-    of_some (λ r. arrows_to n Refused t (holders plan n r.0)) (refused_in plan n)
-step_arrows plan n t step.Gain = []
-step_arrows plan n t step.Claim = []
-step_arrows plan n t step.Drop = []
-step_arrows plan n t step.OpenUp = []
-step_arrows plan n t step.Resume = []
-step_arrows plan n t step.Shift = []
-step_arrows plan n t step.WalkEnd = []
-step_arrows plan n t step.Add = []
-step_arrows plan n t step.Wake = []
+arrows_shown plan n t (Did step.Note) =
+    of_some (λ r. arrows_to n Refused t (those plan n (asked.Holds (record { 0 = r.0 }))))
+    (refused_in plan n)
+arrows_shown plan n t (Did step.Gain) = []
+arrows_shown plan n t (Did step.Claim) = []
+arrows_shown plan n t (Did step.Drop) = []
+arrows_shown plan n t (Did step.OpenUp) = []
+arrows_shown plan n t (Did step.Resume) = []
+arrows_shown plan n t (Did step.Shift) = []
+arrows_shown plan n t (Did step.WalkEnd) = []
+arrows_shown plan n t (Did step.Add) = []
+arrows_shown plan n t (Did step.Wake) = []
+arrows_shown plan n t Idle = []
+arrows_shown plan n t Ended = []
 
 -- 7. Sentences
 
@@ -230,60 +228,50 @@ sorted_at plan n (AtThread other) =
     option_map (λ l. said.Sorts (record { 0 = other }) l)
     (lock_named ((state_in plan n).blocked_on other))
 
--- What is said of a turn that made a step. It blocked on a lock, which these hold, and went behind this writer; its
+-- What is said of a turn by its answer. It blocked on a lock, which these hold, and went behind this writer; its
 -- walk lent; its walk sorted a waiter; it gained a lock with those who wait; it gave a lock up, and took these off its
 -- queue; it goes to sleep, and gives the channel's lock up; it took these sleepers off; or it may not take the lock, by
 -- the class of one that it holds.
-abbrev pub step_said : Plan → ℕ → ℕ → StepKind → Option Saying
-step_said plan n t step.Enter =
-    option_map (λ l. said.Waits l (holders plan n l.0) (went_behind plan n l.0 t))
+abbrev pub said_of : Plan → ℕ → ℕ → Turn → Option Saying
+said_of plan n t (Did step.Enter) =
+    option_map (λ l. said.Waits l (those plan n (asked.Holds l)) (went_behind plan n l.0 t))
     (blocked_on plan n t)
-step_said plan n t step.Lend =
+said_of plan n t (Did step.Lend) =
     option_and_then (loan_said (is_walking ((state_in plan (n + 1)).walk t))) (loan_in plan n t)
-step_said plan n t step.Shift = sorted_at plan n ((state_in plan n).walk t)
-step_said plan n t step.Claim =
+said_of plan n t (Did step.Shift) = sorted_at plan n ((state_in plan n).walk t)
+said_of plan n t (Did step.Claim) =
     option_map (λ l. said.Claims l (prio_in plan n t) (prio_in plan (n + 1) t))
-    (held_only plan (n + 1) n t)
-step_said plan n t step.OpenUp =
+    (first_lock plan n t sought.Gained)
+said_of plan n t (Did step.OpenUp) =
     option_map (λ l. said.Frees l (prio_in plan n t) (prio_in plan (n + 1) t)
-    (taken_off plan n (lock_queue l.0))) (held_only plan n (n + 1) t)
-step_said plan n t step.Add =
+    (those plan n (asked.Leaves (lock_queue l.0)))) (first_lock plan n t sought.GivenUp)
+said_of plan n t (Did step.Add) =
     option_and_then (λ c. option_map (λ chan. said.Sleeps (record { 0 = c }) chan.lock)
     (slice_get plan.chans c)) (slept_on plan n)
-step_said plan n t step.Wake =
-    option_map (λ c. said.Wakes (record { 0 = c }) (taken_off plan n (chan_queue c)))
+said_of plan n t (Did step.Wake) =
+    option_map (λ c. said.Wakes (record { 0 = c }) (those plan n (asked.Leaves (chan_queue c))))
     (signalled plan n)
-step_said plan n t step.Note =
+said_of plan n t (Did step.Note) =
     option_map (λ r. said.Refused (record { 0 = r.0 }) (record { 0 = r.1 })
-    (held_of plan n t r.1)) (refused_in plan n)
-step_said plan n t step.Gain = None
-step_said plan n t step.Drop = None
-step_said plan n t step.Mark = None
-step_said plan n t step.Resume = None
-step_said plan n t step.WalkEnd = None
-
-abbrev pub sentence : ℕ → ℕ → Saying → Sentence
-sentence n t saying = record { turn = n; thread = record { 0 = t }; saying = saying }
-
--- 8. What a turn shows, by who had it and what it answered
-
-abbrev pub mark_shown : Plan → ℕ → ℕ → Turn → List TurnMark
-mark_shown plan n t answer =
-    option_to_list (option_map (mark n t) (marked_of answer (entry_in plan n)))
-
-abbrev pub arrows_shown : Plan → ℕ → ℕ → Turn → List Arrow
-arrows_shown plan n t Ended = []
-arrows_shown plan n t Idle = []
-arrows_shown plan n t (Did kind) = step_arrows plan n t kind
-
-abbrev pub said_of : Plan → ℕ → ℕ → Turn → Option Saying
-said_of plan n t Ended = None
+    (first_lock plan n t (sought.OfClass (record { 0 = r.1 })))) (refused_in plan n)
+said_of plan n t (Did step.Gain) = None
+said_of plan n t (Did step.Drop) = None
+said_of plan n t (Did step.Mark) = None
+said_of plan n t (Did step.Resume) = None
+said_of plan n t (Did step.WalkEnd) = None
 said_of plan n t Idle = None
-said_of plan n t (Did kind) = step_said plan n t kind
+said_of plan n t Ended = None
 
+-- the sentence of a turn with the answer, where something is said
 abbrev pub sentence_shown : Plan → ℕ → ℕ → Turn → List Sentence
 sentence_shown plan n t answer =
-    option_to_list (option_map (sentence n t) (said_of plan n t answer))
+    option_to_list (option_map (λ saying. record {
+      turn = n;
+      thread = record { 0 = t };
+      saying = saying;
+    }) (said_of plan n t answer))
+
+-- 8. What the turns of a window show
 
 -- what the turns show that lead from the first row to the last, one behind the other
 abbrev pub in_turns : {A : Type 0} → (Plan → ℕ → ℕ → Turn → List A) → Plan → ℕ → ℕ → List A

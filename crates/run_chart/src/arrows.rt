@@ -1,8 +1,7 @@
 //! The arrows of a turn: whom its thread lent to, woke, blocked on or blocked behind, and who held what it was refused.
 ghost use Rattle.std.specs.Prelude.{◌≡◌, ◌++◌, OnOk};
-ghost use Rattle.lock_model.specs.declared.turn.StepKind.TheVariants as step;
-ghost use Rattle.run_chart.specs.Runs.{IsTurnOf};
-ghost use Rattle.run_chart.specs.Turns.{arrows_shown, arrows_to, step_arrows};
+ghost use Rattle.run_chart.specs.Runs.{of_turn, IsTurnOf};
+ghost use Rattle.run_chart.specs.Turns.{arrows_shown, arrows_to};
 
 use crate::lookup::{blocked_on, loan_in, refused_in, went_behind};
 use crate::naming::{Asked, those};
@@ -18,9 +17,9 @@ pub fn push_arrows(
     at: &TurnOf<'_>,
     answer: Turn,
 ) -> Result<(), AllocError>
-    requires { IsTurnOf at.now.plan.now at.now.rows.now at.now.turn at.now.who.0 }
+    requires { IsTurnOf at.now }
     ensures { OnOk result (arrows.new.items
-        ≡ arrows.old.items ++ arrows_shown at.now.plan.now at.now.turn at.now.who.0 answer) }
+        ≡ arrows.old.items ++ of_turn arrows_shown at.now answer) }
 {
     match answer {
         Turn::Did(StepKind::Lend) => push_loan(arrows, at),
@@ -48,9 +47,9 @@ pub fn push_arrows(
 
 // To the owner of the lock at which its walk stood.
 fn push_loan(arrows: &mut Vec<Arrow>, at: &TurnOf<'_>) -> Result<(), AllocError>
-    requires { IsTurnOf at.now.plan.now at.now.rows.now at.now.turn at.now.who.0 }
+    requires { IsTurnOf at.now }
     ensures { OnOk result (arrows.new.items
-        ≡ arrows.old.items ++ step_arrows at.now.plan.now at.now.turn at.now.who.0 step.Lend) }
+        ≡ arrows.old.items ++ of_turn arrows_shown at.now (Turn.Did StepKind.Lend)) }
 {
     if let Some(loan) = loan_in(at) {
         let (before, prio) = (loan.before, loan.prio);
@@ -61,9 +60,9 @@ fn push_loan(arrows: &mut Vec<Arrow>, at: &TurnOf<'_>) -> Result<(), AllocError>
 
 // To the writer behind which it blocked, or else to each that holds the lock.
 fn push_blocks(alloc: Global, arrows: &mut Vec<Arrow>, at: &TurnOf<'_>) -> Result<(), AllocError>
-    requires { IsTurnOf at.now.plan.now at.now.rows.now at.now.turn at.now.who.0 }
+    requires { IsTurnOf at.now }
     ensures { OnOk result (arrows.new.items
-        ≡ arrows.old.items ++ step_arrows at.now.plan.now at.now.turn at.now.who.0 step.Enter) }
+        ≡ arrows.old.items ++ of_turn arrows_shown at.now (Turn.Did StepKind.Enter)) }
 {
     let Some(l) = blocked_on(at) else {
         return Ok(());
@@ -79,9 +78,9 @@ fn push_blocks(alloc: Global, arrows: &mut Vec<Arrow>, at: &TurnOf<'_>) -> Resul
 
 // To each that holds the lock that it was refused.
 fn push_refusals(alloc: Global, arrows: &mut Vec<Arrow>, at: &TurnOf<'_>) -> Result<(), AllocError>
-    requires { IsTurnOf at.now.plan.now at.now.rows.now at.now.turn at.now.who.0 }
+    requires { IsTurnOf at.now }
     ensures { OnOk result (arrows.new.items
-        ≡ arrows.old.items ++ step_arrows at.now.plan.now at.now.turn at.now.who.0 step.Note) }
+        ≡ arrows.old.items ++ of_turn arrows_shown at.now (Turn.Did StepKind.Note)) }
 {
     let Some((l, _)) = refused_in(at) else {
         return Ok(());

@@ -1,22 +1,23 @@
 //! The bars of a thread: what it holds, waits for and walks along.
-ghost use Rattle.std.specs.Prelude.{◌≡◌, ℕ, ◌≤◌, ◌++◌, length, option_to_list, OnOk};
+ghost use Rattle.std.specs.Prelude.{◌≡◌, ℕ, ◌≤◌, length, option_to_list, OnOk};
 ghost use Rattle.lock_objects.specs.Represents.{hold_of, wait_of, walk_of};
-ghost use Rattle.run_chart.specs.Bars.{bar_drawn, bar_of, held_kind, held_kinds, kinds_in, waited_kind, walked_kind, woken_kind};
+ghost use Rattle.run_chart.specs.Bars.{bar_drawn, held_kind, held_kinds, kinds_in, waited_kind, walked_kind, woken_kind};
 ghost use Rattle.run_chart.specs.Runs.{IsThreadOf};
 ghost use Rattle.run_chart.specs.Spans.{Adds, Makes};
 ghost use Rattle.run_chart.specs.declared.bars.Shown as kinds;
 ghost use Rattle.run_tracks.specs.Rows.{run_in};
 
+use crate::adding::push_some;
 use crate::rows::{ThreadOf, thread_rows};
-use crate::spans::{Span, spans};
+use crate::spans::spans;
 use chart_layout::{Bar, BarKind};
-use lock_model::{LockNo, Mode, ThreadNo};
+use lock_model::{LockNo, Mode};
 use run_tracks::{Noted, ThreadRow, Track, Wait, Walk};
 use std::alloc::{AllocError, Global};
 
 /// Adds the bars of a thread in its window.
 pub fn push_bars(alloc: Global, bars: &mut Vec<Bar>, at: &ThreadOf<'_>) -> Result<(), AllocError>
-    requires { IsThreadOf at.now.plan.now at.now.rows.now at.now.who.0 at.now.from at.now.to }
+    requires { IsThreadOf at.now }
     ensures { OnOk result (Adds bar_drawn at.now.who.0 at.now.from at.now.to bars.old.items
         bars.new.items
         (λ n. kinds_in at.now.plan.now (run_in at.now.plan.now n).state at.now.who.0)) }
@@ -30,7 +31,7 @@ pub fn push_bars(alloc: Global, bars: &mut Vec<Bar>, at: &ThreadOf<'_>) -> Resul
 
 // What it holds, by lock.
 fn push_holds(alloc: Global, bars: &mut Vec<Bar>, at: &ThreadOf<'_>) -> Result<(), AllocError>
-    requires { IsThreadOf at.now.plan.now at.now.rows.now at.now.who.0 at.now.from at.now.to }
+    requires { IsThreadOf at.now }
     ensures { OnOk result (Adds bar_drawn at.now.who.0 at.now.from at.now.to bars.old.items
         bars.new.items (λ n. held_kinds (run_in at.now.plan.now n).state at.now.who.0
         (length at.now.plan.now.locks))) }
@@ -70,43 +71,31 @@ fn push_shown<T: Copy, F: Fn(T) -> Shown>(
 {
     let spans = spans(alloc, track, at.from, at.to, shown)?;
     for span in &spans {
-        push_bar(bars, at.who, *span)?;
+        let (thread, first, last) = (at.who, span.first, span.last);
+        push_some(
+            bars,
+            span.value.0.map(|what| Bar {
+                thread,
+                what,
+                first,
+                last,
+            }),
+        )?;
     }
-    Ok(())
-}
-
-fn push_bar(bars: &mut Vec<Bar>, thread: ThreadNo, span: Span<Shown>) -> Result<(), AllocError>
-    ensures { OnOk result (bars.new.items ≡ bars.old.items ++ option_to_list (bar_of thread span)) }
-{
-    let Some(what) = span.value.0 else {
-        return Ok(());
-    };
-    bars.push(Bar {
-        thread,
-        what,
-        first: span.first,
-        last: span.last,
-    })?;
     Ok(())
 }
 
 fn held(l: LockNo, mode: Option<Mode>) -> Shown
     ensures { result.0 ≡ held_kind l.0 (hold_of mode) }
 {
-    Shown(match mode {
-        Some(mode) => Some(BarKind::Holds { l, mode }),
-        None => None,
-    })
+    Shown(mode.map(|mode| BarKind::Holds { l, mode }))
 }
 
 // The queue on which it stands.
 fn waited(row: ThreadRow) -> Shown
     ensures { result.0 ≡ waited_kind row.stands_on }
 {
-    Shown(match row.stands_on {
-        Some(q) => Some(BarKind::Waits { q }),
-        None => None,
-    })
+    Shown(row.stands_on.map(|q| BarKind::Waits { q }))
 }
 
 // Off which queue it was taken, as long as it doesn't run.

@@ -1,6 +1,6 @@
 //! How the run of a chart ended, and the lines that are printed of it.
-ghost use Rattle.std.specs.Prelude.{◌≡◌, ◌++◌, length, option_map, option_to_list, IfOk, OnOk};
-ghost use Rattle.run_chart.specs.Charts.{waits_in, IsEnd};
+ghost use Rattle.std.specs.Prelude.{◌≡◌, ◌<◌, ◌≤◌, length, IfOk};
+ghost use Rattle.run_chart.specs.Charts.{wait_in, waits_in, IsEnd};
 ghost use Rattle.run_chart.specs.Runs.{IsRunOf};
 
 use crate::rows::thread_rows;
@@ -32,27 +32,19 @@ fn waits(alloc: Global, plan: &Plan, rows: &Rows) -> Result<Vec<(ThreadNo, Queue
     ensures { IfOk result (λ waits. waits.items ≡ waits_in plan.now (length rows.now.turns)) }
 {
     let last = rows.turns.as_slice().len() as u32;
-    let mut waits = Vec::new(alloc);
-    for t in 0..plan.threads.as_slice().len() {
-        let thread = ThreadNo(t as u8);
-        let row = thread_rows(rows, thread).row.at(last);
-        push_wait(&mut waits, thread, row.stands_on)?;
-    }
-    Ok(waits)
+    (0..plan.threads.as_slice().len())
+        .filter_map(|t| wait_in(plan, rows, last, ThreadNo(t as u8)))
+        .collect(alloc)
 }
 
-fn push_wait(
-    waits: &mut Vec<(ThreadNo, QueueName)>,
-    t: ThreadNo,
-    stands_on: Option<QueueName>,
-) -> Result<(), AllocError>
-    ensures { OnOk result (waits.new.items
-        ≡ waits.old.items ++ option_to_list (option_map (λ q. (t, q)) stands_on)) }
+// A thread that stands on a queue in a row, with its queue.
+fn wait_in(plan: &Plan, rows: &Rows, row: u32, t: ThreadNo) -> Option<(ThreadNo, QueueName)>
+    requires run { IsRunOf plan.now rows.now }
+    requires row { row ≤ length rows.now.turns }
+    requires thread { t.0 < length rows.now.threads }
+    ensures { result ≡ wait_in plan.now row t.0 }
 {
-    if let Some(q) = stands_on {
-        waits.push((t, q))?;
-    }
-    Ok(())
+    thread_rows(rows, t).row.at(row).stands_on.map(|q| (t, q))
 }
 
 /// The printed lines behind those of the history.

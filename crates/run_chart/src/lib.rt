@@ -4,11 +4,13 @@
 //! - `spans`: the rows over which a value stays the same, the one mechanism of bars and steps.
 //! - `rows`, `lookup`, `naming`: what the rows of a run say of a row, and of a turn, and whom it names.
 //! - `bars`: what the bars of a thread show in a window; `threads`: all that the threads do.
+//! - `adding`: adding to what is shown.
 //! - `marks`, `arrows`, `saying`: what a turn shows; `window`: what the turns of a window show.
 //! - `ending`: how the run ended.
 //! - `charting`: the chart of a run.
 #![tactic(auto)]
 
+mod adding;
 mod arrows;
 mod bars;
 mod charting;

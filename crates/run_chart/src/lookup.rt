@@ -1,8 +1,9 @@
 //! What the rows of a run say of a turn: whom it lent to, on which lock its thread blocked, behind whom, and what it
 //! noted.
-ghost use Rattle.std.specs.Prelude.{◌≡◌, ◌≤◌, None, Some, length, option_map};
+ghost use Rattle.std.specs.Prelude.{◌≡◌, ◌≤◌, ◌==◌, Some, length, map, option_map, slice_get};
 ghost use Rattle.std.specs.List.{find, list_any};
-ghost use Rattle.run_chart.specs.Lines.{first_in, is_line_of, is_waiter, lists_of};
+ghost use Rattle.lock_history.specs.Outcomes.{waiter_seen};
+ghost use Rattle.run_chart.specs.Lines.{is_line_of, lists_of};
 ghost use Rattle.run_chart.specs.Runs.{IsTurnOf};
 ghost use Rattle.run_chart.specs.Turns.{blocked_on, event_in, first_writer, loan_in, lock_named, refused_in, state_in, went_behind};
 ghost use Rattle.run_tracks.specs.Rows.{entry_in};
@@ -25,7 +26,7 @@ pub struct HopLoan {
 
 /// What was lent in a turn, if its thread's walk stood at a lock that has an owner.
 pub fn loan_in(at: &TurnOf<'_>) -> Option<HopLoan>
-    requires { IsTurnOf at.now.plan.now at.now.rows.now at.now.turn at.now.who.0 }
+    requires { IsTurnOf at.now }
     ensures { result ≡ loan_in at.now.plan.now at.now.turn at.now.who.0 }
 {
     match thread_in(at, at.turn, at.who).walk {
@@ -44,7 +45,7 @@ pub fn loan_in(at: &TurnOf<'_>) -> Option<HopLoan>
 
 /// The lock on which a turn blocked its thread.
 pub fn blocked_on(at: &TurnOf<'_>) -> Option<LockNo>
-    requires { IsTurnOf at.now.plan.now at.now.rows.now at.now.turn at.now.who.0 }
+    requires { IsTurnOf at.now }
     ensures { result ≡ blocked_on at.now.plan.now at.now.turn at.now.who.0 }
 {
     lock_named(named_by(at, at.turn + 1, at.who))
@@ -63,7 +64,7 @@ pub fn lock_named(q: Option<QueueName>) -> Option<LockNo>
 /// The writer that waits for a lock and came first, where a thread blocked on it to share it with others that share it.
 #[tactic(auto, using(crate::proofs::Turns::unowned))]
 pub fn went_behind(at: &TurnOf<'_>, l: LockNo) -> Option<ThreadNo>
-    requires { IsTurnOf at.now.plan.now at.now.rows.now at.now.turn at.now.who.0 }
+    requires { IsTurnOf at.now }
     ensures { result ≡ went_behind at.now.plan.now at.now.turn l.0 at.now.who.0 }
 {
     if owner_in(at, at.turn, l).is_some() {
@@ -74,7 +75,7 @@ pub fn went_behind(at: &TurnOf<'_>, l: LockNo) -> Option<ThreadNo>
 
 // The line of a lock's queue in a row.
 fn line_in<'a>(at: &TurnOf<'a>, row: u32, l: LockNo) -> Option<&'a QueueLine>
-    requires turn { IsTurnOf at.now.plan.now at.now.rows.now at.now.turn at.now.who.0 }
+    requires turn { IsTurnOf at.now }
     requires row { row ≤ length at.now.rows.now.turns }
     ensures { lists_of (option_map (λ line. line.now) result)
         ≡ (state_in at.now.plan.now row).lists (lock_queue l.0) }
@@ -100,21 +101,21 @@ fn first_writer(line: &QueueLine, who: ThreadNo) -> Option<ThreadNo>
 }
 
 fn waits_in(waiters: &[(ThreadNo, Prio)], who: ThreadNo) -> bool
-    ensures { result ≡ list_any (is_waiter who.0) waiters.now }
+    ensures { result ≡ list_any (λ w. w.0.0 == who.0) waiters.now }
 {
     waiters.iter().any(|waiter| waiter.0 == who)
 }
 
 fn first_in(waiters: &[(ThreadNo, Prio)]) -> Option<ThreadNo>
-    ensures { result ≡ first_in waiters.now }
+    ensures { result
+        ≡ option_map (λ w. record { 0 = w.thread }) (slice_get (map waiter_seen waiters.now) 0) }
 {
-    let (first, _) = waiters.first()?;
-    Some(*first)
+    Some(waiters.first()?.0)
 }
 
 /// The entry that a turn made.
 pub fn entry_in(at: &TurnOf<'_>) -> Option<Entry>
-    requires { IsTurnOf at.now.plan.now at.now.rows.now at.now.turn at.now.who.0 }
+    requires { IsTurnOf at.now }
     ensures { result ≡ entry_in at.now.plan.now at.now.turn }
 {
     turn_at(at.rows, at.turn).entry
@@ -122,7 +123,7 @@ pub fn entry_in(at: &TurnOf<'_>) -> Option<Entry>
 
 /// The event of that.
 pub fn event_in(at: &TurnOf<'_>) -> Option<Event>
-    requires { IsTurnOf at.now.plan.now at.now.rows.now at.now.turn at.now.who.0 }
+    requires { IsTurnOf at.now }
     ensures { result ≡ event_in at.now.plan.now at.now.turn }
 {
     Some(entry_in(at)?.event)
@@ -130,7 +131,7 @@ pub fn event_in(at: &TurnOf<'_>) -> Option<Event>
 
 /// The lock that its thread was refused, and the class of the held one that forbids it.
 pub fn refused_in(at: &TurnOf<'_>) -> Option<(LockNo, ClassNo)>
-    requires { IsTurnOf at.now.plan.now at.now.rows.now at.now.turn at.now.who.0 }
+    requires { IsTurnOf at.now }
     ensures { option_map (λ r. (r.0.0, r.1.0)) result ≡ refused_in at.now.plan.now at.now.turn }
 {
     event_in(at)?.refused()

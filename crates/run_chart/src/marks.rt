@@ -1,36 +1,23 @@
 //! The mark of a turn: what was done in it.
-ghost use Rattle.std.specs.Prelude.{◌≡◌, ◌++◌, option_map, option_to_list, OnOk};
-ghost use Rattle.run_chart.specs.Runs.{IsTurnOf};
-ghost use Rattle.run_chart.specs.Turns.{mark, mark_shown, marked_of};
+ghost use Rattle.std.specs.Prelude.{◌≡◌, ◌++◌, OnOk};
+ghost use Rattle.run_chart.specs.Runs.{of_turn, IsTurnOf};
+ghost use Rattle.run_chart.specs.Turns.{mark_shown, marked_of};
 
+use crate::adding::push_some;
 use crate::lookup::entry_in;
 use crate::rows::TurnOf;
 use chart_layout::{MarkKind, TurnMark};
-use lock_model::{Entry, ThreadNo, Turn};
+use lock_model::{Entry, Turn};
 use std::alloc::AllocError;
 
 /// Adds the mark of a turn, unless its thread had ended before.
 pub fn push_mark(marks: &mut Vec<TurnMark>, at: &TurnOf<'_>, answer: Turn) -> Result<(), AllocError>
-    requires { IsTurnOf at.now.plan.now at.now.rows.now at.now.turn at.now.who.0 }
-    ensures { OnOk result (marks.new.items
-        ≡ marks.old.items ++ mark_shown at.now.plan.now at.now.turn at.now.who.0 answer) }
+    requires { IsTurnOf at.now }
+    ensures { OnOk result (marks.new.items ≡ marks.old.items ++ of_turn mark_shown at.now answer) }
 {
-    push(marks, at.turn, at.who, marked_of(answer, entry_in(at)))
-}
-
-fn push(
-    marks: &mut Vec<TurnMark>,
-    turn: u32,
-    thread: ThreadNo,
-    what: Option<MarkKind>,
-) -> Result<(), AllocError>
-    ensures { OnOk result (marks.new.items
-        ≡ marks.old.items ++ option_to_list (option_map (mark turn thread.0) what)) }
-{
-    if let Some(what) = what {
-        marks.push(TurnMark { turn, thread, what })?;
-    }
-    Ok(())
+    let (turn, thread) = (at.turn, at.who);
+    let mark = marked_of(answer, entry_in(at)).map(|what| TurnMark { turn, thread, what });
+    push_some(marks, mark)
 }
 
 // What is marked of a turn: its entry, or else the step that it made.

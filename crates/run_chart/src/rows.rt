@@ -45,7 +45,7 @@ pub fn turn_at(rows: &Rows, turn: u32) -> TurnRow
 
 /// What a thread was in a row.
 pub fn thread_in(at: &TurnOf<'_>, row: u32, t: ThreadNo) -> ThreadRow
-    requires turn { IsTurnOf at.now.plan.now at.now.rows.now at.now.turn at.now.who.0 }
+    requires turn { IsTurnOf at.now }
     requires row { row ≤ length at.now.rows.now.turns }
     requires thread { t.0 < length at.now.rows.now.threads }
     ensures { IsThread at.now.plan.now (run_in at.now.plan.now row) t.0 result }
@@ -55,20 +55,17 @@ pub fn thread_in(at: &TurnOf<'_>, row: u32, t: ThreadNo) -> ThreadRow
 
 /// Whether it stood on the queue.
 pub fn stands_on(at: &TurnOf<'_>, row: u32, q: QueueName, t: ThreadNo) -> bool
-    requires turn { IsTurnOf at.now.plan.now at.now.rows.now at.now.turn at.now.who.0 }
+    requires turn { IsTurnOf at.now }
     requires row { row ≤ length at.now.rows.now.turns }
     requires thread { t.0 < length at.now.rows.now.threads }
     ensures { result ≡ stands_on at.now.plan.now row q t.0 }
 {
-    match thread_in(at, row, t).stands_on {
-        Some(on) => on == q,
-        None => false,
-    }
+    thread_in(at, row, t).stands_on == Some(q)
 }
 
 /// The queue that its record named. What is no thread has none.
 pub fn named_by(at: &TurnOf<'_>, row: u32, t: ThreadNo) -> Option<QueueName>
-    requires turn { IsTurnOf at.now.plan.now at.now.rows.now at.now.turn at.now.who.0 }
+    requires turn { IsTurnOf at.now }
     requires row { row ≤ length at.now.rows.now.turns }
     ensures { result ≡ (state_in at.now.plan.now row).blocked_on t.0 }
 {
@@ -81,7 +78,7 @@ pub fn named_by(at: &TurnOf<'_>, row: u32, t: ThreadNo) -> Option<QueueName>
 
 /// Whether a thread held the lock.
 pub fn holds(at: &TurnOf<'_>, row: u32, l: LockNo, t: ThreadNo) -> bool
-    requires turn { IsTurnOf at.now.plan.now at.now.rows.now at.now.turn at.now.who.0 }
+    requires turn { IsTurnOf at.now }
     requires row { row ≤ length at.now.rows.now.turns }
     requires thread { t.0 < length at.now.rows.now.threads }
     ensures { result ≡ holds at.now.plan.now row l.0 t.0 }
@@ -95,7 +92,7 @@ pub fn holds(at: &TurnOf<'_>, row: u32, l: LockNo, t: ThreadNo) -> bool
 
 /// The thread that held it alone.
 pub fn owner_in(at: &TurnOf<'_>, row: u32, l: LockNo) -> Option<ThreadNo>
-    requires turn { IsTurnOf at.now.plan.now at.now.rows.now at.now.turn at.now.who.0 }
+    requires turn { IsTurnOf at.now }
     requires row { row ≤ length at.now.rows.now.turns }
     ensures is { option_map (λ t. t.0) result ≡ owner_in at.now.plan.now row l.0 }
     ensures thread { IfSome result (λ t. t.0 < length at.now.rows.now.threads) }

@@ -1,14 +1,14 @@
 //! The sentence of a turn that changes who waits or who has lent.
-ghost use Rattle.std.specs.Prelude.{◌≡◌, ◌++◌, option_map, option_to_list, IfOk, OnOk};
-ghost use Rattle.lock_model.specs.declared.turn.StepKind.TheVariants as step;
-ghost use Rattle.run_chart.specs.Runs.{IsTurnOf};
-ghost use Rattle.run_chart.specs.Turns.{sentence, sentence_shown, step_said};
+ghost use Rattle.std.specs.Prelude.{◌≡◌, ◌++◌, IfOk, OnOk};
+ghost use Rattle.run_chart.specs.Runs.{of_turn, IsTurnOf};
+ghost use Rattle.run_chart.specs.Turns.{said_of, sentence_shown};
 
+use crate::adding::push_some;
 use crate::lookup::{blocked_on, event_in, loan_in, lock_named, refused_in, went_behind};
 use crate::naming::{Asked, Sought, first_lock, those};
 use crate::rows::{TurnOf, named_by, thread_in};
 use chart_layout::{Saying, Sentence};
-use lock_model::{QueueName, Sequence, StepKind, ThreadNo, Turn};
+use lock_model::{QueueName, Sequence, StepKind, Turn};
 use run_tracks::Walk;
 use std::alloc::{AllocError, Global};
 
@@ -19,60 +19,47 @@ pub fn push_sentence(
     at: &TurnOf<'_>,
     answer: Turn,
 ) -> Result<(), AllocError>
-    requires { IsTurnOf at.now.plan.now at.now.rows.now at.now.turn at.now.who.0 }
+    requires { IsTurnOf at.now }
     ensures { OnOk result (sentences.new.items
-        ≡ sentences.old.items ++ sentence_shown at.now.plan.now at.now.turn at.now.who.0 answer) }
+        ≡ sentences.old.items ++ of_turn sentence_shown at.now answer) }
 {
-    let saying = match answer {
-        Turn::Did(kind) => saying(alloc, at, kind)?,
-        Turn::Idle | Turn::Ended => None,
-    };
-    push(sentences, at.turn, at.who, saying)
-}
-
-fn push(
-    sentences: &mut Vec<Sentence>,
-    turn: u32,
-    thread: ThreadNo,
-    saying: Option<Saying>,
-) -> Result<(), AllocError>
-    ensures { OnOk result (sentences.new.items
-        ≡ sentences.old.items ++ option_to_list (option_map (sentence turn thread.0) saying)) }
-{
-    if let Some(saying) = saying {
-        sentences.push(Sentence {
+    let (turn, thread) = (at.turn, at.who);
+    let saying = said(alloc, at, answer)?;
+    push_some(
+        sentences,
+        saying.map(|saying| Sentence {
             turn,
             thread,
             saying,
-        })?;
-    }
-    Ok(())
+        }),
+    )
 }
 
-fn saying(alloc: Global, at: &TurnOf<'_>, kind: StepKind) -> Result<Option<Saying>, AllocError>
-    requires { IsTurnOf at.now.plan.now at.now.rows.now at.now.turn at.now.who.0 }
-    ensures { IfOk result (λ saying.
-        saying ≡ step_said at.now.plan.now at.now.turn at.now.who.0 kind) }
+// What is said of it by its answer.
+fn said(alloc: Global, at: &TurnOf<'_>, answer: Turn) -> Result<Option<Saying>, AllocError>
+    requires { IsTurnOf at.now }
+    ensures { IfOk result (λ saying. saying ≡ of_turn said_of at.now answer) }
 {
-    match kind {
-        StepKind::Enter => waits(alloc, at),
-        StepKind::Lend => Ok(lends(at)),
-        StepKind::Shift => Ok(sorts(at)),
-        StepKind::Claim => Ok(claims(at)),
-        StepKind::OpenUp => frees(alloc, at),
-        StepKind::Add => Ok(sleeps(at)),
-        StepKind::Wake => wakes(alloc, at),
-        StepKind::Note => Ok(refused(at)),
-        StepKind::Gain | StepKind::Drop | StepKind::Mark | StepKind::Resume | StepKind::WalkEnd => {
-            Ok(None)
-        }
+    match answer {
+        Turn::Did(StepKind::Enter) => waits(alloc, at),
+        Turn::Did(StepKind::Lend) => Ok(lends(at)),
+        Turn::Did(StepKind::Shift) => Ok(sorts(at)),
+        Turn::Did(StepKind::Claim) => Ok(claims(at)),
+        Turn::Did(StepKind::OpenUp) => frees(alloc, at),
+        Turn::Did(StepKind::Add) => Ok(sleeps(at)),
+        Turn::Did(StepKind::Wake) => wakes(alloc, at),
+        Turn::Did(StepKind::Note) => Ok(refused(at)),
+        Turn::Did(
+            StepKind::Gain | StepKind::Drop | StepKind::Mark | StepKind::Resume | StepKind::WalkEnd,
+        )
+        | Turn::Idle
+        | Turn::Ended => Ok(None),
     }
 }
 
 fn waits(alloc: Global, at: &TurnOf<'_>) -> Result<Option<Saying>, AllocError>
-    requires { IsTurnOf at.now.plan.now at.now.rows.now at.now.turn at.now.who.0 }
-    ensures { IfOk result (λ saying.
-        saying ≡ step_said at.now.plan.now at.now.turn at.now.who.0 step.Enter) }
+    requires { IsTurnOf at.now }
+    ensures { IfOk result (λ saying. saying ≡ of_turn said_of at.now (Turn.Did StepKind.Enter)) }
 {
     let Some(lock) = blocked_on(at) else {
         return Ok(None);
@@ -85,8 +72,8 @@ fn waits(alloc: Global, at: &TurnOf<'_>) -> Result<Option<Saying>, AllocError>
 }
 
 fn lends(at: &TurnOf<'_>) -> Option<Saying>
-    requires { IsTurnOf at.now.plan.now at.now.rows.now at.now.turn at.now.who.0 }
-    ensures { result ≡ step_said at.now.plan.now at.now.turn at.now.who.0 step.Lend }
+    requires { IsTurnOf at.now }
+    ensures { result ≡ of_turn said_of at.now (Turn.Did StepKind.Lend) }
 {
     let loan = loan_in(at)?;
     if loan.before.0 == loan.prio.0 {
@@ -102,8 +89,8 @@ fn lends(at: &TurnOf<'_>) -> Option<Saying>
 }
 
 fn sorts(at: &TurnOf<'_>) -> Option<Saying>
-    requires { IsTurnOf at.now.plan.now at.now.rows.now at.now.turn at.now.who.0 }
-    ensures { result ≡ step_said at.now.plan.now at.now.turn at.now.who.0 step.Shift }
+    requires { IsTurnOf at.now }
+    ensures { result ≡ of_turn said_of at.now (Turn.Did StepKind.Shift) }
 {
     match thread_in(at, at.turn, at.who).walk {
         Walk::AtThread(other) => {
@@ -115,8 +102,8 @@ fn sorts(at: &TurnOf<'_>) -> Option<Saying>
 }
 
 fn claims(at: &TurnOf<'_>) -> Option<Saying>
-    requires { IsTurnOf at.now.plan.now at.now.rows.now at.now.turn at.now.who.0 }
-    ensures { result ≡ step_said at.now.plan.now at.now.turn at.now.who.0 step.Claim }
+    requires { IsTurnOf at.now }
+    ensures { result ≡ of_turn said_of at.now (Turn.Did StepKind.Claim) }
 {
     Some(Saying::Claims {
         lock: first_lock(at, Sought::Gained)?,
@@ -126,9 +113,8 @@ fn claims(at: &TurnOf<'_>) -> Option<Saying>
 }
 
 fn frees(alloc: Global, at: &TurnOf<'_>) -> Result<Option<Saying>, AllocError>
-    requires { IsTurnOf at.now.plan.now at.now.rows.now at.now.turn at.now.who.0 }
-    ensures { IfOk result (λ saying.
-        saying ≡ step_said at.now.plan.now at.now.turn at.now.who.0 step.OpenUp) }
+    requires { IsTurnOf at.now }
+    ensures { IfOk result (λ saying. saying ≡ of_turn said_of at.now (Turn.Did StepKind.OpenUp)) }
 {
     let Some(lock) = first_lock(at, Sought::GivenUp) else {
         return Ok(None);
@@ -143,8 +129,8 @@ fn frees(alloc: Global, at: &TurnOf<'_>) -> Result<Option<Saying>, AllocError>
 }
 
 fn sleeps(at: &TurnOf<'_>) -> Option<Saying>
-    requires { IsTurnOf at.now.plan.now at.now.rows.now at.now.turn at.now.who.0 }
-    ensures { result ≡ step_said at.now.plan.now at.now.turn at.now.who.0 step.Add }
+    requires { IsTurnOf at.now }
+    ensures { result ≡ of_turn said_of at.now (Turn.Did StepKind.Add) }
 {
     let chan = event_in(at)?.fell_asleep()?;
     let lock = at.plan.chans.as_slice().get(usize::from(chan.0))?.lock;
@@ -152,9 +138,8 @@ fn sleeps(at: &TurnOf<'_>) -> Option<Saying>
 }
 
 fn wakes(alloc: Global, at: &TurnOf<'_>) -> Result<Option<Saying>, AllocError>
-    requires { IsTurnOf at.now.plan.now at.now.rows.now at.now.turn at.now.who.0 }
-    ensures { IfOk result (λ saying.
-        saying ≡ step_said at.now.plan.now at.now.turn at.now.who.0 step.Wake) }
+    requires { IsTurnOf at.now }
+    ensures { IfOk result (λ saying. saying ≡ of_turn said_of at.now (Turn.Did StepKind.Wake)) }
 {
     let Some(chan) = event_in(at).and_then(|event| event.woken_chan()) else {
         return Ok(None);
@@ -167,8 +152,8 @@ fn wakes(alloc: Global, at: &TurnOf<'_>) -> Result<Option<Saying>, AllocError>
 }
 
 fn refused(at: &TurnOf<'_>) -> Option<Saying>
-    requires { IsTurnOf at.now.plan.now at.now.rows.now at.now.turn at.now.who.0 }
-    ensures { result ≡ step_said at.now.plan.now at.now.turn at.now.who.0 step.Note }
+    requires { IsTurnOf at.now }
+    ensures { result ≡ of_turn said_of at.now (Turn.Did StepKind.Note) }
 {
     let (lock, held) = refused_in(at)?;
     Some(Saying::Refused {

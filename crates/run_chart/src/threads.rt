@@ -66,7 +66,7 @@ pub fn threads(
 
 // The lane of a thread, which ends in the first row in which the thread has come to its end.
 fn lane(at: &ThreadOf<'_>) -> Lane
-    requires { IsThreadOf at.now.plan.now at.now.rows.now at.now.who.0 at.now.from at.now.to }
+    requires { IsThreadOf at.now }
     ensures { result ≡ lane_in at.now.plan.now (length at.now.rows.now.turns) at.now.who.0 }
 {
     Lane {
@@ -85,7 +85,7 @@ fn first_ended(changes: &[(u32, ThreadRow)]) -> Option<u32>
 
 // Adds the steps of a thread in its window, which follow upon each other.
 fn push_steps(alloc: Global, steps: &mut Vec<PrioSpan>, at: &ThreadOf<'_>) -> Result<(), AllocError>
-    requires { IsThreadOf at.now.plan.now at.now.rows.now at.now.who.0 at.now.from at.now.to }
+    requires { IsThreadOf at.now }
     ensures { OnOk result (Adds step_drawn at.now.who.0 at.now.from at.now.to steps.old.items
         steps.new.items (λ n. prios_in (run_in at.now.plan.now n).state at.now.who.0)) }
 {

@@ -112,14 +112,19 @@ module _ (runs : ℕ → Run) (n : ℕ) (same : runs (n + 1) ≡ runs n) where
 -- 3. Runs
 
 -- the tracks tell of the begin
-pub at_begin : (plan : Plan) (chains : ℕ) (course : Course) (w : World) (columns : Columns) → course.world.plan ≡ plan → course.world.chains ≡ chains → IsCourse course (start_course plan) → w ≡ course.world
-    → ((runs : ℕ → Run) → Represents w (runs 0) → TellsColumns w.plan w.chains runs 1 columns.threads.items columns.words.items columns.queues) → IsAt plan chains 0 course columns
-at_begin plan chains course w columns p n begins same told =
+pub at_begin : (course : Course) (w : World) (columns : Columns) → IsCourse course (start_course course.world.plan)
+    → w ≡ course.world → ((runs : ℕ → Run) → Represents w (runs 0)
+    → TellsColumns w.plan w.chains runs 1 columns.threads.items columns.words.items columns.queues)
+    → IsAt course.world.plan course.world.chains 0 course columns
+at_begin course w columns begins same told =
+    let plan = course.world.plan in
     let course_is : IsCourse course (course_after plan 0) = subst (IsCourse course) (sym (none_made plan)) begins in
-    let shows : Represents w (run_in plan 0) = subst (λ (v : World). Represents v (run_in plan 0)) (sym same) course_is.shows in
-    let its_plan : w.plan ≡ plan = ap (λ (v : World). v.plan) same ∙ p in
-    let its_chains : w.chains ≡ chains = ap (λ (v : World). v.chains) same ∙ n in
-    record { plan_is = p; chains_are = n; course_is = course_is; tells = rw (its_plan, its_chains) at (told (run_in plan) shows) }
+    record {
+      plan_is = refl;
+      chains_are = refl;
+      course_is = course_is;
+      tells = (rw same at told) (run_in plan) course_is.shows;
+    }
 
 -- and where all turns were made, the run is that of the definition
 pub whole_run : (plan : Plan) (chains turns : ℕ) (made : List TurnRow) (course : Course) (columns : Columns) → HasMade plan chains turns made course columns → course_after plan (length made) ≡ course_after plan turns

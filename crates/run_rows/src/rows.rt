@@ -1,8 +1,7 @@
 //! A run, turn by turn, and its rows.
-ghost use Rattle.std.specs.Prelude.{◌≡◌, ◌<◌, ◌≤◌, ℕ, List, length, reverse, IfOk};
+ghost use Rattle.std.specs.Prelude.{◌≡◌, ◌<◌, ◌≤◌, List, length, reverse, IfOk};
 ghost use Rattle.lock_model.specs.Operations.{IsProper};
 ghost use Rattle.lock_model.specs.declared.event.Entry as entries;
-ghost use Rattle.lock_model.specs.declared.plan.Plan as plans;
 ghost use Rattle.run_rows.specs.Making.{IsAt, GoesOn, HasMade};
 ghost use Rattle.lock_state.specs.Run.{start_course};
 ghost use Rattle.run_tracks.specs.Rows.{TellsRun, newest};
@@ -64,11 +63,10 @@ fn make_turns(
     columns: &mut Columns,
     turns: u32,
 ) -> Result<Vec<TurnRow>, AllocError>
-    requires begins { (plan : plans.Plan) × (chains : ℕ) × IsAt plan chains 0 course.old columns.old }
+    requires begins { IsAt course.old.world.plan course.old.world.chains 0 course.old columns.old }
     requires few { turns ≤ 1000000 }
-    ensures { IfOk result (λ made. (plan : plans.Plan) (chains : ℕ)
-        → IsAt plan chains 0 course.old columns.old
-        → HasMade plan chains turns made.items course.new columns.new) }
+    ensures { IfOk result (λ made. HasMade course.old.world.plan course.old.world.chains turns
+        made.items course.new columns.new) }
 {
     let mut made = Vec::new(alloc);
     for n in 0..turns {
@@ -87,11 +85,10 @@ fn make_turn(
     columns: &mut Columns,
     n: u32,
 ) -> Result<Option<TurnRow>, AllocError>
-    requires at { (plan : plans.Plan) × (chains : ℕ) × IsAt plan chains n course.old columns.old }
+    requires at { IsAt course.old.world.plan course.old.world.chains n course.old columns.old }
     requires few { n < 1000000 }
-    ensures { IfOk result (λ made. (plan : plans.Plan) (chains : ℕ)
-        → IsAt plan chains n course.old columns.old
-        → GoesOn plan chains n made course.new columns.new) }
+    ensures { IfOk result (λ made. GoesOn course.old.world.plan course.old.world.chains n made
+        course.new columns.new) }
 {
     let history = course.world().history();
     let before = history.len();

@@ -1,4 +1,4 @@
-use Rattle.std.proofs.Common.{◌≡◌, ◌≤◌, ℕ, Some, ap, rules, arith}
+use Rattle.std.proofs.Common.{◌≡◌, ◌≤◌, ℕ, Some, ap, refl, rules, arith}
 use Rattle.std.proofs.lemmas.Result.{on_ok_weaker}
 use Rattle.lock_objects.specs.Represents.{wait_of, walk_of}
 use Rattle.run_chart.specs.Bars.{bar_drawn, standing, waited_kind, walked_kind, woken_kind}
@@ -21,16 +21,16 @@ returns c =
     row_told plan at.rows.now h t c.thread_rows.result.now c.thread_rows.ensures n
     (let low = c.requires.within in omega (arith, low, b)) v e in
     on_ok_weaker c.push_shown-3.result (λ walked.
-    adds_both bar_drawn t at.from at.to
-    (adds_both bar_drawn t at.from at.to (adds_both bar_drawn t at.from at.to c.in_ok-push_holds.ensures
+    adds_both bar_drawn t at.from at.to _ (adds_both bar_drawn t at.from at.to _
+    (adds_both bar_drawn t at.from at.to _ c.in_ok-push_holds.ensures
     (c.in_ok-push_shown.ensures (λ n. record { 0 = waited_kind (stands n) }) (λ n v u a b e k.
     shown_is u (waited_kind v.stands_on) (waited_kind (stands n)) (search rules)
-    (ap waited_kind (stands_told plan h.proper n t v (row n v b e))))))
+    (ap waited_kind (stands_told plan h.proper n t v (row n v b e))))) (λ n. refl))
     (c.in_ok-push_shown-2.ensures (λ n. record { 0 = woken_kind ((s n).wait t) ((s n).blocked_on t) (stands n) })
     (λ n v u a b e k.
     shown_is u (woken_kind (wait_of v.wait) v.blocked_on v.stands_on)
     (woken_kind ((s n).wait t) ((s n).blocked_on t) (stands n)) (search rules)
-    (woken_told plan h.proper n t v (row n v b e)))))
+    (woken_told plan h.proper n t v (row n v b e)))) (λ n. refl))
     (walked (λ n. record { 0 = walked_kind ((s n).walk t) }) (λ n v u a b e k.
     shown_is u (walked_kind (walk_of v.walk)) (walked_kind ((s n).walk t)) (search rules)
-    (ap walked_kind (row n v b e).walk)))) c.push_shown-3.ensures
+    (ap walked_kind (row n v b e).walk))) (λ n. refl)) c.push_shown-3.ensures

@@ -4,8 +4,8 @@ use Rattle.std.proofs.lemmas.Option.{slice_get_read}
 use Rattle.lock_objects.specs.Represents.{hold_of}
 use Rattle.run_chart.specs.Bars.{bar_drawn, held_kind, held_kinds}
 use Rattle.run_chart.specs.Spans.{Adds}
-use Rattle.run_chart.proofs.Drawn.{adds_as, adds_both, adds_none, shown_is}
-use Rattle.run_chart.proofs.Told.{so_at, thread_at}
+use Rattle.run_chart.proofs.Drawn.{adds_both, adds_none, shown_is}
+use Rattle.run_chart.proofs.Told.{so_at}
 use Rattle.run_chart.proofs.Turns.{each_more}
 use Rattle.run_chart.proofs.bars.push_holds.Goals as goal
 use Rattle.run_tracks.specs.Rows.{run_in}
@@ -22,16 +22,15 @@ loop-l-preserved c =
     let s = λ (n : ℕ). (run_in plan n).state in
     let tracks = c.as_slice-tracks.result.now in
     let track = c.index-tracks-l.result in
-    let its = thread_at plan at.rows.now c.requires.run t c.thread_rows.result.now c.thread_rows.ensures in
+    let its = c.requires.run.told.columns.of_threads t c.thread_rows.result.now c.thread_rows.ensures in
     let here : slice_get c.thread_rows.result.now.held l ≡ Some track =
     subst (λ xs. slice_get xs l ≡ Some track) c.as_slice-tracks.ensures
     (slice_get_read tracks (length tracks) l track refl c.loop-l-test.true c.index-tracks-l.is) in
-    adds_as bar_drawn t at.from at.to (λ n. held_kinds (s n) t (l + 1))
-    (adds_both bar_drawn t at.from at.to c.loop-l.invariant
+    adds_both bar_drawn t at.from at.to (λ n. held_kinds (s n) t (l + 1)) c.loop-l.invariant
     (c.in_ok-push_shown.ensures (λ n. record { 0 = held_kind l ((s n).held t l) }) (λ n mode shown a b e h.
     shown_is shown (held_kind l (hold_of mode)) (held_kind l ((s n).held t l)) (search rules)
     (ap (held_kind l) (so_at track (length at.rows.now.turns + 1) (λ m mode. hold_of mode ≡ (s m).held t l)
-    (its.held l track here) n (let low = c.requires.within in omega (arith, low, b)) mode e)))))
+    (its.held l track here) n (let low = c.requires.within in omega (arith, low, b)) mode e))))
     (λ n. sym (each_more (λ k. option_to_list (held_kind k ((s n).held t k))) 0 l l (omega arith)))
 
 pub returns : goal.returns
@@ -39,7 +38,7 @@ returns c =
     let at = c.args.at.now in
     let plan = at.plan.now in
     let t = at.who.0 in
-    let locks = (thread_at plan at.rows.now c.requires.run t c.thread_rows.result.now c.thread_rows.ensures).locks in
+    let locks = (c.requires.run.told.columns.of_threads t c.thread_rows.result.now c.thread_rows.ensures).locks in
     let all : c.loop-l.l ≡ length plan.locks =
     omega (arith, c.loop-l-test.false, c.loop-l.auto.l-end, ap length c.as_slice-tracks.ensures, locks) in
     subst (λ (l : ℕ). Adds bar_drawn t at.from at.to c.args.bars.now.items c.loop-l.bars.items

@@ -30,8 +30,7 @@ returns c =
     let row = row_told plan at.rows.now c.requires.run t c.thread_rows.result.now c.thread_rows.ensures n
     (let low = c.requires.within in omega (arith, low, b)) v e in
     let both : made ≡ (v.effective, v.base) = search rules in
-    both ∙ ap (λ (p : ℕ). let its : Prio × Prio = (record { 0 = p }, v.base) in its) row.effective
-    ∙ ap (λ (p : ℕ). let its : Prio × Prio = (record { 0 = (s n).effective t }, record { 0 = p }) in its) row.base))
+    rw (← row.effective, ← row.base) both))
     (c.loop-span.invariant
     ∙ ap (λ ss. old ++ map (step_of at.who) ss)
     (take_all c.loop-span.span-index c.deref-span-items.result.now c.loop-span-test.false

@@ -1,5 +1,4 @@
-use Rattle.std.proofs.Common.{◌≡◌, ℕ, length}
-use Rattle.lock_model.specs.declared.plan.Plan.{Plan}
+use Rattle.std.proofs.Common.{◌≡◌, length}
 use Rattle.run_rows.specs.Making.{IsAt}
 use Rattle.run_tracks.specs.Rows.{IsTurn}
 use Rattle.run_tracks.specs.Tracks.{EachAt}
@@ -9,7 +8,6 @@ use Rattle.run_rows.proofs.rows.make_turns.Given as goal
 abbrev pub invariant-loop-n : goal.invariant-loop-n
 invariant-loop-n l = record {
   number : length l.made.items ≡ l.n;
-  some : (plan : Plan) × (chains : ℕ) × IsAt plan chains l.n l.course l.columns;
-  at : (plan : Plan) (chains : ℕ) → IsAt plan chains 0 l.initial.course l.initial.columns → IsAt plan chains l.n l.course l.columns;
-  each : (plan : Plan) (chains : ℕ) → IsAt plan chains 0 l.initial.course l.initial.columns → EachAt (IsTurn plan) l.made.items;
+  at : IsAt l.initial.course.world.plan l.initial.course.world.chains l.n l.course l.columns;
+  each : EachAt (IsTurn l.initial.course.world.plan) l.made.items;
 }

@@ -26,6 +26,6 @@ loop-t-preserved c =
         c.loop-t.invariant.long,
       );
       laid_out = laid_more old lane c.add_lane.new.lanes c.in_ok-add_lane.ensures c.in_ok-lane.ensures.top
-          (subst (λ n. IsLane old n lane) (sym c.loop-t.invariant.long) c.in_ok-lane.ensures.lane)
-          c.loop-t.invariant.laid_out;
+          (subst (λ n. IsLane old.prios.items old.chart.now n lane) (sym c.loop-t.invariant.long)
+          c.in_ok-lane.ensures.lane) c.loop-t.invariant.laid_out;
     }
