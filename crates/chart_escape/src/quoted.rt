@@ -33,7 +33,7 @@ fn push_byte(out: &mut Vec<u8>, byte: u8) -> Result<(), AllocError>
         b'"' => out.extend_from_slice(b"\\\""),
         b'\\' => out.extend_from_slice(b"\\\\"),
         0..=31 | b'<' => push_number(out, byte),
-        _ => out.extend_from_slice(&[byte]),
+        32..=255 => out.extend_from_slice(&[byte]),
     }
 }
 
