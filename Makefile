@@ -34,7 +34,7 @@ help:
 	@echo 'make PROGRAM              proves a program, and leaves it in out/: $(PROGRAMS)'
 	@echo 'make quick                builds all of these without any proof, and leaves them in out/quick/'
 	@echo 'make proved SCRIPT=PATH   make lockrun, and then make step'
-	@echo 'make examples             runs each example by its proved program; stops at the first that is not as written'
+	@echo 'make examples             runs each example of the gate; stops at the first that is not as written'
 	@echo 'make install              installs the proved programs, their pages, their words for shells, and the examples,'
 	@echo '                          and the library for C where make c has left it, below PREFIX, $(PREFIX), in'
 	@echo '                          DESTDIR; make uninstall removes them'
@@ -62,28 +62,9 @@ quick:
 proved: lockrun
 	@tools/programs step
 
-# Runs each example by its proved program, and stops at the first whose status, text or sentence isn't as written. Under
-# run a file that begins with a thread line leaves out the history, whose order is open: the text is to end so. A table
-# is many sources, each with what is said of it.
+# Runs each example, and stops at the first whose status, text or sentence isn't as written.
 examples:
-	@lockrun=$${LOCKRUN:-$$(tools/programs find lockrun)} && [ -n "$$lockrun" ] || exit 1; \
-	lockplan=$${LOCKPLAN:-$$(tools/programs find lockplan)} && [ -n "$$lockplan" ] || exit 1; \
-	lockchart=$${LOCKCHART:-$$(tools/programs find lockchart)} && [ -n "$$lockchart" ] || exit 1; \
-	out=$$(mktemp -d) && trap 'rm -rf "$$out"' EXIT && while read -r name words; do \
-	  case "$$name" in *.table) \
-	    tools/try_table "$$lockrun" "$$lockplan" "examples/$$name" | tee -a "$$out/all"; \
-	    head -n "$$(wc -l < "$$out/all")" crates/example_rows/stdout | diff - "$$out/all" || exit 1; continue ;; esac; \
-	  case "$$words" in \
-	    'lockplan '*) call="$$lockplan $${words#* }" ;; 'lockchart '*) call="$$lockchart $${words#* }" ;; \
-	    *) call="$$lockrun $$words" ;; esac; \
-	  status=0; $$call < "examples/$${name%%.*}.script" > "$$out/text" 2> "$$out/said" || status=$$?; \
-	  from=+1; case "$$words,$$(head -c 7 "examples/$$name.out")" in \
-	    *run*,'thread ') from=$$(wc -l < "examples/$$name.out") ;; esac; \
-	  tail -n "$$from" "$$out/text" | diff "examples/$$name.out" - \
-	    || { echo "$$name: the text differs" >&2; exit 1; }; \
-	  { echo "$$name $$words: status $$status, as written"; sed 's/^/    /' "$$out/said"; } | tee -a "$$out/all"; \
-	  head -n "$$(wc -l < "$$out/all")" crates/example_rows/stdout | diff - "$$out/all" || exit 1; \
-	done < crates/example_rows/stdin
+	@tools/run_examples
 
 # Puts the proved programs, their manual pages, their words for shells, and the examples below DESTDIR and PREFIX.
 install:
