@@ -1,4 +1,4 @@
-# What a newcomer types. `rt` is the toolchain's command; README.md says where it comes from.
+# What a newcomer types. `rt` is the toolchain's command; README.md says what it is.
 SHELL := bash
 
 # The programs: of each there is a crate of that name, docs/NAME.1, and its words for shells in completions/.
@@ -40,7 +40,7 @@ help:
 	@echo '                          DESTDIR; make uninstall removes them'
 	@echo 'make dist                 makes an archive of the sources in out/'
 	@echo 'make words                compares the lists of words for shells and editors with what the programs know'
-	@echo 'make bench                times long scripts by the proved lockrun, and adds the figures to bench/results.md'
+	@echo 'make bench                times long scripts by the proved lockrun, and puts the figures into bench/results.md'
 	@echo 'make c                    proves the library for C, and leaves liblockrun.a and lockrun.h in out/c/'
 	@echo 'make c-test               runs its tests and its examples, under sanitizers and helgrind where these are there'
 	@echo 'make costs                counts what one more case of each sort makes somebody write, and what is proved again'

@@ -5,10 +5,15 @@
  * its calls are made with that handle alone. What a call did stands in its thread's log, as an entry with a ticket.
  * When all threads have ended and were gathered, the floor is closed, and its text is the history of all of them.
  *
- * The calls of part 1 never wait, never sleep and call nothing of yours, and none but open, next_thread and print
- * takes memory: they are the proved library, as are those of scripts behind them, which need no floor. Those of part 2
- * wait: they are loops over lockrun_ask in plain C (c/lockrun_wait.c), and may be replaced by your own, over your own
- * scheduler. lockrun(3) says more of each, of the text and how it is judged, and of race checkers.
+ * The calls of part 1 never wait, never sleep and call nothing of yours, and only open, next_thread and print take
+ * memory. They, and those of scripts after them, which need no floor, are the exports of the proved crate lockrun_c: a
+ * contract says what each does, and that a refused call changes nothing. Of lockrun_ask it also says which answer
+ * comes. Of the others it says only in part which fault comes, and of lockrun_is_queued not whether it answers SLEEP or
+ * DONE. No contract says that the numbers and structs below are those of the crate. lockrun_says is plain C.
+ *
+ * The calls of part 2 wait: they are loops over lockrun_ask in plain C (c/lockrun_wait.c, and the inline functions
+ * here), which no proof covers. They may be replaced by your own, over your own scheduler. lockrun(3) says how all the
+ * calls go together, how a text is judged, and how race checkers are told.
  *
  * Threads. A handle is used by one thread at a time. Different handles may be used at once, those of one floor too.
  * Handing a handle to another thread needs what handing any plain memory needs: a lock, the start or the join of a
@@ -322,7 +327,7 @@ uint32_t lockrun_world_name(lockrun_world_t *world, uint32_t sort, uint32_t numb
 /* Gives a thread its turn, whoever's it would be by the script's schedule: the first action that fits. What became of
  * it is told in *turn. DONE; NO_WORLD, NO_SUCH. */
 enum lockrun_turn {
-    LOCKRUN_TURN_IDLE = 0,      /* the thread sleeps on a queue, and nothing is changed */
+    LOCKRUN_TURN_IDLE = 0,      /* the thread is blocked (LOCKRUN_IDLE), and nothing is changed */
     LOCKRUN_TURN_ENDED = 1,     /* it has ended, and nothing is changed */
     LOCKRUN_TURN_GAIN = 2,      /* it gained a lock */
     LOCKRUN_TURN_CLAIM = 3,     /* it gained one that shows waiters, and owns their turnstile */
@@ -343,8 +348,8 @@ uint32_t lockrun_world_turn(lockrun_world_t *world, uint32_t thread, uint32_t *t
 /* What a thread is between two turns. DONE; NO_WORLD, NO_SUCH. */
 enum lockrun_state {
     LOCKRUN_RUNNING = 0, /* it runs */
-    LOCKRUN_QUEUED = 1,  /* it stands on a queue, and has something to do still before it sleeps */
-    LOCKRUN_IDLE = 2,    /* it sleeps on a queue: its turns are idle until another thread wakes it */
+    LOCKRUN_QUEUED = 1,  /* it is blocked, and has something left to do: a walk, a wake, or a lock to release */
+    LOCKRUN_IDLE = 2,    /* it is blocked, on a queue or taken off one, and its turns are idle until it is woken */
     LOCKRUN_WOKEN = 3,   /* it was woken, and runs again with its next turn */
     LOCKRUN_AT_END = 4   /* it has ended */
 };
@@ -358,8 +363,9 @@ typedef struct lockrun_seen {
 } lockrun_seen_t;
 uint32_t lockrun_world_thread(lockrun_world_t *world, uint32_t thread, lockrun_seen_t *seen);
 
-/* Writes the text of the world's run as it stands, of *written bytes, with no 0 behind it: what `lockrun step` prints
- * where its last turn was the last one here. It may be written between any two turns. DONE; NO_WORLD, NO_MEMORY,
+/* Writes the text of the world's run as it stands, of *written bytes, with no 0 after it: what `lockrun step` prints of
+ * these turns. Its last word is `ok` or `reversed` if all threads have ended, else `stuck` if the turn of each that has
+ * not would be idle, and else `toolong`. It may be written between any two turns. DONE; NO_WORLD, NO_MEMORY,
  * NO_SPACE. */
 uint32_t lockrun_world_print(lockrun_world_t *world, char *out, size_t room, size_t *written);
 
