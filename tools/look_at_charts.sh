@@ -22,7 +22,7 @@ for program in "$lockchart" "$lockrun"; do
   [ -x "$program" ] || { echo "no $program: rt run makes it, in its crate" >&2; exit 1; }
 done
 for name in $names; do
-  cp "$top/examples/$name.script" "$folder/$name.script"
+  cp "$top/crates/example_rows/data/$name.script" "$folder/$name.script"
   for form in svg html trace; do
     "$lockchart" --form "$form" < "$folder/$name.script" > "$folder/$name.${form/trace/json}"
   done
