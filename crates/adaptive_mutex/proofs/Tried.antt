@@ -152,10 +152,7 @@ module _ (floor : Description) (l : LockNo) (seen : ℕ) (old v : Knowledge) (r 
       subst (λ (k : Knowledge). MayMake floor k (λ s. Unit {0}) (Stamps k.thread note ∷ [])) (sym view)
       (may_stamp floor q note asks_busy (subst (λ o. NotesInRound o note) (sym r.no_round) tt)
       (λ e. absurd (let z : false ≡ true = sym r.no_wait ∙ e in cc))
-      r.runs (record { awake = r.going.awake; unended = r.going.unended; stamped = r.going.stamped }) r.takes_nothing)
-
-  pub room_for_busy : 1 ≤ v.spare
-  room_for_busy = subst (λ (k : Knowledge). 1 ≤ k.spare) (sym view) m.room
+      r.runs (assumption r.going) r.takes_nothing)
 
   pub found_busy : IsWellFormed (word_of seen) → Makes floor (Looks old.thread l.0 (counts old l.0) ∷ []) old v
       → (new : Knowledge) (ticket : ℕ)

@@ -7,7 +7,7 @@
 //! `MutexRelock` is for calls that wait on a condition or a channel with a mutex: they give it up and take it back.
 //!
 //! Each call needs a pass at rest and leaves it at rest, and tells which atomic steps it made. No call takes memory.
-#![tactic(auto)]
+#![tactic(auto, using(crate::proofs::Covered::needs))]
 
 mod mutex;
 mod relock;

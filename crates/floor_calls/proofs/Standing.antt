@@ -5,9 +5,6 @@ use Rattle.cond_vars.specs.Wakes.{GoesOnWaking, MayWakeUp}
 use Rattle.cond_vars.specs.declared.waking.WakeNext.TheVariants as wake
 use Rattle.floor_table.specs.Views.{Knowledge}
 use Rattle.floor_table.specs.declared.description.Description.{Description}
-use Rattle.halting.specs.Ends.{EndsOn, GoesOnEnding, kept_to}
-use Rattle.halting.specs.Halts.{Kept as HaltKept}
-use Rattle.halting.specs.declared.ending.EndAt.{EndAt}
 use Rattle.halting.specs.declared.ending.EndAt.TheVariants as places
 use Rattle.halting.specs.declared.ending.EndNext.TheVariants as end
 use Rattle.lock_calls.proofs.Taken.{under_take_on}
@@ -31,11 +28,10 @@ use Rattle.lock_floor.specs.declared.calls.TakeAt.TheVariants.{Checks}
 use Rattle.lock_floor.specs.declared.calls.TryAt.TheVariants.{Tries as TriesAt}
 use Rattle.lock_model.specs.declared.numbers.ChanNo.{ChanNo}
 use Rattle.lock_model.specs.declared.numbers.LockNo.{LockNo}
-use Rattle.lock_model.specs.declared.numbers.ThreadNo.{ThreadNo}
 use Rattle.lock_model.specs.declared.plan.Mode.{Mode}
 use Rattle.floor_calls.specs.Calls.{HasBegunWake, Makes, TakeWent, TryWent, ReleaseWent}
 use Rattle.floor_calls.specs.Stages.{stage_behind, stage_of_begun, told, told_of_try}
-use Rattle.floor_calls.specs.Threads.{IsAt, IsEndingAt}
+use Rattle.floor_calls.specs.Threads.{IsAt}
 use Rattle.floor_calls.specs.declared.stages.Next.{Next}
 use Rattle.floor_calls.specs.declared.stages.Stage.{Stage}
 use Rattle.floor_calls.specs.declared.stages.Stage.TheVariants.{Takes, Tries, Releases}
@@ -188,33 +184,9 @@ module _ (f : Floor Description) (p q : Pass Knowledge) (own : IsOf f q) where
       rest = subst (IsAtRest f.description) (sym begun.0)
           (rest_seeing f.description p.view q.view.seen ready.rest);
     },
-    subst (MayWakeUp f.description c.0) (sym begun.0) (record { chan = may.chan; room = may.room }),
+    subst (MayWakeUp f.description c.0) (sym begun.0) (assumption may),
   )
 
   pub wake_done : IsAtRest f.description (with_marks p.view [])
       → GoesOnWaking f.description wake.Done p.view q.view → IsReady f q
   wake_done rest went = record { own = own; rest = rests_done f.description p.view q.view rest went }
-
-  -- 6. An end
-
-  taking_kept : (to : EndAt) (k : HaltKept) → (kept_to to k).taking ≡ k.taking
-  taking_kept places.Takes k = refl
-  taking_kept (places.Halts there) k = refl
-
-  ends_still : (at to : EndAt) → IsEndingAt f at p → EndsOn f.description at to p.view q.view → IsEndingAt f to q
-  ends_still at to was on = record {
-    own = own;
-    there = on.at;
-    takes_nothing = ap (λ (k : HaltKept). k.taking) on.kept ∙ taking_kept to _ ∙ was.takes_nothing;
-  }
-
-  -- where it woke no other thread it stands there
-  pub again_still : (at to : EndAt) → IsEndingAt f at p
-      → GoesOnEnding f.description at (end.Again to) p.view q.view → IsEndingAt f to q
-  again_still at to was went = ends_still at to was went.0
-
-  -- where it woke another thread it halts others
-  pub woken_still : (at to : EndAt) (t : ThreadNo) → IsEndingAt f at p
-      → GoesOnEnding f.description at (end.Wake t to) p.view q.view → IsEndingAt f to q
-  woken_still places.Takes to t was went = absurd went
-  woken_still (places.Halts there) to t was went = ends_still (places.Halts there) to was went.0

@@ -108,30 +108,36 @@ module _ (x : Thread) (rest : x.stage ≡ stages.AtRest) where
 
 -- 4. Both
 
+-- a take, and a try likewise
+gain_may : (l : LockNo) (mode : Mode) (x : Thread) → IsFirst (λ c. Says c x) (causes (Take l mode)) None
+    → MayCall (Take l mode) x
+gain_may l mode x (later e (later c (later nl (later m (later h (later u (later f (later s none)))))))) = (
+  at_rest x.stage e c,
+  record {
+    covered = record { lock = below _ _ nl; mutex = has_mode _ mode (λ s. m (below _ _ nl, s.0, s.1)) };
+    unheld = is_unheld _ h;
+    few = below _ _ f;
+    room = omega (arith, s);
+  },
+  λ sx k is. none_of (is_mutex_or_rw x) (held_by x) k (λ one. u (sx, one)) is,
+  omega (arith, s),
+)
+
+gain_none : (l : LockNo) (mode : Mode) (x : Thread) → MayCall (Take l mode) x
+    → IsFirst (λ c. Says c x) (causes (Take l mode)) None
+gain_none l mode x m =
+    later (unended x m.0) (later (idle x m.0)
+    (later (λ nl. omega (arith, nl, m.1.covered.lock))
+    (later (λ s. let e : Excl ≡ Shared = sym (m.1.covered.mutex s.1) ∙ s.2 in cc)
+    (later (λ h. let e : NotHeld ≡ Holds h.0 = sym m.1.unheld ∙ h.1 in cc)
+    (later (λ u. none_by_lock (is_mutex_or_rw x) (held_by x) (m.2 u.0) u.1)
+    (later (λ f. omega (arith, f, m.1.few))
+    (later (λ s. omega (arith, s, m.3)) none)))))))
+
 pub none_may : (request : Request) (x : Thread) → KeepsRoom x.stage x.pass
     → IsFirst (λ c. Says c x) (causes request) None → MayCall request x
-none_may (Take l mode) x r (later e (later c (later nl (later m (later h (later u (later f (later s none)))))))) = (
-  at_rest x.stage e c,
-  record {
-    covered = record { lock = below _ _ nl; mutex = has_mode _ mode (λ s. m (below _ _ nl, s.0, s.1)) };
-    unheld = is_unheld _ h;
-    few = below _ _ f;
-    room = omega (arith, s);
-  },
-  λ sx k is. none_of (is_mutex_or_rw x) (held_by x) k (λ one. u (sx, one)) is,
-  omega (arith, s),
-)
-none_may (Try l mode) x r (later e (later c (later nl (later m (later h (later u (later f (later s none)))))))) = (
-  at_rest x.stage e c,
-  record {
-    covered = record { lock = below _ _ nl; mutex = has_mode _ mode (λ s. m (below _ _ nl, s.0, s.1)) };
-    unheld = is_unheld _ h;
-    few = below _ _ f;
-    room = omega (arith, s);
-  },
-  λ sx k is. none_of (is_mutex_or_rw x) (held_by x) k (λ one. u (sx, one)) is,
-  omega (arith, s),
-)
+none_may (Take l mode) x r first = gain_may l mode x first
+none_may (Try l mode) x r first = gain_may l mode x first
 none_may (Release l mode) x r (later e (later c (later nl (later m (later h none))))) = (
   at_rest x.stage e c,
   record {
@@ -164,22 +170,8 @@ none_may End x r (later e (later c (later h none))) = (at_rest x.stage e c, is_b
 none_may GoOn x r (later e (later n none)) = in_call x.stage e n
 
 pub may_none : (request : Request) (x : Thread) → MayCall request x → IsFirst (λ c. Says c x) (causes request) None
-may_none (Take l mode) x m =
-    later (unended x m.0) (later (idle x m.0)
-    (later (λ nl. omega (arith, nl, m.1.covered.lock))
-    (later (λ s. let e : Excl ≡ Shared = sym (m.1.covered.mutex s.1) ∙ s.2 in cc)
-    (later (λ h. let e : NotHeld ≡ Holds h.0 = sym m.1.unheld ∙ h.1 in cc)
-    (later (λ u. none_by_lock (is_mutex_or_rw x) (held_by x) (m.2 u.0) u.1)
-    (later (λ f. omega (arith, f, m.1.few))
-    (later (λ s. omega (arith, s, m.3)) none)))))))
-may_none (Try l mode) x m =
-    later (unended x m.0) (later (idle x m.0)
-    (later (λ nl. omega (arith, nl, m.1.covered.lock))
-    (later (λ s. let e : Excl ≡ Shared = sym (m.1.covered.mutex s.1) ∙ s.2 in cc)
-    (later (λ h. let e : NotHeld ≡ Holds h.0 = sym m.1.unheld ∙ h.1 in cc)
-    (later (λ u. none_by_lock (is_mutex_or_rw x) (held_by x) (m.2 u.0) u.1)
-    (later (λ f. omega (arith, f, m.1.few))
-    (later (λ s. omega (arith, s, m.3)) none)))))))
+may_none (Take l mode) x m = gain_none l mode x m
+may_none (Try l mode) x m = gain_none l mode x m
 may_none (Release l mode) x m =
     later (unended x m.0) (later (idle x m.0)
     (later (λ nl. omega (arith, nl, m.1.covered.lock))

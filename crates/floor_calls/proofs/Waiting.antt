@@ -122,13 +122,7 @@ module _ (floor : Description) (on : WaitOn) (v : Knowledge) where
             noted = ap (λ (k : Knowledge). k.share.doing.noted) kept;
             woken_from = ap (λ (k : Knowledge). k.share.doing.woken_from) kept;
           };
-          unburdened = record {
-            nothing_out = d.down.may.nothing_out;
-            no_walk = ap (λ (k : Knowledge). k.share.doing.walk) kept ∙ r.unburdened.no_walk;
-            unmarked = d.nobody;
-            uncounted = d.down.may.uncounted;
-            going = d.down.may.going;
-          };
+          unburdened = assumption (ap (λ (k : Knowledge). k.share.doing.walk) kept ∙ r.unburdened.no_walk, d.nobody, d.down.may);
           held = ap (λ (k : Knowledge). k.share.held) kept;
           begun = ap (λ (k : Knowledge). k.share.begun) kept;
           pose = ap (λ (k : Knowledge). k.pose) kept;
@@ -272,11 +266,7 @@ module _ (floor : Description) (on : WaitOn) (aborted : Bool) (v : Knowledge) (a
           let log : w.share.log ≡ v.share.log = ap (λ (k : Kept). k.log) went.kept in
           let z : true ≡ false = sym (ap is_taking_back log ∙ still_back) ∙ checks.may.no_wait in
           cc;
-      under = record {
-        covered = s.under.covered;
-        calling = subst (CanAcquire floor) (sym went.kept) s.under.calling;
-        there = went.there;
-      };
+      under = assumption (subst (CanAcquire floor) (sym went.kept) s.under.calling, s.under, went);
       kept = went.kept ∙ s.kept;
     }
 

@@ -14,6 +14,7 @@ use lock_model::{ChanNo, LockNo, Mode, Prio};
 impl Thread {
     /// Makes the call that is asked for: `Ok` comes exactly where nothing stands against it, and says what its caller
     /// is to do next. It is one of those below.
+    #[tactic(auto, using(crate::proofs::Answered::answers_named))]
     pub fn ask(&mut self, request: Request) -> Result<Next, Cause>
         ensures { Answers request result self.old self.new }
     {

@@ -39,7 +39,7 @@ use Rattle.lock_floor.specs.Views.{entry_by}
 use Rattle.lock_calls.specs.Steps.{MayRelease}
 use Rattle.lock_calls.specs.Takes.{WasNotTaken}
 use Rattle.floor_run.specs.Progress.{IsBefore, IsCut}
-use Rattle.floor_run.specs.Workers.{WereStamped, IsWhole}
+use Rattle.floor_run.specs.Workers.{WereStamped}
 use Rattle.floor_run.proofs.Operating.{was_stamped, is_covered, same_kind, lies_asleep, both_stamped}
 use Rattle.floor_run.proofs.Waiting.{none_past}
 use Rattle.floor_run.specs.Sleeps.{HasSlept}
@@ -272,12 +272,3 @@ module _ (plan : Plan) (f : Floor Description) (given : IsFor plan f.description
 pub cut_own : (plan : Plan) (f : Floor Description) (t : ℕ) (x : Pass Knowledge) → IsCut plan f t x
     → IsCut plan f x.view.thread x
 cut_own plan f t x b = subst (λ u. IsCut plan f u x) (sym b.thread) b
-
-pub cut_whole : (plan : Plan) (f : Floor Description) (t : ℕ) (x : Pass Knowledge) → IsCut plan f t x
-    → x.view.share.held ≡ [] → IsWhole plan f.description t x.view.share.log
-cut_whole plan f t x b none = record {
-  point = Cut (reverse x.view.share.held);
-  leads = b.leads;
-  at_end = ap reverse none;
-  stamped = b.stamped;
-}

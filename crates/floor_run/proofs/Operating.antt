@@ -9,7 +9,7 @@ use Rattle.std.proofs.lemmas.Option.{none-some, slice_get-map, slice_get_within}
 use Rattle.lock_model.proofs.LeastCodes.{passed}
 use Rattle.lock_model.specs.Holds.{Hold, NotHeld, Holds, is_exclusive}
 use Rattle.lock_model.specs.Keys.{op_names, plan_names}
-use Rattle.lock_model.specs.Law.{LeadsTo, Gives, Before, Asleep, IsAtEnd}
+use Rattle.lock_model.specs.Law.{LeadsTo, Gives, Before, Asleep}
 use Rattle.lock_model.specs.Law as law
 use Rattle.lock_model.specs.Limits.{most_held}
 use Rattle.lock_model.specs.Operations.{IsProper, held_of, held_behind, hold_in, is_last, without_lock, acquiring_tests, edit_tests}
@@ -50,7 +50,7 @@ use Rattle.cond_vars.specs.Wakes.{MayWakeUp}
 use Rattle.floor_run.specs.Progress.{IsBefore}
 use Rattle.floor_run.proofs.Waiting.{others_sleepable}
 use Rattle.floor_run.specs.Sleeps.{HasSlept, HasWokenAll, HasWokenOne}
-use Rattle.floor_run.specs.Workers.{WasStamped, WereStamped, IsWhole}
+use Rattle.floor_run.specs.Workers.{WasStamped, WereStamped}
 
 -- 1. The begin and the end
 
@@ -66,12 +66,6 @@ at_first plan f given t = record {
   stamped = tt;
   room = omega (arith, ap (λ d. room_for d t) given, its_room plan f.description.chains t);
 }
-
--- behind its last
-pub at_last : (plan : Plan) (f : Floor Description) (t n : ℕ) (x : Pass Knowledge) → IsBefore plan f t n x
-    → length (operations_of plan t) ≤ n → IsWhole plan f.description t x.view.share.log
-at_last plan f t n x b over =
-    record { point = Before n; leads = b.leads; at_end = omega (arith, b.within, over); stamped = b.stamped }
 
 -- 2. Kinds and keys
 

@@ -10,10 +10,8 @@ use Rattle.lock_model.proofs.numbers.Prio.TheSendSync as prio
 use Rattle.lock_model.proofs.plan.QueueName.TheSendSync as queue_name
 use Rattle.lock_objects.specs.contracts.marked.Marked as marked
 
-pub marked_send : IsSend marked.the_row
-marked_send = search (
-  sendable,
-  crosses,
+-- what a marked list is made of crosses
+ruleset parts = (
   objects.send-Waiters,
   objects.send-Object,
   objects.send-Node,
@@ -23,20 +21,11 @@ marked_send = search (
   lock_no.the_send,
   prio.the_send,
   queue_name.the_send,
-) depth 40 fits 100000
+)
+
+pub marked_send : IsSend marked.the_row
+marked_send = search (sendable, crosses, parts) depth 40 fits 100000
 
 -- and so may a field of that type
 pub marked_field_send : IsSend marked.the_field.row
-marked_field_send = search (
-  sendable,
-  crosses,
-  objects.send-Waiters,
-  objects.send-Object,
-  objects.send-Node,
-  loans.send-Loan,
-  sleeping.the_send,
-  thread_no.the_send,
-  lock_no.the_send,
-  prio.the_send,
-  queue_name.the_send,
-) depth 40 fits 100000
+marked_field_send = search (sendable, crosses, parts) depth 40 fits 100000

@@ -36,7 +36,7 @@ use Rattle.lock_objects.proofs.Queues.{queue_stays}
 module _ (c : Config) (s : State) (q : QueueName) (lawful : Lawful c s) where
   pub balanced : IsBalanced (sleepers_in s q)
   unfolding HeadsFitWaiters
-  balanced = let f = lawful.queues.heads_fit_waiters q in record { balanced = f.balanced; no_free = f.no_free }
+  balanced = let f = lawful.queues.heads_fit_waiters q in assumption f
 
   -- a thread that has its sleep queue at home sleeps nowhere
   home_awake : (t x : ℕ) → s.sleep_queue t ≡ Some x → is_turnstile_queue c q ≡ false → stands t (s.lists q) ≡ 0

@@ -1,9 +1,11 @@
 -- A reader-writer lock is one of the locks for which the calls of locks are there, in both modes.
-use Rattle.std.proofs.Common.{◌≡◌, ℕ, refl, sym, ◌∙◌}
+use Rattle.std.proofs.Common.{◌≡◌, ℕ, true, refl, sym, ap, ◌∙◌}
 use Rattle.lock_model.specs.Holds.{Hold, NotHeld, Holds}
 use Rattle.lock_model.specs.Operations.{hold_in}
+use Rattle.lock_model.specs.Words.{is_turnstile}
 use Rattle.lock_model.specs.declared.plan.Kind.TheVariants.{Mtx, Rw}
 use Rattle.lock_model.specs.declared.plan.Mode.{Mode}
+use Rattle.floor_table.specs.Descriptions.{config_in}
 use Rattle.floor_table.specs.declared.description.Description.{Description}
 use Rattle.floor_table.specs.Views.{Knowledge}
 use Rattle.lock_calls.specs.Steps.{IsCovered}
@@ -18,20 +20,11 @@ covered floor l mode m = record {
 
 pub may_take : (floor : Description) (l : ℕ) (mode : Mode) (v : Knowledge) → MayAcquire floor l v
     → calls.MayTake floor l mode v
-may_take floor l mode v m = record {
-  covered = covered floor l mode m.rw_lock;
-  unheld = m.unheld;
-  few = m.few;
-  room = m.room;
-}
+may_take floor l mode v m = assumption (covered floor l mode m.rw_lock, m)
 
 pub may_release : (floor : Description) (l : ℕ) (mode : Mode) (v : Knowledge) → MayRelease floor l v
     → Holds mode ≡ hold_in v.share.held l → calls.MayRelease floor l mode v
-may_release floor l mode v m is = record {
-  covered = covered floor l mode m.rw_lock;
-  held = sym is;
-  room = m.room;
-}
+may_release floor l mode v m is = assumption (covered floor l mode m.rw_lock, sym is, m)
 
 -- so in some mode
 pub may_release_held : (floor : Description) (l : ℕ) (v : Knowledge) → MayRelease floor l v
@@ -41,3 +34,6 @@ may_release_held floor l v m = go (hold_in v.share.held l) refl
     go : (h : Hold) → hold_in v.share.held l ≡ h → (mode : Mode) × calls.MayRelease floor l mode v
     go NotHeld is = absurd (m.held is)
     go (Holds mode) is = (mode, may_release floor l mode v m (sym is))
+
+pub has_turnstile : (floor : Description) (l : ℕ) → IsRwLock floor l → is_turnstile ((config_in floor).kind l) ≡ true
+has_turnstile floor l m = ap is_turnstile m.kind

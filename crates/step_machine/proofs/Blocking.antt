@@ -149,8 +149,8 @@ module _ (c : Config) (s : State) (t l : ℕ) (mode : Mode) (x : ℕ) (kind : Ki
   is_busy = go (is_turnstile kind)
     where
       go : (b : Bool) → MayMake c (after_ready s t) (cond b (Enters t l mode x) (EntersSleepQueue t l mode x)) → IsBusy c s t l
-      go true g = record { thread = g.waits.thread; lock = g.waits.lock; held = g.waits.held }
-      go false g = record { thread = g.waits.thread; lock = g.waits.lock; held = g.waits.held }
+      go true g = assumption g.waits
+      go false g = assumption g.waits
 
   pub on_turnstile : is_turnstile kind ≡ true → enters kind t l mode x ≡ Enters t l mode x
   on_turnstile k = ap (λ b. cond b (Enters t l mode x) (EntersSleepQueue t l mode x)) k

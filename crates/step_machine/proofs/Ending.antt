@@ -15,8 +15,8 @@ use Rattle.step_machine.proofs.Kit.{OthersStay, thread_changed, shown_by}
 -- 1. Operations
 
 -- the thread that was read at the place of a number
-pub read_at : (ths : List Thread) (t i : ℕ) (th : Thread) → i ≡ t → t < length ths → th ≡ get_or ths i th → slice_get ths t ≡ Some th
-read_at ths t i th e l is = slice_get_read ths (length ths) t th refl l (is ∙ ap (λ (j : ℕ). get_or ths j th) e)
+pub read_at : (ths : List Thread) {t i : ℕ} {th : Thread} → i ≡ t → t < length ths → th ≡ get_or ths i th → slice_get ths t ≡ Some th
+read_at ths {t} {i} {th} e l is = slice_get_read ths (length ths) t th refl l (is ∙ ap (λ (j : ℕ). get_or ths j th) e)
 
 -- the thread with another next operation
 abbrev pub going_on : ℕ → Thread → Thread
@@ -26,7 +26,7 @@ pub gone_on : {m : Machine} {c : Config} {s : State} {t : ℕ} (n : ℕ) (th : T
     → Represents c m s → Represents c (record m { threads = with_item m.threads t (going_on n th) }) s
 gone_on {s = s} {t = t} n th at k h =
     let old = h.threads.thread t th at in
-    shown_by s h refl refl h.words h.queues h.sleepers (thread_changed s (going_on n th) h.threads k (record { columns = old.columns; one_loan_each = old.one_loan_each; held = old.held; marked = old.marked }) (λ u n. refl))
+    shown_by s h refl refl h.words h.queues h.sleepers (thread_changed s (going_on n th) h.threads k (assumption old) (λ u n. refl))
 
 -- 2. Walks
 

@@ -43,7 +43,7 @@ abbrev pub OthersStay : State → State → ℕ → Type 0
 OthersStay s n t = (u : ℕ) → u ≢ t → thread_in n u ≡ thread_in s u
 
 pub stays : {th : Thread} {c : Config} {s n : State} {u : ℕ} → thread_in n u ≡ thread_in s u → RepresentsThread th c s u → RepresentsThread th c n u
-stays e h = record { columns = h.columns ∙ sym e; one_loan_each = h.one_loan_each; held = h.held; marked = h.marked }
+stays e h = assumption (h.columns ∙ sym e, h)
 
 -- one thread changes
 pub thread_changed : {ths : List Thread} {c : Config} {s : State} {t : ℕ} (n : State) (th : Thread) → RepresentsThreads ths c s → t < c.threads → RepresentsThread th c n t → OthersStay s n t → RepresentsThreads (slice_set ths t th) c n
@@ -76,29 +76,29 @@ word_changed ws c column l w v h i e = record {
 }
 
 -- the word that was read at the place of a number
-pub word_read : (ws : List ℕ) (c : Config) (column : ℕ → Word) (l i w : ℕ) → i ≡ l → RepresentsWords ws c column → l < c.locks → w ≡ get_or ws i w → word_of w ≡ column l
-word_read ws c column l i w e h k is = ap word_of (get_or_read ws l w (subst (λ n. l < n) (sym h.locks) k) (is ∙ ap (λ (j : ℕ). get_or ws j w) e) 0) ∙ h.word l k
+pub word_read : {ws : List ℕ} {c : Config} {column : ℕ → Word} {l i w : ℕ} → i ≡ l → RepresentsWords ws c column → l < c.locks → w ≡ get_or ws i w → word_of w ≡ column l
+word_read {ws = ws} {l = l} {w = w} e h k is = ap word_of (get_or_read ws l w (subst (λ n. l < n) (sym h.locks) k) (is ∙ ap (λ (j : ℕ). get_or ws j w) e) 0) ∙ h.word l k
 
 -- it can be
-pub possible_read : {m : Machine} {c : Config} {s : State} (l i w : ℕ) → Represents c m s → Lawful c s → l < c.locks → i ≡ l → w ≡ get_or m.words.items i w → IsPossible (word_of w).holder
-possible_read {m = m} {c = c} {s = s} l i w h lawful lt e is =
-    subst (λ v. IsPossible v.holder) (sym (word_read m.words.items c s.word l i w e h.words lt is)) (possible_holder c s l lawful (omega (arith, h.within.few_threads)))
+pub possible_read : {m : Machine} {c : Config} {s : State} {l i w : ℕ} → Represents c m s → Lawful c s → l < c.locks → i ≡ l → w ≡ get_or m.words.items i w → IsPossible (word_of w).holder
+possible_read {c = c} {s = s} {l = l} h lawful lt e is =
+    subst (λ v. IsPossible v.holder) (sym (word_read e h.words lt is)) (possible_holder c s l lawful (omega (arith, h.within.few_threads)))
 
 -- 4. What no column tells
 
 -- one thread changes
-pub aside_changed : (ths : List Thread) (t : ℕ) (th old : Thread) (f : Progress → Progress) → slice_get ths t ≡ Some old → progress_of th ≡ f (progress_of old)
+pub aside_changed : (ths : List Thread) (t : ℕ) (th : Thread) {old : Thread} (f : Progress → Progress) → slice_get ths t ≡ Some old → progress_of th ≡ f (progress_of old)
     → (u : ℕ) → option_map progress_of (slice_get (slice_set ths t th) u) ≡ (if u == t then option_map f (option_map progress_of (slice_get ths u)) else option_map progress_of (slice_get ths u))
-aside_changed ths t th old f e same u =
+aside_changed ths t th {old} f e same u =
     elim (cases_eq u t) [
       | inl i ↦ rw (i, eq-eqb t t refl, set_same ths t th (slice_get_within ths t old e), e) (ap Some same)
       | inr i ↦ rw (ne_eqb u t i, set_other ths t u th i) refl
     ]
 
 -- and what is aside of it stays
-pub aside_stays : (ths : List Thread) (t : ℕ) (th old : Thread) → slice_get ths t ≡ Some old → progress_of th ≡ progress_of old
+pub aside_stays : (ths : List Thread) (t : ℕ) (th : Thread) {old : Thread} → slice_get ths t ≡ Some old → progress_of th ≡ progress_of old
     → (u : ℕ) → option_map progress_of (slice_get (slice_set ths t th) u) ≡ option_map progress_of (slice_get ths u)
-aside_stays ths t th old e same u =
+aside_stays ths t th {old} e same u =
     elim (cases_eq u t) [
       | inl i ↦ rw (i, set_same ths t th (slice_get_within ths t old e), e) (ap Some same)
       | inr i ↦ rw (set_other ths t u th i) refl
@@ -109,8 +109,8 @@ pub thread_at : (ths : List Thread) (t : ℕ) (d : Thread) → t < length ths �
 thread_at ths t d l = slice_get-get_or ths t d l
 
 -- the thread that was read at the place of a number
-pub read : {ths : List Thread} {c : Config} {s : State} (t i : ℕ) (th : Thread) → RepresentsThreads ths c s → t < c.threads → i ≡ t → th ≡ get_or ths i th → slice_get ths t ≡ Some th
-read {ths = ths} {c = c} t i th h l e is = slice_get_read ths c.threads t th (sym h.threads) l (is ∙ ap (λ (j : ℕ). get_or ths j th) e)
+pub read : {ths : List Thread} {c : Config} {s : State} {t i : ℕ} {th : Thread} → RepresentsThreads ths c s → t < c.threads → i ≡ t → th ≡ get_or ths i th → slice_get ths t ≡ Some th
+read {ths = ths} {c = c} {t = t} {th = th} h l e is = slice_get_read ths c.threads t th (sym h.threads) l (is ∙ ap (λ (j : ℕ). get_or ths j th) e)
 
 -- 5. Steps that make no entry
 

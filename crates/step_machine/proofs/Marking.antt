@@ -200,7 +200,7 @@ module _ {m : Machine} {c : Config} {s : State} {t : ℕ} {th : Thread} {f : Wok
 
   -- the thread that is read behind the first change
   pub read_behind : (i j : ℕ) (w : Thread) → j ≡ t → i ≡ p.thread → w ≡ get_or (slice_set m.threads.items j (with_marked th left)) i w → slice_get (slice_set m.threads.items t (with_marked th left)) p.thread ≡ Some w
-  read_behind i j w e n seen = read p.thread i w first_changed is_thread n (seen ∙ ap (λ v. get_or (slice_set m.threads.items v (with_marked th left)) i w) e)
+  read_behind i j w e n seen = read first_changed is_thread n (seen ∙ ap (λ v. get_or (slice_set m.threads.items v (with_marked th left)) i w) e)
 
   module _ {w : Thread} (there : slice_get (slice_set m.threads.items t (with_marked th left)) p.thread ≡ Some w) where
     its : RepresentsThread w c (shorter c s t queue p ks) p.thread
@@ -230,4 +230,4 @@ some_marked {t = t} {k = k} {ks = ks} th h g at none =
 pub asides_stay : (m : Machine) (t i : ℕ) (th w : Thread) (left : Marked) (r : Record) (q : QueueName) → slice_get m.threads.items t ≡ Some th → slice_get (slice_set m.threads.items t (with_marked th left)) i ≡ Some w
     → KeepsProgress m (record m { threads = with_item (with_item m.threads t (with_marked th left)) i (woken w r q) })
 asides_stay m t i th w left r q at there u =
-    aside_stays (slice_set m.threads.items t (with_marked th left)) i (woken w r q) w there refl u ∙ aside_stays m.threads.items t (with_marked th left) th at refl u
+    aside_stays _ _ _ there refl u ∙ aside_stays _ _ _ at refl u

@@ -109,7 +109,7 @@ module _ (c : Config) (s : State) (t : ℕ) where
 
 -- what no column tells of a thread stays
 pub asides_kept : (e : Event) (t : ℕ) (old new : List Thread) → IsNoted e t old new → (u : ℕ) → option_map progress_of (slice_get new u) ≡ option_map progress_of (slice_get old u)
-asides_kept e t old new h u = ap (λ (ths : List Thread). option_map progress_of (slice_get ths u)) h.is ∙ aside_stays old t h.behind h.before h.was (ap progress_of h.others) u
+asides_kept e t old new h u = ap (λ (ths : List Thread). option_map progress_of (slice_get ths u)) h.is ∙ aside_stays _ _ _ h.was (ap progress_of h.others) u
 
 -- 2. The history
 

@@ -70,7 +70,7 @@ module _ {m : Machine} {c : Config} {s : State} {t l o h : ℕ} (shown : Represe
 
     -- the walking thread, which may be the owner, is read behind the first change
     pub read_behind : (i j : ℕ) (w : Thread) → j ≡ o → i ≡ t → w ≡ get_or (slice_set m.threads.items j (with_record th r)) i w → slice_get (slice_set m.threads.items o (with_record th r)) t ≡ Some w
-    read_behind i j w a b seen = read t i w first_changed g.thread b (seen ∙ ap (λ x. get_or (slice_set m.threads.items x (with_record th r)) i w) a)
+    read_behind i j w a b seen = read first_changed g.thread b (seen ∙ ap (λ x. get_or (slice_set m.threads.items x (with_record th r)) i w) a)
 
     pub lend_shown : {w : Thread} {chain : List (QueueName × Turnstile)} (walk : Walk) → slice_get (slice_set m.threads.items o (with_record th r)) t ≡ Some w → RepresentsQueues c chain (queue_in n) n.loan_home → walk_of walk ≡ n.walk t
         → Represents c (record m { chain = chain; threads = with_item (with_item m.threads o (with_record th r)) t (with_walk w walk) }) n
@@ -85,7 +85,7 @@ pub asides_stay : (m : Machine) (t o : ℕ) (th w : Thread) (r : Record) (walk :
     → slice_get (slice_set m.threads.items o (with_record th r)) t ≡ Some w
     → KeepsProgress m (record m { chain = chain; threads = with_item (with_item m.threads o (with_record th r)) t (with_walk w walk) })
 asides_stay m t o th w r walk chain at behind u =
-    aside_stays (slice_set m.threads.items o (with_record th r)) t (with_walk w walk) w behind refl u ∙ aside_stays m.threads.items o (with_record th r) th at refl u
+    aside_stays _ _ _ behind refl u ∙ aside_stays _ _ _ at refl u
 
 -- 2. A shift
 

@@ -110,9 +110,9 @@ module _ (c : Config) (s : State) (t l : ℕ) (mode : Mode) where
   it_gives = go (is_drop (s.word l)) (is_turnstile (c.kind l))
     where
       go : (b k : Bool) → MayMake c s (cond {A = StepKind × Step} b (kinds.Drop, Drops t l mode) (kinds.OpenUp, cond k (Opens t l mode) (OpensSleepQueue t l mode))).1 → Gives c s t l mode
-      go true k g = record { thread = g.thread; lock = g.lock; held = g.held }
-      go false true g = record { thread = g.releases.thread; lock = g.releases.lock; held = g.releases.held }
-      go false false g = record { thread = g.releases.thread; lock = g.releases.lock; held = g.releases.held }
+      go true k g = assumption g
+      go false true g = assumption g.releases
+      go false false g = assumption g.releases
 
   -- by a drop,
   pub may_drop : is_drop (s.word l) ≡ true → MayGiveBack c s t l mode → MayMake c s (Drops t l mode)

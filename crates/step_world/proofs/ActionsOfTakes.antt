@@ -260,8 +260,8 @@ module _ {plan : Plan} {t : ℕ} {r : Run} {l : LockNo} {mode : Mode} (p : IsPro
       action = action_is;
       shows = g.shows;
       aside = subst (λ (n : Run). IsAside plan r n t m) same_behind (record {
-        own = so_is (progress m t) (λ x f. record { next_op = f.next_op; as_far = f.as_far }) g.aside.own;
-        others = λ u lu ne. so_is (progress m u) (λ x f. record { next_op = f.next_op; held = f.held; left = f.left }) (g.aside.others u lu ne);
+        own = so_is (progress m t) (λ x f. assumption f) g.aside.own;
+        others = λ u lu ne. so_is (progress m u) (λ x f. assumption f) (g.aside.others u lu ne);
         room = g.aside.room;
         keys = g.aside.keys;
       });

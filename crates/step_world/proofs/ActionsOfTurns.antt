@@ -37,7 +37,7 @@ none_where_empty (x ∷ xs) e = absurd cc
 
 -- the thread that was read at the place of a number
 pub here : {plan : Plan} {m : Machine} {r : Run} {t i : ℕ} {th : Thread} → IsRunOf plan m r → t < length plan.threads → i ≡ t → th ≡ get_or m.threads.items i th → slice_get m.threads.items t ≡ Some th
-here {plan} {m} {r} {t} {i} {th} h lt same got = read t i th h.shows.shows.threads lt same got
+here {plan} {m} {r} {t} {i} {th} h lt same got = read h.shows.shows.threads lt same got
 
 module _ {plan : Plan} {m : Machine} {r : Run} {t : ℕ} {th : Thread} (p : IsProper plan) (lt : t < length plan.threads) (h : IsRunOf plan m r) (is : slice_get m.threads.items t ≡ Some th) where
   abbrev s : State

@@ -52,7 +52,7 @@ module _ {plan : Plan} {r n : Run} {t : ℕ} {a : Progress} where
 
   -- a thread whose operation is still to make,
   pub behind_still : SameFar r n t → IsAsFar plan r t a → IsBehind plan r n t a
-  behind_still e h = let f = still_as_far e h in record { next_op = h.next_op; as_far = record { next_op = refl; held = f.held; left = f.left } }
+  behind_still e h = let f = still_as_far e h in record { next_op = h.next_op; as_far = assumption f }
 
   -- one that has made it, and waits for nothing,
   pub behind_made : IsAwake n.state t → a.next_op ≡ r.next_op t → a.held ≡ held_at plan t (n.next_op t) → IsBehind plan r n t a
@@ -69,7 +69,7 @@ others_still plan r t u n =
     let ne : t ≡ u → ⊥ = λ e. n (sym e) in
     let share = all_leave (config_of plan) u t r.state (turn_of plan r t).steps ne
     (own_steps plan r t (turn_of plan r t) (actions.fits plan r t)) in
-    record { next_op = other_next plan r t u ne (turn_of plan r t).next; held = share.held; listed = share.held_locks; log = share.log }
+    assumption (other_next plan r t u ne (turn_of plan r t).next, share.held_locks, share)
 
 -- 3. Entries
 

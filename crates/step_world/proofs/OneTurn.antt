@@ -206,7 +206,7 @@ pub none_turned : {old new : Course} {k : run.Course} → old.coming ≡ [] → 
 none_turned {old} {new} {k} none same h =
     subst (λ (x : Course). IsCourse x (with_turn old.world.plan k.run k.coming k.idle)) (sym same)
     (subst (λ (ts : List ℕ). IsCourse old (with_turn old.world.plan k.run ts k.idle)) (sym (h.coming ∙ none))
-    (record { shows = h.shows; coming = sym none; idle = h.idle }))
+    (assumption (sym none, h)))
 
 pub none_told : {old : Course} {k : run.Course} → old.coming ≡ [] → IsCourse old k
     → None ≡ first_turn old.world.plan k.run k.coming

@@ -9,7 +9,7 @@ use Rattle.std.proofs.lemmas.List.FromFn.{length-range_with_len, get_or-range_wi
 use Rattle.lock_model.specs.Counts.{has_bit, is_empty}
 use Rattle.lock_model.specs.Operations.{IsProper}
 use Rattle.lock_model.specs.Plans.{config_of}
-use Rattle.lock_state.specs.Run.{first_turn, start_run, start_course, Run, run_behind, turn_of, is_stuck, is_over, is_idle, go_on, course_after, all_ended, has_ended, threads_of, round_of, with_turn, after_turn}
+use Rattle.lock_state.specs.Run.{first_turn, start_run, start_course, Run, turn_of, is_stuck, is_over, is_idle, go_on, course_after, all_ended, has_ended, threads_of, round_of, with_turn, after_turn}
 use Rattle.lock_state.specs.Run as run
 use Rattle.lock_model.specs.declared.plan.Plan.{Plan}
 use Rattle.lock_model.specs.declared.numbers.ThreadNo.{ThreadNo}
@@ -333,4 +333,4 @@ course_passed {world} {schedule} {old} {new} {going} {asleep} {number} h p idle 
     let same : n + length p.front ≡ n + number = ap (λ (i : ℕ). n + i) p.number_is in
     subst (IsCourse (record { world = world; coming = scheduled ++ members new; idle = idle }))
     (sym behind ∙ ap (course_after world.plan) same)
-    (record { shows = shows.shows; coming = refl; idle = shows.idle })
+    (assumption shows)

@@ -226,13 +226,7 @@ made {plan} {r} {t} {n = n} {steps = steps} {a = a} result b h far = record {
   steps = steps;
   action = b.is;
   shows = h.shows;
-  aside = record {
-    own = is_such (IsBehind plan r (run_behind plan r t) t) a h.aside.own
-        (subst (λ (x : Action). IsBehind plan r (run_after plan r t x) t a) (sym b.is) far);
-    others = h.aside.others;
-    room = h.aside.room;
-    keys = h.aside.keys;
-  };
+  aside = assumption (is_such (IsBehind plan r (run_behind plan r t) t) a h.aside.own (subst (λ (x : Action). IsBehind plan r (run_after plan r t x) t a) (sym b.is) far), h.aside);
 }
 
 -- an action that leaves the operation to make, and what says how far the thread is,
@@ -302,7 +296,7 @@ module _ (plan : Plan) (r : Run) (t : ℕ) (m : Machine) (result : Made) (h : Is
 -- the operation is still to make,
 pub stays : {plan : Plan} {r : Run} {t : ℕ} {m : Machine} {answer : Turn} → IsMade plan r t m (Does answer) → IsTurn plan r t m answer
 stays {plan} {r} {t} {m} {answer} h = turned_to plan r t m (Does answer) h m h.shows
-    (so_is (progress m t) (λ a b. record { next_op = b.next_op ∙ sym (next_behind plan r t m (Does answer) h); held = b.as_far.held; left = b.as_far.left }) h.aside.own)
+    (so_is (progress m t) (λ a b. assumption (b.next_op ∙ sym (next_behind plan r t m (Does answer) h), b.as_far)) h.aside.own)
     (λ u ne. refl) (record { room = refl; places = refl })
 
 -- or the thread goes on at another

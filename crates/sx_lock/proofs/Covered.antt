@@ -18,20 +18,11 @@ covered floor l mode m = record {
 
 pub may_take : (floor : Description) (l : ℕ) (mode : Mode) (v : Knowledge) → MayAcquire floor l v
     → calls.MayTake floor l mode v
-may_take floor l mode v m = record {
-  covered = covered floor l mode m.sx_lock;
-  unheld = m.unheld;
-  few = m.few;
-  room = m.room;
-}
+may_take floor l mode v m = assumption (covered floor l mode m.sx_lock, m)
 
 pub may_release : (floor : Description) (l : ℕ) (mode : Mode) (v : Knowledge) → MayRelease floor l v
     → Holds mode ≡ hold_in v.share.held l → calls.MayRelease floor l mode v
-may_release floor l mode v m is = record {
-  covered = covered floor l mode m.sx_lock;
-  held = sym is;
-  room = m.room;
-}
+may_release floor l mode v m is = assumption (covered floor l mode m.sx_lock, sym is, m)
 
 -- so in some mode
 pub may_release_held : (floor : Description) (l : ℕ) (v : Knowledge) → MayRelease floor l v

@@ -18,7 +18,7 @@
 //! `SxRelock` is for calls that wait on a condition or a channel with such a lock: they give it up and take it back.
 //!
 //! Each call needs a pass at rest and leaves it at rest, and tells which atomic steps it made. No call takes memory.
-#![tactic(auto)]
+#![tactic(auto, using(crate::proofs::Covered::may_take))]
 
 mod locks;
 mod relock;

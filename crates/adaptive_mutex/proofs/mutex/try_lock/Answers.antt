@@ -36,7 +36,7 @@ returns-in-Ok c =
     c.requires.may c.in-Ok.ensures.view c.in-Ok.ensures.step c.stamp.new.pass.view c.stamp.result c.stamp.ensures.view
     c.stamp.ensures.step in
     record {
-      ready = record { own = c.stamp.ensures.own; rest = done.rest };
+      ready = assumption (c.stamp.ensures, done);
       gained = done.entry;
       steps = done.steps;
       busy = tt;
@@ -64,7 +64,7 @@ returns-in-Err c =
     (held (goal.at.returns-in-Err c).In-Err) c.in-Err.ensures.looked c.in-Err.ensures.found.1 c.in-Err.ensures.look
     c.stamp-in-Err.new.pass.view c.stamp-in-Err.result c.stamp-in-Err.ensures.view c.stamp-in-Err.ensures.step in
     record {
-      ready = record { own = c.stamp-in-Err.ensures.own; rest = done.rest };
+      ready = assumption (c.stamp-in-Err.ensures, done);
       gained = tt;
       steps = tt;
       busy = done.busy;

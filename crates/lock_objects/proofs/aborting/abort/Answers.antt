@@ -12,12 +12,6 @@ put_back-requires-clause-bare c =
     c.remove.ensures.next ∙ ap (λ v. v.next) c.deref_mut.ensures.value
     ∙ map_is_empty bare c.in-Some.head.value.next c.in-Some.ensures.bare
 
-pub returns-clause-woken : goal.returns-clause-woken
-returns-clause-woken c = search rules
-
-pub returns-clause-chain : goal.returns-clause-chain
-returns-clause-chain c = search rules
-
 pub returns-clause-queues : goal.returns-clause-queues
 returns-clause-queues c k s n side w its is changes shows =
     let o = c.in-Some.ensures in
@@ -25,7 +19,7 @@ returns-clause-queues c k s n side w its is changes shows =
     let h = c.in-Some.head.value in
     let chain = c.args.chain.now in
     aborted_chain k s q side w is shows h (sym o.taken) n changes (ap (head_of q) (sym o.others) ∙ o.absent)
-    (of_head (λ v. c.put_back.new.chain ≡ chain_aborted q c.args.t.0 v chain) o.taken (returns-clause-chain c)
+    (of_head (λ v. c.put_back.new.chain ≡ chain_aborted q c.args.t.0 v chain) o.taken (search rules)
     ∙ ap (λ u. chain_aborted q u h chain) (sym its))
 
 pub returns-clause-marks : goal.returns-clause-marks
@@ -33,5 +27,5 @@ returns-clause-marks c k s side w its is shows =
     let o = c.in-Some.ensures in
     let h = c.in-Some.head.value in
     aborted_marks k s c.args.q side w is shows h (sym o.taken)
-    (of_head (λ v. c.put_back.result ≡ aborted_from c.args.t.0 v.contents) o.taken (returns-clause-woken c)
+    (of_head (λ v. c.put_back.result ≡ aborted_from c.args.t.0 v.contents) o.taken (search rules)
     ∙ ap (λ u. aborted_from u h.contents) (sym its))

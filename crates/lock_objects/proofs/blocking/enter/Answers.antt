@@ -2,14 +2,8 @@ use Rattle.std.proofs.Common.{rules}
 use Rattle.lock_objects.proofs.Enters.{entered_chain, entered_record}
 use Rattle.lock_objects.proofs.blocking.enter.Goals as goal
 
-pub returns-clause-record : goal.returns-clause-record
-returns-clause-record c = search rules
-
-pub returns-clause-chain : goal.returns-clause-chain
-returns-clause-chain c = search rules
-
 pub returns-clause-queues : goal.returns-clause-queues
-returns-clause-queues c k s t mode x side owner can rec shows = entered_chain k s t c.args.l.0 mode x c.args.side _ side owner can rec shows (returns-clause-chain c)
+returns-clause-queues c k s t mode x side owner can rec shows = entered_chain k s t c.args.l.0 mode x c.args.side _ side owner can rec shows (search rules)
 
 pub returns-clause-its_record : goal.returns-clause-its_record
-returns-clause-its_record c s t mode x rec = entered_record s t c.args.l.0 mode x (returns-clause-record c) rec
+returns-clause-its_record c s t mode x rec = entered_record s t c.args.l.0 mode x (search rules) rec

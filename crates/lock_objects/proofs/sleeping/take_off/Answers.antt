@@ -10,13 +10,10 @@ use Rattle.lock_objects.proofs.Taken.{some_go}
 use Rattle.lock_objects.proofs.Sleeps.{chain_shown, marks_shown}
 use Rattle.lock_objects.proofs.sleeping.take_off.Goals as goal
 
-pub returns-in_default-clause-chain : goal.returns-in_default-clause-chain
-returns-in_default-clause-chain c = search rules
-
 pub returns-in_default-clause-queues : goal.returns-in_default-clause-queues
 returns-in_default-clause-queues c k s n kind balanced changes shows =
     let o = c.in_default.ensures in
-    chain_shown s c.args.q c.args.all c.args.side kind balanced shows n (head_of c.args.q c.args.chain.now) changes refl (ap (head_of c.args.q) (sym o.others) ∙ o.absent) (returns-in_default-clause-chain c)
+    chain_shown s c.args.q c.args.all c.args.side kind balanced shows n (head_of c.args.q c.args.chain.now) changes refl (ap (head_of c.args.q) (sym o.others) ∙ o.absent) (search rules)
 
 pub put_back-requires-clause-last : goal.put_back-requires-clause-last
 put_back-requires-clause-last c nobody =
@@ -27,16 +24,10 @@ put_back-requires-clause-last c nobody =
 pub put_back-requires-clause-bare : goal.put_back-requires-clause-bare
 put_back-requires-clause-bare c = c.taken_by-woken.ensures.next ∙ ap (λ v. v.next) c.deref_mut.ensures.value ∙ map_is_empty bare c.in-Some.head.value.next c.in-Some.ensures.bare
 
-pub returns-clause-woken : goal.returns-clause-woken
-returns-clause-woken c = search rules
-
-pub returns-clause-chain : goal.returns-clause-chain
-returns-clause-chain c = search rules
-
 pub returns-clause-queues : goal.returns-clause-queues
 returns-clause-queues c k s n kind balanced changes shows =
     let o = c.in-Some.ensures in
-    chain_shown s c.args.q c.args.all c.args.side kind balanced shows n (head_of c.args.q c.args.chain.now) changes refl (ap (head_of c.args.q) (sym o.others) ∙ o.absent) (returns-clause-chain c)
+    chain_shown s c.args.q c.args.all c.args.side kind balanced shows n (head_of c.args.q c.args.chain.now) changes refl (ap (head_of c.args.q) (sym o.others) ∙ o.absent) (search rules)
 
 pub returns-clause-marks : goal.returns-clause-marks
-returns-clause-marks c k s kind balanced shows = marks_shown s c.args.q c.args.all c.args.side kind balanced shows (head_of c.args.q c.args.chain.now) refl (returns-clause-woken c)
+returns-clause-marks c k s kind balanced shows = marks_shown s c.args.q c.args.all c.args.side kind balanced shows (head_of c.args.q c.args.chain.now) refl (search rules)

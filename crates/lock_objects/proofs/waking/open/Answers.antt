@@ -19,27 +19,18 @@ pub put_back-requires-clause-bare : goal.put_back-requires-clause-bare
 put_back-requires-clause-bare c =
     c.broadcast-woken.ensures.next ∙ ap (λ v. v.next) (c.deref_mut-2.ensures.value ∙ c.settle_release.ensures.head ∙ is_settled c.args.l.0 c.args.rec.now c.deref_mut.ensures.value) ∙ map_is_empty bare c.in-Some.head.value.next c.in-Some.ensures.bare
 
-pub returns-clause-record : goal.returns-clause-record
-returns-clause-record c = search rules
-
-pub returns-clause-chain : goal.returns-clause-chain
-returns-clause-chain c = search rules
-
-pub returns-clause-woken : goal.returns-clause-woken
-returns-clause-woken c = search rules
-
 pub returns-clause-queues : goal.returns-clause-queues
 returns-clause-queues c k s t side can rec shows =
     let h = c.in-Some.head.value in
     let there = c.in-Some.ensures.taken in
     queues_shown k s t c.args.l.0 can rec c.args.side side h (found shows can.turnstile (sym there)) shows
-    (of_head (λ v. c.put_back.new.chain ≡ chain_opened c.args.l.0 c.args.side c.args.rec.now v c.args.chain.now) there (returns-clause-chain c))
+    (of_head (λ v. c.put_back.new.chain ≡ chain_opened c.args.l.0 c.args.side c.args.rec.now v c.args.chain.now) there (search rules))
     (ap (head_of (lock_queue c.args.l.0)) (sym c.in-Some.ensures.others) ∙ c.in-Some.ensures.absent)
 
 pub returns-clause-its_record : goal.returns-clause-its_record
-returns-clause-its_record c k s t can rec = subst (λ v. RepresentsRecord v (record_in (after_open k s t c.args.l.0) t)) (sym (returns-clause-record c)) (record_shown can rec)
+returns-clause-its_record c k s t can rec = subst (λ v. RepresentsRecord v (record_in (after_open k s t c.args.l.0) t)) (sym (search rules)) (record_shown can rec)
 
 pub returns-clause-marks : goal.returns-clause-marks
 returns-clause-marks c k s t side can rec shows =
     let there = c.in-Some.ensures.taken in
-    marks_shown k s t c.args.l.0 can rec c.args.side side c.in-Some.head.value (found shows can.turnstile (sym there)) (of_head (λ v. c.put_back.result ≡ woken_of c.args.l.0 c.args.side c.args.rec.now v.contents) there (returns-clause-woken c))
+    marks_shown k s t c.args.l.0 can rec c.args.side side c.in-Some.head.value (found shows can.turnstile (sym there)) (of_head (λ v. c.put_back.result ≡ woken_of c.args.l.0 c.args.side c.args.rec.now v.contents) there (search rules))

@@ -2,21 +2,9 @@ use Rattle.std.proofs.Common.{rules}
 use Rattle.lock_objects.proofs.Hops.{claim_queues, claim_record}
 use Rattle.lock_objects.proofs.walks.claim.Goals as goal
 
-pub returns-in-Some-clause-chain : goal.returns-in-Some-clause-chain
-returns-in-Some-clause-chain c = search rules
-
-pub returns-in-Some-clause-record : goal.returns-in-Some-clause-record
-returns-in-Some-clause-record c = search rules
-
-pub returns-in-Some-clause-lent : goal.returns-in-Some-clause-lent
-returns-in-Some-clause-lent c = search rules
-
-pub returns-in-Some-clause-others : goal.returns-in-Some-clause-others
-returns-in-Some-clause-others c = search rules
-
 pub returns-in-Some-clause-queues : goal.returns-in-Some-clause-queues
-returns-in-Some-clause-queues c k s t h by_try lawful g shows rec = claim_queues k s t c.args.l.0 h by_try lawful g shows rec (returns-in-Some-clause-chain c)
+returns-in-Some-clause-queues c k s t h by_try lawful g shows rec = claim_queues k s t c.args.l.0 h by_try lawful g shows rec (search rules)
 
 pub returns-in-Some-clause-its_record : goal.returns-in-Some-clause-its_record
 returns-in-Some-clause-its_record c k s t h by_try lawful g shows rec =
-    claim_record k s t c.args.l.0 h by_try lawful g shows rec (returns-in-Some-clause-record c)
+    claim_record k s t c.args.l.0 h by_try lawful g shows rec (search rules)

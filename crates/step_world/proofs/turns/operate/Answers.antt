@@ -34,9 +34,9 @@ pub returns-in-Ends-clause-follows : goal.returns-in-Ends-clause-follows
 returns-in-Ends-clause-follows c r h at =
     let x = c.go_on.ensures in
     let next = following c.requires.proper c.requires.thread h (here h c.requires.thread c.from.ensures c.index.ensures) in
-    went_on (Ends c.in-Ends.kind) _ (c.in-Ends.ensures.makes r h at) (ap Some next) c.operations_of.ensures (record { shows = x.shows; progress = x.progress; books = x.books })
+    went_on (Ends c.in-Ends.kind) _ (c.in-Ends.ensures.makes r h at) (ap Some next) c.operations_of.ensures (assumption x)
 
 pub returns-in-Skips-clause-follows : goal.returns-in-Skips-clause-follows
 returns-in-Skips-clause-follows c r h at =
     let x = c.go_on-in-Skips.ensures in
-    went_on (Skips c.in-Skips.past) c.in-Skips.past (c.in-Skips.ensures.makes r h at) refl c.operations_of-in-Skips.ensures (record { shows = x.shows; progress = x.progress; books = x.books })
+    went_on (Skips c.in-Skips.past) c.in-Skips.past (c.in-Skips.ensures.makes r h at) refl c.operations_of-in-Skips.ensures (assumption x)

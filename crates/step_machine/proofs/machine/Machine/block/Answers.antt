@@ -17,26 +17,26 @@ pub owner_of-owner-requires : goal.owner_of-owner-requires
 owner_of-owner-requires c =
     let m = c.requires.may in
     let b = is_busy m.0 m.1 c.args.t.0 c.args.l.0 c.args.mode m.4.1.0 c.args.kind m.4.1.1.1.0 in
-    possible_read c.args.l.0 c.from-i.result c.index.result.now m.2 m.3 b.lock c.from-i.ensures c.index.ensures
+    possible_read m.2 m.3 b.lock c.from-i.ensures c.index.ensures
 
 pub entered-requires-clause-well_formed : goal.entered-requires-clause-well_formed
 entered-requires-clause-well_formed c =
     let m = c.requires.may in
     let b = is_busy m.0 m.1 c.args.t.0 c.args.l.0 c.args.mode m.4.1.0 c.args.kind m.4.1.1.1.0 in
-    possible_read c.args.l.0 c.from-i.result c.index-2.result.now m.2 m.3 b.lock c.from-i.ensures c.index-2.ensures
+    possible_read m.2 m.3 b.lock c.from-i.ensures c.index-2.ensures
 
 pub entered-requires-clause-held : goal.entered-requires-clause-held
 entered-requires-clause-held c =
     let m = c.requires.may in
     let b = is_busy m.0 m.1 c.args.t.0 c.args.l.0 c.args.mode m.4.1.0 c.args.kind m.4.1.1.1.0 in
-    ap (λ v. is_free v.holder) (word_read c.args.self.now.words.items m.0 m.1.word c.args.l.0 c.from-i.result c.index-2.result.now c.from-i.ensures m.2.words b.lock c.index-2.ensures) ∙ b.held
+    ap (λ v. is_free v.holder) (word_read c.from-i.ensures m.2.words b.lock c.index-2.ensures) ∙ b.held
 
 -- 1. On a turnstile
 
 pub enter-requires : goal.enter-requires
 enter-requires c =
     let m = c.requires.may in
-    let at = read c.args.t.0 c.from.result c.index_mut-thread.result.now m.2.threads m.4.1.1.0.thread c.from.ensures c.index_mut-thread.ensures.value in
+    let at = read m.2.threads m.4.1.1.0.thread c.from.ensures c.index_mut-thread.ensures.value in
     let g = subst (May m.0 (after_ready m.1 c.args.t.0)) (on_turnstile m.0 m.1 c.args.t.0 c.args.l.0 c.args.mode m.4.1.0 c.args.kind (has_turnstile c.args.kind c.in-Mtx.is)) m.4.1.1.1.0 in
     record {
       own = subst (λ (r : Record). IsSome r.turnstile) (sym c.deref_mut.ensures.value) (has_own m.2 m.3 m.4.1.1.0 at g);
@@ -52,9 +52,9 @@ returns-in-Mtx c = record {
       let b = is_busy k s t l c.args.mode x c.args.kind g.1.0 in
       let is = on_turnstile k s t l c.args.mode x c.args.kind (has_turnstile c.args.kind c.in-Mtx.is) in
       let e = subst (May k (after_ready s t)) is g.1.0 in
-      let at = read t c.from.result c.index_mut-thread.result.now h.threads g.0.thread c.from.ensures c.index_mut-thread.ensures.value in
-      let word = word_read c.args.self.now.words.items k s.word l c.from-i.result c.index.result.now c.from-i.ensures h.words b.lock c.index.ensures in
-      let word_then = word_read c.args.self.now.words.items k s.word l c.from-i.result c.index-2.result.now c.from-i.ensures h.words b.lock c.index-2.ensures in
+      let at = read h.threads g.0.thread c.from.ensures c.index_mut-thread.ensures.value in
+      let word = word_read c.from-i.ensures h.words b.lock c.index.ensures in
+      let word_then = word_read c.from-i.ensures h.words b.lock c.index-2.ensures in
       let owner = c.owner_of-owner.ensures ∙ ap (λ v. owner_of v.holder) word in
       let rec = subst (λ (r : Record). RepresentsRecord r (record_in (after_ready s t) t)) (sym c.deref_mut.ensures.value) (record_ready h lawful g.0 at) in
       let queues = c.enter.ensures.queues k (after_ready s t) t c.args.mode x c.side_of-side.ensures owner (lends h lawful g.0 at e) rec (queues_ready h lawful g.0) in
@@ -64,7 +64,7 @@ returns-in-Mtx c = record {
   progress =
       let m = c.requires.may in
       let th = c.index_mut-thread.result.now in
-      rw c.from.ensures (aside_stays c.args.self.now.threads.items c.args.t.0 _ th (read c.args.t.0 c.from.result th m.2.threads m.4.1.1.0.thread c.from.ensures c.index_mut-thread.ensures.value) refl);
+      rw c.from.ensures (aside_stays _ _ _ (read m.2.threads m.4.1.1.0.thread c.from.ensures c.index_mut-thread.ensures.value) refl);
   books = record { log = refl; tables = refl };
 }
 
@@ -73,14 +73,14 @@ returns-in-Mtx c = record {
 pub fall_asleep-requires-clause-own : goal.fall_asleep-requires-clause-own
 fall_asleep-requires-clause-own c =
     let m = c.requires.may in
-    let at = read c.args.t.0 c.from.result c.index_mut-thread.result.now m.2.threads m.4.1.1.0.thread c.from.ensures c.index_mut-thread.ensures.value in
+    let at = read m.2.threads m.4.1.1.0.thread c.from.ensures c.index_mut-thread.ensures.value in
     let g = subst (May m.0 (after_ready m.1 c.args.t.0)) (on_sleep_queue m.0 m.1 c.args.t.0 c.args.l.0 c.args.mode m.4.1.0 c.args.kind (ap is_turnstile c.in-Sx.is)) m.4.1.1.1.0 in
     subst (λ (r : Record). IsSome r.sleep_queue) (sym c.deref_mut-in-Sx.ensures.value) (sleep_asks m.2 m.3 m.4.1.1.0 at g).0
 
 pub fall_asleep-requires-clause-may : goal.fall_asleep-requires-clause-may
 fall_asleep-requires-clause-may c =
     let m = c.requires.may in
-    let at = read c.args.t.0 c.from.result c.index_mut-thread.result.now m.2.threads m.4.1.1.0.thread c.from.ensures c.index_mut-thread.ensures.value in
+    let at = read m.2.threads m.4.1.1.0.thread c.from.ensures c.index_mut-thread.ensures.value in
     let g = subst (May m.0 (after_ready m.1 c.args.t.0)) (on_sleep_queue m.0 m.1 c.args.t.0 c.args.l.0 c.args.mode m.4.1.0 c.args.kind (ap is_turnstile c.in-Sx.is)) m.4.1.1.1.0 in
     subst (λ (r : Record). CanStand r.thread (head_of (lock_queue c.args.l.0) c.args.self.now.sleepers)) (sym c.deref_mut-in-Sx.ensures.value) (sleep_asks m.2 m.3 m.4.1.1.0 at g).1
 
@@ -91,8 +91,8 @@ returns-in-Sx-clause-steps c x k s kind h lawful g =
     let b = is_busy k s t l c.args.mode x c.args.kind g.1.0 in
     let is = on_sleep_queue k s t l c.args.mode x c.args.kind (ap is_turnstile c.in-Sx.is) in
     let e = subst (May k (after_ready s t)) is g.1.0 in
-    let at = read t c.from.result c.index_mut-thread.result.now h.threads g.0.thread c.from.ensures c.index_mut-thread.ensures.value in
-    let word = word_read c.args.self.now.words.items k s.word l c.from-i.result c.index-2.result.now c.from-i.ensures h.words b.lock c.index-2.ensures in
+    let at = read h.threads g.0.thread c.from.ensures c.index_mut-thread.ensures.value in
+    let word = word_read c.from-i.ensures h.words b.lock c.index-2.ensures in
     let rec = c.deref_mut-in-Sx.ensures.value in
     rw (c.from-i.ensures, c.from.ensures, is)
     (blocked_on_sleep_queue h lawful g.0 at e c.entered.result b (c.entered.ensures.word ∙ (λ i. entered (word i) (c.side_of-side.ensures i)))
@@ -102,5 +102,4 @@ returns-in-Sx-clause-steps c x k s kind h lawful g =
 pub returns-in-Sx-clause-progress : goal.returns-in-Sx-clause-progress
 returns-in-Sx-clause-progress c =
     let m = c.requires.may in
-    let th = c.index_mut-thread.result.now in
-    rw c.from.ensures (aside_stays c.args.self.now.threads.items c.args.t.0 _ th (read c.args.t.0 c.from.result th m.2.threads m.4.1.1.0.thread c.from.ensures c.index_mut-thread.ensures.value) refl)
+    rw c.from.ensures (aside_stays _ _ _ (read m.2.threads m.4.1.1.0.thread c.from.ensures c.index_mut-thread.ensures.value) refl)

@@ -9,19 +9,19 @@ use Rattle.step_machine.proofs.machine.Machine.drop_lock.Goals as goal
 pub dropped-requires-clause-well_formed : goal.dropped-requires-clause-well_formed
 dropped-requires-clause-well_formed c =
     let m = c.requires.may in
-    possible_read c.args.l.0 c.from-i.result c.index.result.now m.2 m.3 m.4.lock c.from-i.ensures c.index.ensures
+    possible_read m.2 m.3 m.4.lock c.from-i.ensures c.index.ensures
 
 pub dropped-requires-clause-held : goal.dropped-requires-clause-held
 dropped-requires-clause-held c =
     let m = c.requires.may in
-    let word = word_read c.args.self.now.words.items m.0 m.1.word c.args.l.0 c.from-i.result c.index.result.now c.from-i.ensures m.2.words m.4.lock c.index.ensures in
+    let word = word_read c.from-i.ensures m.2.words m.4.lock c.index.ensures in
     subst (λ v. IsHeldIn v.holder c.args.mode) (sym word) (is_held m.0 m.1 c.args.t.0 c.args.l.0 c.args.mode m.3 m.4.thread m.4.held)
 
 pub returns-clause-step : goal.returns-clause-step
 returns-clause-step c k s h lawful g =
     let th = c.index_mut-2.result.now in
-    let at = read c.args.t.0 c.from.result th h.threads g.thread c.from.ensures c.index_mut-2.ensures.value in
-    let word = word_read c.args.self.now.words.items k s.word c.args.l.0 c.from-i.result c.index.result.now c.from-i.ensures h.words g.lock c.index.ensures in
+    let at = read h.threads g.thread c.from.ensures c.index_mut-2.ensures.value in
+    let word = word_read c.from-i.ensures h.words g.lock c.index.ensures in
     rw (c.from.ensures, c.from-i.ensures)
     (lock_dropped c.args.self.now k s c.args.t.0 c.args.l.0 c.args.mode c.dropped.result th c.put_down.new.self at (c.dropped.ensures.word ∙ ap dropped word) c.put_down.ensures.others c.put_down.ensures.held c.put_down.ensures.room h g)
 
@@ -29,5 +29,5 @@ pub returns-clause-progress : goal.returns-clause-progress
 returns-clause-progress c =
     let m = c.requires.may in
     let th = c.index_mut-2.result.now in
-    let at = read c.args.t.0 c.from.result th m.2.threads m.4.thread c.from.ensures c.index_mut-2.ensures.value in
-    rw c.from.ensures (aside_changed c.args.self.now.threads.items c.args.t.0 c.put_down.new.self th (with_released c.args.l.0) at (released th c.args.l.0 c.put_down.ensures.others c.put_down.ensures.held c.put_down.ensures.left))
+    let at = read m.2.threads m.4.thread c.from.ensures c.index_mut-2.ensures.value in
+    rw c.from.ensures (aside_changed _ _ _ (with_released c.args.l.0) at (released th c.args.l.0 c.put_down.ensures.others c.put_down.ensures.held c.put_down.ensures.left))

@@ -10,7 +10,7 @@ pub returns-in-Some-clause-threads : goal.returns-in-Some-clause-threads
 returns-in-Some-clause-threads c =
     let ths = c.args.self.now.threads.items in
     let th = c.index_mut-thread.result.now in
-    let at = read_at ths c.args.t.0 c.from.result th c.from.ensures c.requires.thread c.index_mut-thread.ensures.value in
+    let at = read_at _ c.from.ensures c.requires.thread c.index_mut-thread.ensures.value in
     let cut : c.if-is_reversal.thread ≡ (is_reversal c.args.event || th.cut) = elim c.if-is_reversal.branch [
       | then-is_reversal w ↦ let e : (is_reversal c.args.event) ≡ true = sym c.is_reversal.ensures ∙ w.if-is_reversal.true in w.thread-is ∙ w.if-is_reversal.true ∙ sym (ap (λ b. b || th.cut) e)
       | else-is_reversal w ↦ let e : (is_reversal c.args.event) ≡ false = sym c.is_reversal.ensures ∙ w.if-is_reversal.false in w.thread-is ∙ sym (ap (λ b. b || th.cut) e)
@@ -24,7 +24,7 @@ pub returns-in_default-clause-threads : goal.returns-in_default-clause-threads
 returns-in_default-clause-threads c =
     let ths = c.args.self.now.threads.items in
     let th = c.index_mut-thread.result.now in
-    let at = read_at ths c.args.t.0 c.from.result th c.from.ensures c.requires.thread c.index_mut-thread.ensures.value in
+    let at = read_at _ c.from.ensures c.requires.thread c.index_mut-thread.ensures.value in
     let cut : c.if-is_reversal.thread ≡ (is_reversal c.args.event || th.cut) = elim c.if-is_reversal.branch [
       | then-is_reversal w ↦ let e : (is_reversal c.args.event) ≡ true = sym c.is_reversal.ensures ∙ w.if-is_reversal.true in w.thread-is ∙ w.if-is_reversal.true ∙ sym (ap (λ b. b || th.cut) e)
       | else-is_reversal w ↦ let e : (is_reversal c.args.event) ≡ false = sym c.is_reversal.ensures ∙ w.if-is_reversal.false in w.thread-is ∙ sym (ap (λ b. b || th.cut) e)

@@ -19,7 +19,7 @@ pub lend_to_owner-walk-requires : goal.lend_to_owner-walk-requires
 lend_to_owner-walk-requires c =
     let h = c.requires.may.4.0 in
     let x = c.requires.may in
-    let at = read c.args.owner.0 c.from.result c.index_mut-lent.result.now x.2.threads (is_owner x.2 x.3 x.4.1) c.from.ensures c.index_mut-lent.ensures.value in
+    let at = read x.2.threads (is_owner x.2 x.3 x.4.1) c.from.ensures c.index_mut-lent.ensures.value in
     subst (λ (r : Record). IsSomeAnd (head_of (lock_queue c.args.l.0) c.args.self.now.chain) (CanHop c.args.l.0 r)) (sym c.deref_mut.ensures.value)
     (can_hop x.0 x.1 c.args.t.0 c.args.l.0 c.args.owner.0 h x.3 x.4.1 x.2.queues (record_of (x.2.threads.thread c.args.owner.0 c.index_mut-lent.result.now at)))
 
@@ -27,7 +27,7 @@ pub returns-clause-step : goal.returns-clause-step
 returns-clause-step c x d s tells h lawful g =
     let t = c.args.t.0 in
     let o = c.args.owner.0 in
-    let at = read o c.from.result c.index_mut-lent.result.now h.threads (is_owner h lawful g) c.from.ensures c.index_mut-lent.ensures.value in
+    let at = read h.threads (is_owner h lawful g) c.from.ensures c.index_mut-lent.ensures.value in
     let rec = subst (λ (r : Record). RepresentsRecord r (record_in s o)) (sym c.deref_mut.ensures.value) (record_of (h.threads.thread o c.index_mut-lent.result.now at)) in
     let then = c.lend_to_owner-walk.ensures.its_record d s t o x lawful g h.queues rec in
     let behind = read_behind h lawful g at then c.from-2.result c.from.result c.index_mut.result.now c.from.ensures c.from-2.ensures c.index_mut.ensures.value in
@@ -39,7 +39,7 @@ returns-clause-progress c =
     let y = c.requires.may in
     let t = c.args.t.0 in
     let o = c.args.owner.0 in
-    let at = read o c.from.result c.index_mut-lent.result.now y.2.threads (is_owner y.2 y.3 y.4.1) c.from.ensures c.index_mut-lent.ensures.value in
+    let at = read y.2.threads (is_owner y.2 y.3 y.4.1) c.from.ensures c.index_mut-lent.ensures.value in
     let rec = subst (λ (r : Record). RepresentsRecord r (record_in y.1 o)) (sym c.deref_mut.ensures.value) (record_of (y.2.threads.thread o c.index_mut-lent.result.now at)) in
     let then = c.lend_to_owner-walk.ensures.its_record y.0 y.1 t o y.4.0 y.3 y.4.1 y.2.queues rec in
     let behind = read_behind y.2 y.3 y.4.1 at then c.from-2.result c.from.result c.index_mut.result.now c.from.ensures c.from-2.ensures c.index_mut.ensures.value in

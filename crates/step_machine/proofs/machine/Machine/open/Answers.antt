@@ -22,33 +22,33 @@ pub opened-word-requires-clause-well_formed : goal.opened-word-requires-clause-w
 opened-word-requires-clause-well_formed c =
     let m = c.requires.may in
     let g = releases m.0 m.1 c.args.t.0 c.args.l.0 m.4.1.0 c.args.kind m.4.1.1 in
-    possible_read c.args.l.0 c.from-i.result c.index.result.now m.2 m.3 g.lock c.from-i.ensures c.index.ensures
+    possible_read m.2 m.3 g.lock c.from-i.ensures c.index.ensures
 
 pub opened-word-requires-clause-last : goal.opened-word-requires-clause-last
 opened-word-requires-clause-last c =
     let m = c.requires.may in
     let g = releases m.0 m.1 c.args.t.0 c.args.l.0 m.4.1.0 c.args.kind m.4.1.1 in
-    word_last m.3 g m.4.0 c.index.result.now (word_read c.args.self.now.words.items m.0 m.1.word c.args.l.0 c.from-i.result c.index.result.now c.from-i.ensures m.2.words g.lock c.index.ensures)
+    word_last m.3 g m.4.0 c.index.result.now (word_read c.from-i.ensures m.2.words g.lock c.index.ensures)
 
 pub opened-word-requires-clause-held : goal.opened-word-requires-clause-held
 opened-word-requires-clause-held c =
     let m = c.requires.may in
     let g = releases m.0 m.1 c.args.t.0 c.args.l.0 m.4.1.0 c.args.kind m.4.1.1 in
-    word_held m.3 g m.4.0 c.index.result.now (word_read c.args.self.now.words.items m.0 m.1.word c.args.l.0 c.from-i.result c.index.result.now c.from-i.ensures m.2.words g.lock c.index.ensures)
+    word_held m.3 g m.4.0 c.index.result.now (word_read c.from-i.ensures m.2.words g.lock c.index.ensures)
 
 -- 1. Waiters are shown
 
 pub returns-in_default-clause-step : goal.returns-in_default-clause-step
 returns-in_default-clause-step c mode k s kind h lawful may =
     let g = releases k s c.args.t.0 c.args.l.0 mode c.args.kind may in
-    let word = word_read c.args.self.now.words.items k s.word c.args.l.0 c.from-i.result c.index.result.now c.from-i.ensures h.words g.lock c.index.ensures in
+    let word = word_read c.from-i.ensures h.words g.lock c.index.ensures in
     absurd (let e = sym c.in_default.is ∙ side_is lawful g kind c.index.result.now word c.opened-word.ensures.side in cc)
 
 pub returns-in_default-clause-progress : goal.returns-in_default-clause-progress
 returns-in_default-clause-progress c =
     let m = c.requires.may in
     let g = releases m.0 m.1 c.args.t.0 c.args.l.0 m.4.1.0 c.args.kind m.4.1.1 in
-    let word = word_read c.args.self.now.words.items m.0 m.1.word c.args.l.0 c.from-i.result c.index.result.now c.from-i.ensures m.2.words g.lock c.index.ensures in
+    let word = word_read c.from-i.ensures m.2.words g.lock c.index.ensures in
     absurd (let e = sym c.in_default.is ∙ side_is m.3 g m.4.0 c.index.result.now word c.opened-word.ensures.side in cc)
 
 -- 2. What it asks of the objects
@@ -61,8 +61,8 @@ open-requires c =
     let th = c.index_mut-thread.result.now in
     let g = releases m.0 m.1 t l m.4.1.0 c.args.kind m.4.1.1 in
     let may = subst (May m.0 m.1) (by_turnstile t l m.4.1.0 c.args.kind (has_turnstile c.args.kind c.in-Mtx.is)) m.4.1.1 in
-    let at = read t c.from.result th m.2.threads g.thread c.from.ensures c.index_mut-thread.ensures.value in
-    let word = word_read c.args.self.now.words.items m.0 m.1.word l c.from-i.result c.index.result.now c.from-i.ensures m.2.words g.lock c.index.ensures in
+    let at = read m.2.threads g.thread c.from.ensures c.index_mut-thread.ensures.value in
+    let word = word_read c.from-i.ensures m.2.words g.lock c.index.ensures in
     let side : c.in-Some.side ≡ side_woken (m.0.kind l) (m.1.word l) = same_Some c.in-Some.side _ (sym c.in-Some.is ∙ side_is m.3 g m.4.0 c.index.result.now word c.opened-word.ensures.side) in
     let rec : c.deref_mut.result.now ≡ th.record.value = c.deref_mut.ensures.value ∙ ap (λ (o : Thread). o.record.value) c.put_down.ensures.others in
     subst (λ (d : Side). IsSomeAnd (head_of (lock_queue l) c.args.self.now.chain) (CanOpen l d c.deref_mut.result.now)) (sym side)
@@ -86,8 +86,8 @@ returns-in-Mtx c = record {
       let g = releases k s t l mode c.args.kind may in
       let is = by_turnstile t l mode c.args.kind (has_turnstile c.args.kind c.in-Mtx.is) in
       let e = subst (May k s) is may in
-      let at = read t c.from.result th h.threads g.thread c.from.ensures c.index_mut-thread.ensures.value in
-      let word = word_read c.args.self.now.words.items k s.word l c.from-i.result c.index.result.now c.from-i.ensures h.words g.lock c.index.ensures in
+      let at = read h.threads g.thread c.from.ensures c.index_mut-thread.ensures.value in
+      let word = word_read c.from-i.ensures h.words g.lock c.index.ensures in
       let side : c.in-Some.side ≡ side_woken (k.kind l) (s.word l) = same_Some c.in-Some.side _ (sym c.in-Some.is ∙ side_is lawful g kind c.index.result.now word c.opened-word.ensures.side) in
       let same : c.deref_mut.result.now ≡ th.record.value = c.deref_mut.ensures.value ∙ ap (λ (o : Thread). o.record.value) c.put_down.ensures.others in
       let rec = subst (λ (r : Record). RepresentsRecord r (record_in s t)) (sym same) (record_of (h.threads.thread t th at)) in
@@ -100,8 +100,8 @@ returns-in-Mtx c = record {
       let m = c.requires.may in
       let g = releases m.0 m.1 c.args.t.0 c.args.l.0 m.4.1.0 c.args.kind m.4.1.1 in
       let th = c.index_mut-thread.result.now in
-      let at = read c.args.t.0 c.from.result th m.2.threads g.thread c.from.ensures c.index_mut-thread.ensures.value in
-      rw c.from.ensures (aside_changed c.args.self.now.threads.items c.args.t.0 _ th (with_released c.args.l.0) at (put_down_progress c.args.l.0 th c.put_down.ensures.others c.put_down.ensures.held c.put_down.ensures.left));
+      let at = read m.2.threads g.thread c.from.ensures c.index_mut-thread.ensures.value in
+      rw c.from.ensures (aside_changed _ _ _ (with_released c.args.l.0) at (put_down_progress c.args.l.0 th c.put_down.ensures.others c.put_down.ensures.held c.put_down.ensures.left));
   books = record { log = refl; tables = refl };
 }
 
@@ -110,12 +110,11 @@ returns-in-Sx-clause-step c mode k s kind h lawful may =
     let t = c.args.t.0 in
     let l = c.args.l.0 in
     let q = lock_queue l in
-    let th = c.index_mut-thread.result.now in
     let g = releases k s t l mode c.args.kind may in
     let is = by_sleep_queue t l mode c.args.kind (ap is_turnstile c.in-Sx.is) in
     let e = subst (May k s) is may in
-    let at = read t c.from.result th h.threads g.thread c.from.ensures c.index_mut-thread.ensures.value in
-    let word = word_read c.args.self.now.words.items k s.word l c.from-i.result c.index.result.now c.from-i.ensures h.words g.lock c.index.ensures in
+    let at = read h.threads g.thread c.from.ensures c.index_mut-thread.ensures.value in
+    let word = word_read c.from-i.ensures h.words g.lock c.index.ensures in
     let side : c.in-Some.side ≡ side_woken (k.kind l) (s.word l) = same_Some c.in-Some.side _ (sym c.in-Some.is ∙ side_is lawful g kind c.index.result.now word c.opened-word.ensures.side) in
     let off = c.take_off in
     rw (c.from-i.ensures, c.from.ensures, is)
@@ -130,5 +129,5 @@ returns-in-Sx-clause-progress c =
     let m = c.requires.may in
     let g = releases m.0 m.1 c.args.t.0 c.args.l.0 m.4.1.0 c.args.kind m.4.1.1 in
     let th = c.index_mut-thread.result.now in
-    let at = read c.args.t.0 c.from.result th m.2.threads g.thread c.from.ensures c.index_mut-thread.ensures.value in
-    rw c.from.ensures (aside_changed c.args.self.now.threads.items c.args.t.0 _ th (with_released c.args.l.0) at (put_down_progress c.args.l.0 th c.put_down.ensures.others c.put_down.ensures.held c.put_down.ensures.left))
+    let at = read m.2.threads g.thread c.from.ensures c.index_mut-thread.ensures.value in
+    rw c.from.ensures (aside_changed _ _ _ (with_released c.args.l.0) at (put_down_progress c.args.l.0 th c.put_down.ensures.others c.put_down.ensures.held c.put_down.ensures.left))

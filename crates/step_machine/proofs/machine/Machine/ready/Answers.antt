@@ -6,10 +6,9 @@ use Rattle.step_machine.proofs.machine.Machine.ready.Goals as goal
 pub returns-clause-step : goal.returns-clause-step
 returns-clause-step c q k s h lawful g =
     let th = c.index_mut.result.now in
-    rw c.from.ensures (readied th h g (read c.args.t.0 c.from.result th h.threads g.thread c.from.ensures c.index_mut.ensures.value))
+    rw c.from.ensures (readied th h g (read h.threads g.thread c.from.ensures c.index_mut.ensures.value))
 
 pub returns-clause-progress : goal.returns-clause-progress
 returns-clause-progress c =
     let m = c.requires.may in
-    let th = c.index_mut.result.now in
-    rw c.from.ensures (aside_stays c.args.self.now.threads.items c.args.t.0 _ th (read c.args.t.0 c.from.result th m.2.threads m.4.thread c.from.ensures c.index_mut.ensures.value) refl)
+    rw c.from.ensures (aside_stays _ _ _ (read m.2.threads m.4.thread c.from.ensures c.index_mut.ensures.value) refl)

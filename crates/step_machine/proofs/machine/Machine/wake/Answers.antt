@@ -18,7 +18,7 @@ bits_of-woken-requires c =
 
 pub returns-clause-step : goal.returns-clause-step
 returns-clause-step c k s h lawful g =
-    let at = read c.args.t.0 c.from.result c.index_mut-thread.result.now h.threads g.thread c.from.ensures c.index_mut-thread.ensures.value in
+    let at = read h.threads g.thread c.from.ensures c.index_mut-thread.ensures.value in
     rw c.from.ensures (woken_shown c.args.c.0 c.args.all h lawful g at c.take_off-sleepers.result c.take_off-sleepers.ensures.queues c.take_off-sleepers.ensures.marks)
 
 pub returns-clause-woken : goal.returns-clause-woken
@@ -28,5 +28,4 @@ returns-clause-woken c k s h lawful =
 pub returns-clause-progress : goal.returns-clause-progress
 returns-clause-progress c =
     let m = c.requires.may in
-    let th = c.index_mut-thread.result.now in
-    rw c.from.ensures (aside_stays c.args.self.now.threads.items c.args.t.0 _ th (read c.args.t.0 c.from.result th m.2.threads m.4.thread c.from.ensures c.index_mut-thread.ensures.value) refl)
+    rw c.from.ensures (aside_stays _ _ _ (read m.2.threads m.4.thread c.from.ensures c.index_mut-thread.ensures.value) refl)

@@ -43,4 +43,4 @@ pub returns-in-Err-clause-makes : goal.returns-in-Err-clause-makes
 returns-in-Err-clause-makes c r h b =
     let e = c.refuse.ensures in
     actions.refused c.requires.proper c.requires.thread h b c.in-Err.reversal.held (c.in-Err.ensures.1 r h)
-    c.in-Err.ensures.0 e.steps e.progress (record { room = e.room; places = e.places })
+    c.in-Err.ensures.0 e.steps e.progress (assumption e)

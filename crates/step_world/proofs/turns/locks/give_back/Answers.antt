@@ -29,7 +29,7 @@ drop_lock-requires c =
     let k = config_of c.args.plan.now in
     let t = c.args.t.0 in
     let l = c.args.l.0 in
-    let is = read t c.from.result c.index.result.now q.1.threads (actions.it_gives k q.0 t l q.3.0 q.3.1).thread
+    let is = read q.1.threads (actions.it_gives k q.0 t l q.3.0 q.3.1).thread
     c.from.ensures c.index.ensures in
     let drops = ap is_drop (sym (c.word_at.ensures.word q.0 q.1)) ∙ sym c.is_drop.ensures ∙ c.if-is_drop.true in
     let may = actions.may_drop k q.0 t l q.3.0 drops q.3.1 in
@@ -49,7 +49,7 @@ returns-then-is_drop-clause-step c s mode h lawful may =
     let k = config_of c.args.plan.now in
     let t = c.args.t.0 in
     let l = c.args.l.0 in
-    let is = read t c.from.result c.index.result.now h.threads (actions.it_gives k s t l mode may).thread c.from.ensures
+    let is = read h.threads (actions.it_gives k s t l mode may).thread c.from.ensures
     c.index.ensures in
     let drops = ap is_drop (sym (c.word_at.ensures.word s h)) ∙ sym c.is_drop.ensures ∙ c.if-is_drop.true in
     actions.dropped k s t l mode drops

@@ -35,7 +35,7 @@ returns-in-Some-clause-follows c r h g =
     let held = actions.last_of c.index.result.now.held.items
     (c.in-Some.ensures.value ∙ ap (λ (hs : List Held). slice_get hs (length hs - 1)) c.deref.ensures.value) in
     actions.gave_last c.requires.proper c.requires.thread h g is _ c.in-Some.held.now held a.steps a.progress
-    (record { room = a.room; places = a.places })
+    (assumption a)
 
 pub returns-in-None-clause-follows : goal.returns-in-None-clause-follows
 returns-in-None-clause-follows c r h g =

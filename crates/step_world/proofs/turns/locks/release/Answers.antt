@@ -19,4 +19,4 @@ pub returns-clause-makes : goal.returns-clause-makes
 returns-clause-makes c r h at =
     let a = c.unlock.ensures in
     actions.released c.requires.proper c.requires.thread h at a.steps a.progress
-    (record { room = a.room; places = a.places })
+    (assumption a)

@@ -1,4 +1,3 @@
-use Rattle.lock_model.specs.Plans.{config_of}
 use Rattle.step_machine.proofs.Kit.{word_read}
 use Rattle.step_world.proofs.ActionsOfLocks.{is_well_formed}
 use Rattle.step_world.proofs.turns.locks.word_at.Goals as goal
@@ -7,4 +6,4 @@ pub returns-clause-well_formed : goal.returns-clause-well_formed
 returns-clause-well_formed c =
     let q = c.requires.shows in
     let w = c.index.result.now in
-    is_well_formed c.args.l.0 w q.1 q.2 (word_read c.args.machine.now.words.items (config_of c.args.plan.now) q.0.word c.args.l.0 c.from.result w c.from.ensures q.1.words c.requires.lock c.index.ensures)
+    is_well_formed c.args.l.0 w q.1 q.2 (word_read c.from.ensures q.1.words c.requires.lock c.index.ensures)

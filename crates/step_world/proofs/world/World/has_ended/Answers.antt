@@ -16,4 +16,4 @@ returns c =
     rw (← c.self.view_is) (λ r h.
     c.has_ended.ensures
     ∙ ap (λ (ops : List Op). thread_has_ended (length ops) th) c.operations_of.ensures
-    ∙ ends_as_said plan w.machine r t th c.self.invariant.proper h within (read t c.from.result th h.shows.shows.threads within c.from.ensures c.index.ensures))
+    ∙ ends_as_said plan w.machine r t th c.self.invariant.proper h within (read h.shows.shows.threads within c.from.ensures c.index.ensures))

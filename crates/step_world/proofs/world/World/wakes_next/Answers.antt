@@ -30,7 +30,7 @@ next : (c : goal.After-first_of) (r : Run)
     → option_map (λ u. u.0) c.first_of.result ≡ first_marked (r.state.marked c.args.t.0)
 next c r h =
     let th = c.index.result.now in
-    let at = read c.args.t.0 c.from.result th h.shows.shows.threads (within c) c.from.ensures c.index.ensures in
+    let at = read h.shows.shows.threads (within c) c.from.ensures c.index.ensures in
     c.first_of.ensures ∙ firsts th.marked_from (places_of th.marked)
     ∙ ap (λ x. first_marked x.marked) (h.shows.shows.threads.thread c.args.t.0 th at).columns
 
@@ -39,7 +39,6 @@ returns-clause-next c = rw (← c.self.view_is) (next c)
 
 pub returns-clause-thread : goal.returns-clause-thread
 returns-clause-thread c =
-    let w = c.self.inside in
     let r = c.self.invariant.run in
     rw (← c.self.view_is) (go (r.0.state.marked c.args.t.0) refl c.first_of.result (next c r.0 r.1))
   where

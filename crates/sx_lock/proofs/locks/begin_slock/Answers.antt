@@ -1,7 +1,0 @@
-use Rattle.lock_model.specs.declared.plan.Mode.TheVariants.{Shared}
-use Rattle.sx_lock.proofs.Covered.{may_take}
-use Rattle.sx_lock.proofs.locks.begin_slock.Goals as goal
-
-pub begin_take-requires-clause-may : goal.begin_take-requires-clause-may
-begin_take-requires-clause-may c =
-    may_take c.args.floor.now.description c.args.l.0 Shared c.args.pass.now.view c.requires.may
