@@ -157,7 +157,7 @@ module _ (floor : Description) (me : Me Slot Knowledge) (was : me.0.role ≡ OfT
         makers = one_own t step refl;
         seat = record {
           thread = refl;
-          share = record { columns = f.fits.share.columns; held_once = f.fits.share.held_once };
+          share = assumption f.fits.share;
         };
         others = λ u ne. add_others s t u d x;
         pose = inl (g.queued, put_same s.blocked_on t (Some its_queue));

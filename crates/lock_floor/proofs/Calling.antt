@@ -41,47 +41,14 @@ pub record IsCalling (floor : Description) (v : Knowledge) : Type 0 where
   pub begun : Begun v
 
 pub calls : (floor : Description) (v : Knowledge) → IsAtRest floor v → IsCalling floor v
-calls floor v r = record {
-  runs = r.runs;
-  nothing_out = r.nothing_out;
-  no_walk = r.no_walk;
-  unmarked = r.unmarked;
-  uncounted = r.uncounted;
-  unnoted = r.unnoted;
-  going = r.going;
-  no_wait = r.no_wait;
-  sections = r.sections;
-  begun = r.begun;
-}
+calls floor v r = assumption r
 
 module _ (floor : Description) (seen : List Step) (v : Knowledge) (k : IsCalling floor v) where
   pub calling_looked : (l : ℕ) (word : Word) → IsCalling floor (seeing seen (looked v l word))
-  calling_looked l word = record {
-    runs = k.runs;
-    nothing_out = k.nothing_out;
-    no_walk = k.no_walk;
-    unmarked = k.unmarked;
-    uncounted = k.uncounted;
-    unnoted = k.unnoted;
-    going = record { awake = k.going.awake; unended = k.going.unended; stamped = k.going.stamped };
-    no_wait = k.no_wait;
-    sections = k.sections;
-    begun = k.begun;
-  }
+  calling_looked l word = assumption k
 
   pub calling_sought : (l : ℕ) → IsCalling floor (seeing seen (sought v l false))
-  calling_sought l = record {
-    runs = k.runs;
-    nothing_out = k.nothing_out;
-    no_walk = k.no_walk;
-    unmarked = k.unmarked;
-    uncounted = k.uncounted;
-    unnoted = k.unnoted;
-    going = record { awake = k.going.awake; unended = k.going.unended; stamped = k.going.stamped };
-    no_wait = k.no_wait;
-    sections = k.sections;
-    begun = k.begun;
-  }
+  calling_sought l = assumption k
 
 -- 2. The gain of the lock that is being taken, and its entry
 
@@ -123,26 +90,13 @@ module _ (floor : Description) (v : Knowledge) (l : LockNo) (mode : Mode) (k : I
     may_note_locked =
         may_stamp_end floor w e asks tt
         (λ q. absurd (let z : false ≡ true = sym k.no_wait ∙ q in cc))
-        k.runs (record { awake = k.going.awake; unended = k.going.unended; stamped = k.going.stamped })
+        k.runs (assumption k.going)
         (λ j q. (same_Some l.0 j (sym takes ∙ q), k.no_wait))
 
   pub rest_locked : (ticket : ℕ)
       → IsAtRest floor (stamped (config_in floor) (gained v h) (entry_by v.thread ticket (Locked l mode)))
   rest_locked ticket =
-      at_rest floor (stamped c (gained v h) (entry_by t ticket e)) (record {
-        runs = k.runs;
-        nothing_out = k.nothing_out;
-        no_walk = k.no_walk;
-        unmarked = k.unmarked;
-        uncounted = k.uncounted;
-        wants_nothing = refl;
-        takes_nothing = refl;
-        no_round = refl;
-        no_looks = refl;
-        unnoted = refl;
-        going = record { awake = k.going.awake; unended = k.going.unended; stamped = k.going.stamped };
-        no_wait = refl;
-      }) refl
+      at_rest floor (stamped c (gained v h) (entry_by t ticket e)) (assumption k) refl
       (λ j. gain_section floor v h ticket j ∙ ap (cond (eqb l.0 j) (Holds mode)) (k.sections j)
       ∙ sym (hold_in-push v.share.held h j unheld))
       (λ j held. ap (is_among j) (begun_gained floor v h (others l.0 v.share.begun))

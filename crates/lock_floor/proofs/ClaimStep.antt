@@ -61,7 +61,7 @@ module _ (c : Config) (l : LockNo) (h : ℕ) (by_try : Bool) (s : State) where
   unfolding after_gain after_claim
   claim_own v fit out unheld =
       let gain = gain_own s v fit (as_claimed l by_try) unheld in
-      record { columns = gain.columns; held_once = gain.held_once }
+      assumption gain
 
   claim_others : (t u : ℕ) → u ≢ t → share_in (after_claim c s t l.0 h by_try) u ≡ share_in s u
   unfolding after_gain after_claim

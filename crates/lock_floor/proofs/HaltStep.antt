@@ -22,7 +22,7 @@ HasHalted floor me behind =
 halt_own : (s : State) (v : Knowledge) → RepresentsShare v.share s v.thread
     → RepresentsShare v.share (after_halt s) v.thread
 unfolding after_halt
-halt_own s v fit = record { columns = fit.columns; held_once = fit.held_once }
+halt_own s v fit = assumption fit
 
 module _ (floor : Description) (me : Me Slot Knowledge) (was : me.0.role ≡ OfThread) where
   abbrev v : Knowledge

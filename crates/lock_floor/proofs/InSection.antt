@@ -47,7 +47,7 @@ module _ (floor : Description) (l : ℕ) where
       → IsAcquiring floor l (round_of l false) (seeing seen (sought v l false))
   acquiring_begins seen v mine rest unheld = record {
     description = mine;
-    going = record { awake = rest.going.awake; unended = rest.going.unended; stamped = rest.going.stamped };
+    going = assumption rest.going;
     awake = λ back e f g. let z : true ≡ false = sym back ∙ rest.no_wait in cc;
     round = refl;
     wants = inr rest.wants_nothing;
@@ -59,69 +59,19 @@ module _ (floor : Description) (l : ℕ) where
 
   module _ (r : Round) (seen : List Step) (v : Knowledge) (h : IsAcquiring floor l r v) where
     pub acquiring_looked : (word : Word) → IsAcquiring floor l r (seeing seen (looked v l word))
-    acquiring_looked word = record {
-      description = h.description;
-      going = record { awake = h.going.awake; unended = h.going.unended; stamped = h.going.stamped };
-      awake = h.awake;
-      round = h.round;
-      wants = h.wants;
-      takes = h.takes;
-      no_walk = h.no_walk;
-      unheld = h.unheld;
-      sections = h.sections;
-    }
+    acquiring_looked word = assumption h
 
     pub acquiring_readied : (queued : Bool) → IsAcquiring floor l r (seeing seen (readied queued v))
-    acquiring_readied true = record {
-      description = h.description;
-      going = record { awake = h.going.awake; unended = h.going.unended; stamped = h.going.stamped };
-      awake = h.awake;
-      round = h.round;
-      wants = h.wants;
-      takes = h.takes;
-      no_walk = h.no_walk;
-      unheld = h.unheld;
-      sections = h.sections;
-    }
-    acquiring_readied false = record {
-      description = h.description;
-      going = record { awake = h.going.awake; unended = h.going.unended; stamped = h.going.stamped };
-      awake = h.awake;
-      round = h.round;
-      wants = h.wants;
-      takes = h.takes;
-      no_walk = h.no_walk;
-      unheld = h.unheld;
-      sections = h.sections;
-    }
+    acquiring_readied true = assumption h
+    acquiring_readied false = assumption h
 
     pub acquiring_record : (u j : ℕ) (x : Slot) → IsAcquiring floor l r (seeing seen (took v (RecordOf u) j x))
-    acquiring_record u j x = record {
-      description = h.description;
-      going = record { awake = h.going.awake; unended = h.going.unended; stamped = h.going.stamped };
-      awake = h.awake;
-      round = h.round;
-      wants = h.wants;
-      takes = h.takes;
-      no_walk = h.no_walk;
-      unheld = h.unheld;
-      sections = h.sections;
-    }
+    acquiring_record u j x = assumption h
 
   pub acquiring_chain : (seen : List Step) (v : Knowledge) → IsAcquiring floor l (round_of l false) v
       → (j : ℕ) (x : Slot)
       → IsAcquiring floor l (bound_to l) (seeing seen (took v (its_chain floor (lock_queue l)) j x))
-  acquiring_chain seen v h j x = record {
-    description = h.description;
-    going = record { awake = h.going.awake; unended = h.going.unended; stamped = h.going.stamped };
-    awake = h.awake;
-    round = round_bound floor v l j x h.round;
-    wants = h.wants;
-    takes = h.takes;
-    no_walk = h.no_walk;
-    unheld = h.unheld;
-    sections = h.sections;
-  }
+  acquiring_chain seen v h j x = assumption (round_bound floor v l j x h.round, h)
 
   -- 2. What is out
 

@@ -161,7 +161,7 @@ module _ (floor : Description) (b : Board) (s : State) (r : Represents floor b s
 
   represents_joined : Represents floor (record { words = b.words; homes = b.homes; views = new }) s
   represents_joined = record {
-    sizes = record { words = r.sizes.words; slots = r.sizes.slots; sized = r.sizes.sized };
+    sizes = assumption r.sizes;
     words = r.words;
     room =
         let first = total_set spare vs 0 v both at in

@@ -172,7 +172,7 @@ module _ (floor : Description) (b : Board) (s : State) (r : Represents floor b s
   represents_with : room_for v.description v.made ≤ v.spare
       → Represents floor (record { words = b.words; homes = b.homes; views = new }) s
   represents_with fits = record {
-    sizes = record { words = r.sizes.words; slots = r.sizes.slots; sized = r.sizes.sized };
+    sizes = assumption r.sizes;
     words = r.words;
     room =
         let sums = total_set spare vs 0 v left at in

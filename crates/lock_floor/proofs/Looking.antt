@@ -20,6 +20,7 @@ use Rattle.floor_table.specs.Steps.{MayMake, FitAll, Makes}
 use Rattle.floor_table.specs.Views.{Knowledge, OfThread, seeing}
 use Rattle.floor_table.proofs.Made.{Finds, Steps, allows, lock_seen, OwnSteps}
 use Rattle.floor_table.proofs.Seen.{one_own, two_own}
+use Rattle.lock_floor.specs.Floors.{Floor, Pass}
 use Rattle.lock_floor.specs.Views.{has_item, counts, looked, sought}
 use Rattle.lock_floor.proofs.May.{its_item}
 use Rattle.lock_floor.proofs.Shares.{look_own, look_others, seek_own, seek_others}
@@ -134,3 +135,15 @@ module _ (floor : Description) (me : Me Slot Knowledge) (l : ℕ) (was : me.0.ro
         let made = lock_seen floor both b v w h was may own me.1 l low refl (record { items = refl; objects = refl })
         refl refl in
         (w, keeps, tt, made.0, (found.1, refl, made.1))
+
+-- Inside a call the floor and the pass are the caller's: what it may look at there, and what a look made
+module _ (f g : Floor Description) (p q : Pass Knowledge) (same_floor : f ≡ g) (same_pass : p ≡ q) (l : ℕ) where
+  pub may_look_inside : MayMake g.description q.view (λ s. Unit {0}) (Looks q.view.thread l (counts q.view l) ∷ [])
+      → MayMake f.description p.view (λ s. Unit {0}) (Looks p.view.thread l (counts p.view l) ∷ [])
+  may_look_inside = subst (λ (z : Floor Description × Pass Knowledge). MayMake z.0.description z.1.view (λ s. Unit {0})
+      (Looks z.1.view.thread l (counts z.1.view l) ∷ [])) (λ i. (sym same_floor i, sym same_pass i))
+
+  pub look_outside : (w : Knowledge) → Makes f.description (Looks p.view.thread l (counts p.view l) ∷ []) p.view w
+      → Makes g.description (Looks q.view.thread l (counts q.view l) ∷ []) q.view w
+  look_outside w = subst (λ (z : Floor Description × Pass Knowledge). Makes z.0.description
+      (Looks z.1.view.thread l (counts z.1.view l) ∷ []) z.1.view w) (λ i. (same_floor i, same_pass i))

@@ -487,20 +487,13 @@ module _ (floor : Description) (v : Knowledge) where
 
     runs_on : IsRunnable sought t
     unfolding after_seek
-    runs_on = let a = is_awake s f b.runs b.going in record { phase = a.phase; unended = a.unended }
+    runs_on = let a = is_awake s f b.runs b.going in assumption a
 
     owes_on : OwesNoStep sought t
     unfolding after_seek
     owes_on = record {
       added = λ o. off s f b.runs
-          record {
-            queued = o.queued;
-            nowhere = o.nowhere;
-            wants = o.wants;
-            slept = o.slept;
-            unwoken = o.unwoken;
-            unhalted = o.unhalted;
-          };
+          assumption o;
       stamped = (owes_none s f b.runs b.going).stamped;
     }
 
@@ -569,7 +562,7 @@ module _ (floor : Description) (v : Knowledge) where
               admitted = admitted;
               plainly = plain;
               unheld = holds_it s f l ∙ b.unheld;
-              acting = record { unnamed = acting.unnamed; unwoken = acting.unwoken };
+              acting = assumption acting;
               wants = subst (λ w. (w ≡ Some l) ⊎ (w ≡ None)) (sym (doing_it s f (λ d. d.wanted))) b.wants;
             };
             has_out = tt;
@@ -598,7 +591,7 @@ module _ (floor : Description) (v : Knowledge) where
         still_in_order : IsOrderedTake l v → (sought.wanted t ≡ Some l) ⊎ NeedsNoAdmission sought t
         still_in_order o = elim (in_order s f l o) [
           | inl wants ↦ inl wants
-          | inr free ↦ inr (record { bare = free.bare; unnoted = free.unnoted; awake = free.awake })
+          | inr free ↦ inr (assumption free)
         ]
 
   pub may_seek : (l : ℕ) (by_try : Bool) → l < length floor.locks → BeginsRound l by_try v

@@ -264,7 +264,7 @@ going_to_sleep floor v d ticket seen h =
     let c : Config = config_in floor in
     record {
       ready = h.ready;
-      going = record { awake = h.going.awake; unended = h.going.unended; stamped = h.going.stamped };
+      going = assumption h.going;
       slept = eq-eqb d.0 d.0 refl;
       wants = h.wants;
       takes = h.takes;

@@ -81,18 +81,7 @@ may_take_graph floor l v empty may =
 module _ (floor : Description) (l : ℕ) (old mid : Knowledge) (empty : old.out ≡ []) (may : MayOrder floor l old)
     (taken : Takes floor ClassGraph (graph_place floor) old mid) where
   pub may_order_on : MayOrder floor l mid
-  may_order_on = subst (MayOrder floor l) (sym taken.view) record {
-    runs = may.runs;
-    going = record { awake = may.going.awake; unended = may.going.unended; stamped = may.going.stamped };
-    wants_nothing = may.wants_nothing;
-    takes_nothing = may.takes_nothing;
-    unnoted = may.unnoted;
-    no_wait = may.no_wait;
-    no_round = may.no_round;
-    few = may.few;
-    sections = may.sections;
-    missed = may.missed;
-  }
+  may_order_on = subst (MayOrder floor l) (sym taken.view) (assumption may)
 
   out_is : mid.out ≡ (graph_place floor, taken.value) ∷ []
   out_is = ap (λ (k : Knowledge). k.out) taken.view ∙ ap (λ os. (graph_place floor, taken.value) ∷ os) empty

@@ -53,7 +53,7 @@ module _ (floor : Description) (me : Me Slot Knowledge) (was : me.0.role ≡ OfT
         makers = one_own t (readies true t q) refl;
         seat = record {
           thread = refl;
-          share = record { columns = h.fits.share.columns; held_once = h.fits.share.held_once };
+          share = assumption h.fits.share;
         };
         others = λ u ne. refl;
         pose = (
@@ -80,7 +80,7 @@ module _ (floor : Description) (me : Me Slot Knowledge) (was : me.0.role ≡ OfT
         makers = one_own t (readies false t q) refl;
         seat = record {
           thread = refl;
-          share = record { columns = h.fits.share.columns; held_once = h.fits.share.held_once };
+          share = assumption h.fits.share;
         };
         others = λ u ne. refl;
         pose = put_same s.wait t Running;

@@ -1,6 +1,6 @@
 -- A thread at rest is at rest again behind its calls: behind an entry, behind the use of an item, behind a busy try,
 -- behind a gain with its entry, and behind a release with its entry.
-use Rattle.std.proofs.Common.{◌≡◌, ◌≢◌, ℕ, ◌+◌, ◌≤◌, Bool, true, false, ◌||◌, cond, eqb, Option, None, List, [], ◌∷◌, ◌++◌, refl, sym, ap, ◌∙◌, subst, inl, inr, arith, eq-eqb}
+use Rattle.std.proofs.Common.{◌≡◌, ◌≢◌, ℕ, ◌+◌, ◌≤◌, Bool, true, false, ◌||◌, cond, eqb, Option, None, Some, List, [], ◌∷◌, ◌++◌, refl, sym, ap, ◌∙◌, subst, inl, inr, arith, eq-eqb}
 use Rattle.std.proofs.lemmas.Bool.{cases_eq, ne_eqb}
 use Rattle.atomic_table.specs.Table.{rest}
 use Rattle.lock_laws.proofs.HeldLists.{hold_in-push}
@@ -24,6 +24,7 @@ use Rattle.lock_state.specs.Steps.LockWords.{Asks, is_sleep, is_taking_back, cha
 use Rattle.floor_table.specs.Descriptions.{config_in}
 use Rattle.floor_table.specs.declared.description.Description.{Description}
 use Rattle.floor_table.specs.declared.slot.Slot.{Slot}
+use Rattle.floor_table.specs.Places.{slot_of}
 use Rattle.floor_table.specs.Shares.{Doing, ShareColumns, is_among}
 use Rattle.floor_table.specs.Steps.{Fits, MayMake, Makes, MakesEach}
 use Rattle.floor_table.specs.Views.{Runs, Knowledge, seeing}
@@ -32,7 +33,7 @@ use Rattle.lock_floor.specs.Floors.{Floor, Pass}
 use Rattle.lock_floor.specs.Passes.{IsOf, IsGoing, IsAtRest, IsReady, MakesEntry, with_item}
 use Rattle.lock_floor.specs.Latches.{Takes}
 use Rattle.lock_floor.specs.Views.{looked, others, gained, put_down, begun_by, took, gave, entry_by, stamped}
-use Rattle.lock_floor.proofs.May.{own_log, may_stamp}
+use Rattle.lock_floor.proofs.May.{is_record_or_cell, own_log, may_stamp, may_give}
 use Rattle.lock_floor.proofs.Shares.{among_stays}
 
 -- 1. What the thread is about, beside the locks that it holds
@@ -52,20 +53,7 @@ pub record IsIdle (v : Knowledge) : Type 0 where
   pub no_wait : is_taking_back v.share.log ≡ false
 
 abbrev pub idle : (floor : Description) (v : Knowledge) → IsAtRest floor v → IsIdle v
-idle floor v r = record {
-  runs = r.runs;
-  nothing_out = r.nothing_out;
-  no_walk = r.no_walk;
-  unmarked = r.unmarked;
-  uncounted = r.uncounted;
-  wants_nothing = r.wants_nothing;
-  takes_nothing = r.takes_nothing;
-  no_round = r.no_round;
-  no_looks = r.no_looks;
-  unnoted = r.unnoted;
-  going = r.going;
-  no_wait = r.no_wait;
-}
+idle floor v r = assumption r
 
 -- the sections open in its log are of just its locks, and each began since its lock was gained
 abbrev pub Sectioned : Description → Knowledge → Type 0
@@ -76,44 +64,12 @@ Begun v = (l : ℕ) → hold_in v.share.held l ≢ NotHeld → is_among l v.shar
 
 pub at_rest : (floor : Description) (v : Knowledge) → IsIdle v → v.share.doing.last_look ≡ None → Sectioned floor v
     → Begun v → IsAtRest floor v
-at_rest floor v i unseen sections begun = record {
-  runs = i.runs;
-  nothing_out = i.nothing_out;
-  no_walk = i.no_walk;
-  unmarked = i.unmarked;
-  uncounted = i.uncounted;
-  wants_nothing = i.wants_nothing;
-  takes_nothing = i.takes_nothing;
-  no_round = i.no_round;
-  no_looks = i.no_looks;
-  no_last_look = unseen;
-  unnoted = i.unnoted;
-  going = i.going;
-  no_wait = i.no_wait;
-  sections = sections;
-  begun = begun;
-}
+at_rest floor v i unseen sections begun = assumption (unseen, sections, begun, i)
 
 -- whatever steps its seat has seen
 pub rest_seeing : (floor : Description) (v : Knowledge) (steps : List Step) → IsAtRest floor v
     → IsAtRest floor (seeing steps v)
-rest_seeing floor v steps r = record {
-  runs = r.runs;
-  nothing_out = r.nothing_out;
-  no_walk = r.no_walk;
-  unmarked = r.unmarked;
-  uncounted = r.uncounted;
-  wants_nothing = r.wants_nothing;
-  takes_nothing = r.takes_nothing;
-  no_round = r.no_round;
-  no_looks = r.no_looks;
-  no_last_look = r.no_last_look;
-  unnoted = r.unnoted;
-  going = r.going;
-  no_wait = r.no_wait;
-  sections = r.sections;
-  begun = r.begun;
-}
+rest_seeing floor v steps r = assumption r
 
 -- 2. Behind an entry
 
@@ -167,24 +123,13 @@ module _ (floor : Description) (v : Knowledge) where
 
   pub idle_stamped : (ticket : ℕ) (e : Event) → is_sleep e ≡ false → IsIdle v
       → IsIdle (stamped c v (entry_by t ticket e))
-  idle_stamped ticket e wakeful i = record {
-    runs = i.runs;
-    nothing_out = i.nothing_out;
-    no_walk = i.no_walk;
-    unmarked = i.unmarked;
-    uncounted = i.uncounted;
-    wants_nothing = i.wants_nothing;
-    takes_nothing = taking_gone e v.share.doing.taking i.takes_nothing;
-    no_round = round_gone e v.share.doing.round i.no_round;
-    no_looks = looks_gone e v.share.doing.looks i.no_looks;
-    unnoted = refl;
-    going = record {
-      awake = i.going.awake;
-      unended = i.going.unended;
-      stamped = wake_gone e v.share.doing.unstamped i.going.stamped;
-    };
-    no_wait = wakeful;
-  }
+  idle_stamped ticket e wakeful i = assumption (
+    taking_gone e v.share.doing.taking i.takes_nothing,
+    round_gone e v.share.doing.round i.no_round,
+    looks_gone e v.share.doing.looks i.no_looks,
+    wake_gone e v.share.doing.unstamped i.going.stamped,
+    i,
+  )
 
   -- of an event that begins and ends no section
   pub rest_noted : (ticket : ℕ) (e : Event) → changes_sections e ≡ false → IsIdle v → Sectioned floor v → Begun v
@@ -204,24 +149,13 @@ module _ (floor : Description) (v : Knowledge) where
       → IsAtRest floor (stamped c (looked v l.0 word) (entry_by t ticket (Busy l seen)))
   rest_busy ticket l seen word r =
       let e : Event = Busy l seen in
-      at_rest floor (stamped c (looked v l.0 word) (entry_by t ticket e)) record {
-        runs = r.runs;
-        nothing_out = r.nothing_out;
-        no_walk = r.no_walk;
-        unmarked = r.unmarked;
-        uncounted = r.uncounted;
-        wants_nothing = r.wants_nothing;
-        takes_nothing = taking_gone e v.share.doing.taking r.takes_nothing;
-        no_round = refl;
-        no_looks = refl;
-        unnoted = refl;
-        going = record {
-          awake = r.going.awake;
-          unended = r.going.unended;
-          stamped = wake_gone e v.share.doing.unstamped r.going.stamped;
-        };
-        no_wait = refl;
-      } refl (λ k. same_section c v.share.log t ticket k e refl ∙ r.sections k)
+      at_rest floor (stamped c (looked v l.0 word) (entry_by t ticket e))
+      (assumption (
+        taking_gone e v.share.doing.taking r.takes_nothing,
+        wake_gone e v.share.doing.unstamped r.going.stamped,
+        r,
+      ))
+      refl (λ k. same_section c v.share.log t ticket k e refl ∙ r.sections k)
       (λ k held. ap (is_among k) (begun_kept c e v.share.begun refl) ∙ r.begun k held)
 
 -- 4. What it may note, whatever it has out: with nothing out it is at rest
@@ -244,21 +178,8 @@ module _ (floor : Description) (a : Knowledge) (r : IsAtRest floor (record a { o
 pub rest_with : (floor : Description) (v a : Knowledge) (i : Item) (j : ℕ) → is_chain i ≡ false → IsAtRest floor v
     → Takes floor i j v a → IsAtRest floor (record a { out = [] })
 rest_with floor v a i j plain r taken =
-    subst (λ (w : Knowledge). IsAtRest floor (record w { out = [] })) (sym taken.view)
-    (at_rest floor (record (seeing a.seen (took v i j taken.value)) { out = [] }) record {
-      runs = r.runs;
-      nothing_out = refl;
-      no_walk = r.no_walk;
-      unmarked = r.unmarked;
-      uncounted = r.uncounted;
-      wants_nothing = r.wants_nothing;
-      takes_nothing = r.takes_nothing;
-      no_round = ap (λ b. cond b (in_its_chain v.share.doing.round) v.share.doing.round) plain ∙ r.no_round;
-      no_looks = r.no_looks;
-      unnoted = r.unnoted;
-      going = r.going;
-      no_wait = r.no_wait;
-    } r.no_last_look r.sections r.begun)
+    let no_round = ap (λ b. cond b (in_its_chain v.share.doing.round) v.share.doing.round) plain ∙ r.no_round in
+    subst (λ (w : Knowledge). IsAtRest floor (record w { out = [] })) (sym taken.view) (assumption (no_round, r))
 
 -- 5. Behind the use of an item: it is taken, an entry is made, and it is given back
 
@@ -293,6 +214,62 @@ Noted floor ticket e j y old new =
     new ≡ seeing new.seen
     (record (stamped (config_in floor) old (entry_by old.thread ticket e)) { out = (j, y) ∷ rest old.out })
 
+-- what it took last may be given back then
+pub record MayGiveBack (floor : Description) (j : ℕ) (v : Knowledge) : Type 0 where
+  pub last : (x : Slot) × (v.out ≡ (j, x) ∷ rest v.out)
+  pub may : (i : Item) × (slot_of floor i ≡ Some j) × MayMake floor v (λ s. Unit {0}) (GivesItem v.thread i ∷ [])
+
+module _ (floor : Description) (i : Item) (j : ℕ) (e : Event) (v a b : Knowledge) (ticket : ℕ)
+    (taken : Takes floor i j v a) where
+  noted_same : b ≡ seeing b.seen (stamped (config_in floor) a (entry_by a.thread ticket e))
+      → Noted floor ticket e j taken.value a b
+  noted_same noted =
+      noted ∙ ap (λ o. seeing b.seen (record (stamped (config_in floor) a (entry_by a.thread ticket e)) { out = o }))
+      (taken_out floor v a i j taken)
+
+  noted_changed : b ≡ seeing b.seen (stamped_change (config_in floor) a (entry_by a.thread ticket e))
+      → Noted floor ticket e j (changed e taken.value) a b
+  noted_changed noted =
+      noted ∙ ap (λ o. seeing b.seen
+      (record (stamped (config_in floor) a (entry_by a.thread ticket e)) { out = last_changed e o }))
+      (taken_out floor v a i j taken)
+
+  with_entry : (y : Slot) → Noted floor ticket e j y a b → b ≡ seeing b.seen
+      (record (stamped (config_in floor) (took v i j taken.value) (entry_by v.thread ticket e)) {
+        out = (j, y) ∷ v.out;
+      })
+  with_entry y noted =
+      noted ∙ ap (λ (w : Knowledge). seeing b.seen
+      (record (stamped (config_in floor) w (entry_by w.thread ticket e)) { out = (j, y) ∷ rest w.out })) taken.view
+
+  module _ (place : slot_of floor i ≡ Some j) (kind : is_record_or_cell i ≡ true) (r : IsAtRest floor v) where
+    gives_it : (y : Slot) → Noted floor ticket e j y a b → MayGiveBack floor j b
+    gives_it y noted =
+        let is = with_entry y noted in
+        let out : b.out ≡ (j, y) ∷ rest b.out =
+        subst (λ o. o ≡ (j, y) ∷ rest o) (sym (ap (λ (w : Knowledge). w.out) is)) refl in
+        record {
+          last = (y, out);
+          may = (
+            i,
+            place,
+            may_give floor b i j y place out kind (ap (λ (w : Knowledge). w.pose) is ∙ r.runs)
+                (ap (λ (w : Knowledge). w.share.doing.phase) is ∙ r.going.awake)
+                (ap (λ (w : Knowledge). w.share.doing.unstamped) is
+                ∙ wake_gone e v.share.doing.unstamped r.going.stamped)
+                (ap (λ (w : Knowledge). w.share.doing.counting) is ∙ r.uncounted),
+          );
+        }
+
+    pub gives_back : b ≡ seeing b.seen (stamped (config_in floor) a (entry_by a.thread ticket e))
+        → MayGiveBack floor j b
+    gives_back noted = gives_it taken.value (noted_same noted)
+
+    -- where the entry changed the value
+    pub gives_changed : b ≡ seeing b.seen (stamped_change (config_in floor) a (entry_by a.thread ticket e))
+        → MayGiveBack floor j b
+    gives_changed noted = gives_it (changed e taken.value) (noted_changed noted)
+
 module _ (f : Floor Description) (i : Item) (j : ℕ) (e : Event) (plain : is_chain i ≡ false)
     (quiet : changes_sections e ≡ false) where
   pub uses_changed : (p a b q : Pass Knowledge) (ticket : ℕ) (y : Slot) → IsReady f p → 1 ≤ p.view.spare → Takes f.description i j p.view a.view
@@ -302,11 +279,7 @@ module _ (f : Floor Description) (i : Item) (j : ℕ) (e : Event) (plain : is_ch
   uses_changed p a b q ticket y ready room taken noted stamps own given gives =
       let v : Knowledge = p.view in
       let made : Entry = entry_by v.thread ticket e in
-      let with_it : b.view ≡ seeing b.view.seen
-      (record (stamped (config_in f.description) (took v i j taken.value) made) { out = (j, y) ∷ v.out }) =
-      noted ∙ ap (λ (w : Knowledge). seeing b.view.seen
-      (record (stamped (config_in f.description) w (entry_by w.thread ticket e)) { out = (j, y) ∷ rest w.out }))
-      taken.view in
+      let with_it = with_entry f.description i j e v a.view b.view ticket taken y noted in
       let is : q.view ≡ seeing q.view.seen (stamped (config_in f.description) v made) =
       given ∙ ap (λ (w : Knowledge). seeing q.view.seen (gave w i)) with_it
       ∙ ap (seeing q.view.seen) (used_is (config_in f.description) v made i j j taken.value y plain) in
@@ -346,11 +319,8 @@ module _ (f : Floor Description) (i : Item) (j : ℕ) (e : Event) (plain : is_ch
       → IsOf f q → q.view ≡ seeing q.view.seen (gave b.view i)
       → Makes f.description (GivesItem b.view.thread i ∷ []) b.view q.view → Used f i e p q
   uses p a b q ticket ready room taken noted =
-      let same : Noted f.description ticket e j taken.value a.view b.view =
-      noted ∙ ap (λ o. seeing b.view.seen
-      (record (stamped (config_in f.description) a.view (entry_by a.view.thread ticket e)) { out = o }))
-      (taken_out f.description p.view a.view i j taken) in
-      uses_changed p a b q ticket taken.value ready room taken same
+      uses_changed p a b q ticket taken.value ready room taken
+      (noted_same f.description i j e p.view a.view b.view ticket taken noted)
 
   -- the same where the entry changed the value
   pub uses_change : (p a b q : Pass Knowledge) (ticket : ℕ) → IsReady f p → 1 ≤ p.view.spare → Takes f.description i j p.view a.view → b.view ≡ seeing b.view.seen (stamped_change (config_in f.description) a.view (entry_by a.view.thread ticket e))
@@ -358,22 +328,8 @@ module _ (f : Floor Description) (i : Item) (j : ℕ) (e : Event) (plain : is_ch
       → q.view ≡ seeing q.view.seen (gave b.view i)
       → Makes f.description (GivesItem b.view.thread i ∷ []) b.view q.view → Used f i e p q
   uses_change p a b q ticket ready room taken noted =
-      let same : Noted f.description ticket e j (changed e taken.value) a.view b.view =
-      noted ∙ ap (λ o. seeing b.view.seen
-      (record (stamped (config_in f.description) a.view (entry_by a.view.thread ticket e)) {
-        out = last_changed e
-            o;
-      })) (taken_out f.description p.view a.view i j taken) in
-      uses_changed p a b q ticket (changed e taken.value) ready room taken same
-
--- what is out once an entry has changed it
-pub changed_out : (c : Config) (floor : Description) (v a b : Knowledge) (i : Item) (j : ℕ) (entry : Entry)
-    (taken : Takes floor i j v a) → b ≡ seeing b.seen (stamped_change c a entry)
-    → b.out ≡ (j, changed entry.event taken.value) ∷ rest b.out
-changed_out c floor v a b i j entry taken is =
-    let same : b.out ≡ (j, changed entry.event taken.value) ∷ rest a.out = ap (λ (w : Knowledge). w.out) is
-    ∙ ap (last_changed entry.event) (taken_out floor v a i j taken) in
-    subst (λ o. o ≡ (j, changed entry.event taken.value) ∷ rest o) (sym same) refl
+      uses_changed p a b q ticket (changed e taken.value) ready room taken
+      (noted_changed f.description i j e p.view a.view b.view ticket taken noted)
 
 -- 6. Behind a gain with its entry
 
@@ -382,20 +338,7 @@ abbrev pub gain_event : Held → Event
 gain_event h = cond h.by_try (Tried h.l h.mode) (Locked h.l h.mode)
 
 idle_gained : (v : Knowledge) (h : Held) → IsIdle v → IsIdle (gained v h)
-idle_gained v h i = record {
-  runs = i.runs;
-  nothing_out = i.nothing_out;
-  no_walk = i.no_walk;
-  unmarked = i.unmarked;
-  uncounted = i.uncounted;
-  wants_nothing = refl;
-  takes_nothing = i.takes_nothing;
-  no_round = refl;
-  no_looks = refl;
-  unnoted = i.unnoted;
-  going = i.going;
-  no_wait = i.no_wait;
-}
+idle_gained v h i = assumption i
 
 -- a section that begins, or else the one before
 begins_or : (b : Bool) (mode : Mode) (x : Hold) → replaced (cond b (Holds mode) NotHeld) x ≡ cond b (Holds mode) x
@@ -505,20 +448,7 @@ module _ (floor : Description) (l : ℕ) (mode : Mode) (v : Knowledge) (h : IsLe
     pub rest_left : hold_in (without_lock l v.share.held) l ≡ NotHeld → IsAtRest floor left
     rest_left unheld =
         let i = h.about in
-        at_rest floor left record {
-          runs = i.runs;
-          nothing_out = i.nothing_out;
-          no_walk = i.no_walk;
-          unmarked = i.unmarked;
-          uncounted = i.uncounted;
-          wants_nothing = i.wants_nothing;
-          takes_nothing = i.takes_nothing;
-          no_round = i.no_round;
-          no_looks = i.no_looks;
-          unnoted = i.unnoted;
-          going = i.going;
-          no_wait = i.no_wait;
-        } refl sections begun
+        at_rest floor left (assumption i) refl sections begun
       where
         sections : Sectioned floor left
         sections k =

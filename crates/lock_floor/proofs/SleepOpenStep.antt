@@ -125,7 +125,7 @@ module _ (floor : Description) (s : State) (t l : ℕ) (sleeps : is_turnstile ((
   record_shown : (b : Box ThreadRec Global) → RepresentsRecord b.value (record_in s t)
       → RepresentsRecord b.value (record_in n t)
   unfolding after_open_sleep
-  record_shown b h = record { columns = h.columns; one_loan_each = h.one_loan_each }
+  record_shown b h = assumption h
 
   chain_shown : Lawful c s → (side : Side) → side ≡ its_side → (chain : List (QueueName × SleepQueue))
       → RepresentsSleepChain floor k chain (objects_in s)

@@ -17,11 +17,23 @@ use Rattle.floor_table.specs.declared.description.Description.{Description}
 use Rattle.floor_table.specs.declared.slot.Slot.{Slot}
 use Rattle.floor_table.specs.Places.{slot_of}
 use Rattle.floor_table.specs.Views.{Role, Knowledge, seeing}
+use Rattle.lock_floor.specs.Floors.{Floor, Pass}
 use Rattle.lock_floor.specs.Marks.{AreMarked}
+use Rattle.lock_floor.specs.Passes.{IsOf}
 use Rattle.lock_floor.specs.Ties.{IsTied}
 use Rattle.lock_floor.specs.Views.{looked, put_down, took, gave, stamped}
 use Rattle.lock_floor.proofs.Looking.{Looked}
 use Rattle.lock_floor.proofs.Taking.{Taken}
+
+-- a pass is the floor's behind a call, too
+pub of_floor_still : (f : Floor Description) (old inside new : Pass Knowledge) → inside ≡ old → IsOf f old
+    → new.table ≡ inside.table → new.view.description ≡ inside.view.description → new.finished ≡ inside.finished
+    → IsOf f new
+of_floor_still f old inside new same own table description finished = record {
+  table = table ∙ ap (λ (p : Pass Knowledge). p.table) same ∙ own.table;
+  description = description ∙ ap (λ (p : Pass Knowledge). p.view.description) same ∙ own.description;
+  unfinished = finished ∙ ap (λ (p : Pass Knowledge). p.finished) same ∙ own.unfinished;
+}
 
 -- what of a seat's knowledge an entry alone changes, or no step
 abbrev Lasting : Type 0
@@ -79,22 +91,8 @@ pub tied_without : (who l : ℕ) (locks left : Vec Held) (marked : Marked) (book
     → behind ≡ (seeing behind.0.seen (put_down me.0 l), me.1) → left.items ≡ without_lock l locks.items
     → 8 ≤ vec_capacity left → IsTied who left marked book fin behind
 tied_without who l locks left marked book fin me behind h e items room =
-    subst (IsTied who left marked book fin) (sym e) record {
-      role = h.role;
-      thread = h.thread;
-      of_floor = h.of_floor;
-      few = h.few;
-      held = items ∙ ap (without_lock l) h.held;
-      room = room;
-      marks = h.marks;
-      log = h.log;
-      spare = h.spare;
-      out = h.out;
-      done = h.done;
-      runs = h.runs;
-      rests = h.rests;
-      bare = λ q. ap (without_lock l) (h.bare q);
-    }
+    let bare : fin ≡ true → without_lock l me.0.share.held ≡ [] = λ q. ap (without_lock l) (h.bare q) in
+    subst (IsTied who left marked book fin) (sym e) (assumption (items ∙ ap (without_lock l) h.held, bare, h))
 
 -- after a try to take what a place has
 pub tied_taken : (who : ℕ) (locks : Vec Held) (marked : Marked) (book : Book) (fin : Bool)

@@ -1,6 +1,6 @@
 -- Calls that wait for a record or a cell, over their tries: a thread that found the item out so far is ready still, and
 -- what a try makes then it makes from what the thread knew before.
-use Rattle.std.proofs.Common.{◌≡◌, ℕ, List, [], ◌∷◌, sym, ap, ◌∙◌, subst}
+use Rattle.std.proofs.Common.{◌≡◌, ℕ, [], ◌∷◌, sym, subst}
 use Rattle.lock_model.specs.declared.event.Event.{Event}
 use Rattle.lock_state.specs.Steps.{TakesItem}
 use Rattle.lock_state.specs.Steps.Items.{Item}

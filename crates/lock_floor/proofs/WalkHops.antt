@@ -60,7 +60,7 @@ has_turnstiles floor v a can taken =
       settled = λ e. can.settled (sym (ap (λ (k : Knowledge). k.pose) taken.view) ∙ e);
       no_round = ap (λ (k : Knowledge). k.share.doing.round) taken.view ∙ ap in_its_chain can.no_round;
       going = subst IsGoing (sym taken.view)
-          record { awake = can.going.awake; unended = can.going.unended; stamped = can.going.stamped };
+          assumption can.going;
       chain = chain.0;
       out = ap (λ (k : Knowledge). k.out) taken.view
           ∙ (λ i. (turnstiles_place floor, chain.1 i) ∷ can.nothing_out i);
@@ -102,7 +102,7 @@ module _ (floor : Description) (a : Knowledge) (m : HasTurnstilesOut floor a) wh
       ended_may_give = may_give_turnstiles floor b m.one_chain
           (λ e. m.settled (sym (ap (λ (k : Knowledge). k.pose) view) ∙ e))
           (subst IsGoing (sym view)
-          record { awake = m.going.awake; unended = m.going.unended; stamped = m.going.stamped })
+          assumption m.going)
           (Turnstiles m.chain) (ap (λ (k : Knowledge). k.share.doing.round) view ∙ m.no_round) ended_out
 
       pub ended_hop : (e : Knowledge) → e ≡ seeing e.seen (gave b turnstiles)
@@ -147,7 +147,7 @@ module _ (floor : Description) (a : Knowledge) (m : HasTurnstilesOut floor a) wh
 
     b_going : IsGoing b
     b_going = subst IsGoing (sym has.view)
-        record { awake = m.going.awake; unended = m.going.unended; stamped = m.going.stamped }
+        assumption m.going
 
     b_round : b.share.doing.round ≡ None
     b_round = ap (λ (k : Knowledge). k.share.doing.round) has.view ∙ m.no_round
@@ -202,7 +202,7 @@ module _ (floor : Description) (a : Knowledge) (m : HasTurnstilesOut floor a) wh
 
       k_going : IsGoing k
       k_going = subst IsGoing (sym its.view)
-          record { awake = b_going.awake; unended = b_going.unended; stamped = b_going.stamped }
+          assumption b_going
 
       -- it had counted nobody in when it took the record
       k_uncounted : k.share.doing.counting ≡ None
@@ -226,7 +226,7 @@ module _ (floor : Description) (a : Knowledge) (m : HasTurnstilesOut floor a) wh
         may_give_back = may_give_turnstiles floor d m.one_chain
             (λ e. k_settled (sym (ap (λ (x : Knowledge). x.pose) gave_one) ∙ e))
             (subst IsGoing (sym gave_one)
-            record { awake = k_going.awake; unended = k_going.unended; stamped = k_going.stamped })
+            assumption k_going)
             (Turnstiles its.chain)
             (ap (λ (x : Knowledge). x.share.doing.round) gave_one
             ∙ ap (λ (x : Knowledge). x.share.doing.round) its.view ∙ b_round) d_out

@@ -1,4 +1,4 @@
-use Rattle.std.proofs.Common.{◌≡◌, ℕ, sym, ap, ◌∙◌, subst}
+use Rattle.std.proofs.Common.{◌≡◌, ℕ, refl, sym, ap, ◌∙◌, subst}
 use Rattle.atomic_table.specs.Table.{Me, Allows}
 use Rattle.lock_model.specs.declared.plan.QueueName.{QueueName}
 use Rattle.floor_table.specs.Places.{spot, latch_line}
@@ -11,6 +11,7 @@ use Rattle.lock_floor.specs.Floors.{Floor, Pass}
 use Rattle.lock_floor.specs.Waits.{chain_place}
 use Rattle.lock_floor.proofs.AbortCall.{before, call_view, call_tied, call_aborts}
 use Rattle.lock_floor.proofs.AbortStep.{ToldAborted, abort_allowed}
+use Rattle.lock_floor.proofs.Tied.{of_floor_still}
 use Rattle.lock_floor.proofs.aborting.FloorOf+Slot+View+Description+Law.abort.Goals as goal
 
 -- what the call needs, on the floor and the pass as they are inside
@@ -58,18 +59,13 @@ invariant_of-pass c =
     c.pass.invariant (mine _ _ _ _ c.self.view_is c.pass.view_is c.args.q c.requires.own.description)
 
 pub returns-clause-own : goal.returns-clause-own
-returns-clause-own c = record {
-  table = c.take_sleeper-woken.ensures.own ∙ c.abort_off.ensures.own
-      ∙ ap (λ (p : Pass Knowledge). p.table) c.pass.view_is ∙ c.requires.own.table;
-  description = ap (λ (w : Knowledge). w.description)
-      (call_view c.self.inside.board.shared.key c.pass.inside.seat.me c.abort_off.new.seat.me c.args.q
-      c.abort_off.ensures.told.1.side c.args.t.0 c.abort_off.ensures.told.1.off c.chain_slot-at.result
-      (c.chain_slot-at.ensures.place ∙ place_inside _ _ _ _ c.self.view_is c.pass.view_is c.args.q)
-      c.pass.invariant.out c.take_sleeper-woken.new.seat.me c.take_sleeper-woken.result
-      c.take_sleeper-woken.ensures.view c.take_sleeper-woken.ensures.out)
-      ∙ ap (λ (p : Pass Knowledge). p.view.description) c.pass.view_is ∙ c.requires.own.description;
-  unfinished = ap (λ (p : Pass Knowledge). p.finished) c.pass.view_is ∙ c.requires.own.unfinished;
-}
+returns-clause-own c =
+    of_floor_still _ _ _ _ c.pass.view_is c.requires.own (c.take_sleeper-woken.ensures.own ∙ c.abort_off.ensures.own)
+    (ap (λ (w : Knowledge). w.description) (call_view c.self.inside.board.shared.key c.pass.inside.seat.me
+    c.abort_off.new.seat.me c.args.q c.abort_off.ensures.told.1.side c.args.t.0 c.abort_off.ensures.told.1.off
+    c.chain_slot-at.result (c.chain_slot-at.ensures.place ∙ place_inside _ _ _ _ c.self.view_is c.pass.view_is
+    c.args.q) c.pass.invariant.out c.take_sleeper-woken.new.seat.me c.take_sleeper-woken.result
+    c.take_sleeper-woken.ensures.view c.take_sleeper-woken.ensures.out)) refl
 
 pub returns-clause-aborts : goal.returns-clause-aborts
 returns-clause-aborts c =

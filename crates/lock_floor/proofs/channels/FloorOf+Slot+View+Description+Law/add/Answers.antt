@@ -1,4 +1,4 @@
-use Rattle.std.proofs.Common.{◌≡◌, ℕ, sym, ap, ◌∙◌, subst}
+use Rattle.std.proofs.Common.{◌≡◌, ℕ, refl, sym, ap, ◌∙◌, subst}
 use Rattle.atomic_table.specs.Table.{Me, Allows}
 use Rattle.lock_model.specs.Queues.{chan_queue}
 use Rattle.floor_table.specs.Places.{spot, latch_line}
@@ -11,6 +11,7 @@ use Rattle.lock_floor.specs.Sleeps.{MayAddItself, AddsItself}
 use Rattle.lock_floor.specs.Waits.{chain_place}
 use Rattle.lock_floor.proofs.AddCall.{before, its_work, call_tied, call_adds}
 use Rattle.lock_floor.proofs.AddStep.{ToldAdded, add_allowed}
+use Rattle.lock_floor.proofs.Tied.{of_floor_still}
 use Rattle.lock_floor.proofs.channels.FloorOf+Slot+View+Description+Law.add.Goals as goal
 
 -- what the call needs, on the floor and the pass as they are inside
@@ -54,18 +55,13 @@ invariant_of-pass c =
     c.pass.invariant
 
 pub returns-clause-own : goal.returns-clause-own
-returns-clause-own c = record {
-  table = c.lie_down.ensures.own ∙ c.added_to.ensures.own
-      ∙ ap (λ (p : Pass Knowledge). p.table) c.pass.view_is ∙ c.requires.own.table;
-  description = ap (λ (w : Knowledge). w.description)
-      (its_work c.self.inside.board.shared.key c.pass.inside.seat.me c.added_to.new.seat.me c.args.d.0
-      c.added_to.ensures.told.1 c.from-own.result c.chain_slot-at.result
-      (c.from-own.ensures ∙ c.pass.invariant.thread)
-      (c.chain_slot-at.ensures.place ∙ place_inside _ _ _ _ c.self.view_is c.pass.view_is c.args.d.0)
-      c.pass.invariant.out c.lie_down.new.seat.me c.lie_down.ensures.view c.lie_down.ensures.out).view
-      ∙ ap (λ (p : Pass Knowledge). p.view.description) c.pass.view_is ∙ c.requires.own.description;
-  unfinished = ap (λ (p : Pass Knowledge). p.finished) c.pass.view_is ∙ c.requires.own.unfinished;
-}
+returns-clause-own c =
+    of_floor_still _ _ _ _ c.pass.view_is c.requires.own (c.lie_down.ensures.own ∙ c.added_to.ensures.own)
+    (ap (λ (w : Knowledge). w.description) (its_work c.self.inside.board.shared.key c.pass.inside.seat.me
+    c.added_to.new.seat.me c.args.d.0 c.added_to.ensures.told.1 c.from-own.result c.chain_slot-at.result
+    (c.from-own.ensures ∙ c.pass.invariant.thread) (c.chain_slot-at.ensures.place ∙ place_inside _ _ _ _
+    c.self.view_is c.pass.view_is c.args.d.0) c.pass.invariant.out c.lie_down.new.seat.me c.lie_down.ensures.view
+    c.lie_down.ensures.out).view) refl
 
 pub returns-clause-adds : goal.returns-clause-adds
 returns-clause-adds c =

@@ -1,4 +1,4 @@
-use Rattle.std.proofs.Common.{◌≡◌, ℕ, Bool, sym, ap, ◌∙◌, subst}
+use Rattle.std.proofs.Common.{◌≡◌, ℕ, Bool, refl, sym, ap, ◌∙◌, subst}
 use Rattle.atomic_table.specs.Table.{Me, Allows}
 use Rattle.lock_model.specs.Queues.{chan_queue}
 use Rattle.floor_table.specs.Places.{spot, latch_line}
@@ -11,6 +11,7 @@ use Rattle.lock_floor.specs.Sleeps.{MayWakeSleepers, WakesSleepers}
 use Rattle.lock_floor.specs.Waits.{chain_place}
 use Rattle.lock_floor.proofs.WakeUpCall.{before, few_bits, call_view, call_tied, call_wakes}
 use Rattle.lock_floor.proofs.WakeUpStep.{ToldWoken, wake_allowed}
+use Rattle.lock_floor.proofs.Tied.{of_floor_still}
 use Rattle.lock_floor.proofs.channels.FloorOf+Slot+View+Description+Law.wake.Goals as goal
 
 -- what the call needs, on the floor and the pass as they are inside
@@ -66,18 +67,13 @@ invariant_of-pass c =
     c.pass.invariant (mine _ _ _ _ c.self.view_is c.pass.view_is c.requires.own.description)
 
 pub returns-clause-own : goal.returns-clause-own
-returns-clause-own c = record {
-  table = c.take_sleepers-woken.ensures.own ∙ c.woken_off.ensures.own
-      ∙ ap (λ (p : Pass Knowledge). p.table) c.pass.view_is ∙ c.requires.own.table;
-  description = ap (λ (w : Knowledge). w.description)
-      (call_view c.self.inside.board.shared.key c.pass.inside.seat.me c.woken_off.new.seat.me c.args.d.0 c.args.all
-      c.woken_off.ensures.told.1 c.chain_slot-at.result
-      (c.chain_slot-at.ensures.place ∙ place_inside _ _ _ _ c.self.view_is c.pass.view_is c.args.d.0)
-      c.pass.invariant.out c.take_sleepers-woken.new.seat.me c.take_sleepers-woken.result
-      c.take_sleepers-woken.ensures.view c.take_sleepers-woken.ensures.out)
-      ∙ ap (λ (p : Pass Knowledge). p.view.description) c.pass.view_is ∙ c.requires.own.description;
-  unfinished = ap (λ (p : Pass Knowledge). p.finished) c.pass.view_is ∙ c.requires.own.unfinished;
-}
+returns-clause-own c =
+    of_floor_still _ _ _ _ c.pass.view_is c.requires.own (c.take_sleepers-woken.ensures.own ∙ c.woken_off.ensures.own)
+    (ap (λ (w : Knowledge). w.description) (call_view c.self.inside.board.shared.key c.pass.inside.seat.me
+    c.woken_off.new.seat.me c.args.d.0 c.args.all c.woken_off.ensures.told.1 c.chain_slot-at.result
+    (c.chain_slot-at.ensures.place ∙ place_inside _ _ _ _ c.self.view_is c.pass.view_is c.args.d.0)
+    c.pass.invariant.out c.take_sleepers-woken.new.seat.me c.take_sleepers-woken.result
+    c.take_sleepers-woken.ensures.view c.take_sleepers-woken.ensures.out)) refl
 
 pub returns-clause-wakes : goal.returns-clause-wakes
 returns-clause-wakes c =

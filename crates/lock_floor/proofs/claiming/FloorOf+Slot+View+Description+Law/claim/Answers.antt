@@ -1,17 +1,15 @@
 use Rattle.std.proofs.Common.{◌≡◌, ℕ, ◌<◌, [], ◌∷◌, ◌++◌, length, refl, sym, ap, ◌∙◌, subst, arith}
 use Rattle.lock_model.specs.Queues.{lock_queue}
 use Rattle.lock_model.specs.Words.{word_of, claimed as says_claimed}
-use Rattle.lock_state.specs.Steps.{Looks}
-use Rattle.floor_table.specs.Steps.{MayMake}
 use Rattle.floor_table.specs.Views.{Knowledge}
 use Rattle.floor_table.specs.declared.description.Description.{Description}
 use Rattle.lock_floor.specs.Claims.{MayClaimIt, ClaimsIt, as_claimed, claimed, out_claimed}
 use Rattle.lock_floor.specs.Floors.{Floor, Pass}
-use Rattle.lock_floor.specs.Views.{counts}
 use Rattle.lock_floor.specs.Waits.{chain_place}
+use Rattle.lock_floor.proofs.Looking.{may_look_inside}
 use Rattle.lock_floor.proofs.ClaimCall.{its_out, its_work}
 use Rattle.lock_floor.proofs.ClaimStep.{claim_allowed}
-use Rattle.lock_floor.proofs.Tied.{tied_looked, tied_then}
+use Rattle.lock_floor.proofs.Tied.{of_floor_still, tied_looked, tied_then}
 use Rattle.lock_floor.proofs.claiming.FloorOf+Slot+View+Description+Law.claim.Goals as goal
 
 pub claim_word-found-requires-clause-may : goal.claim_word-found-requires-clause-may
@@ -21,9 +19,7 @@ claim_word-found-requires-clause-may c =
     let low = subst (λ (f : Floor Description). l < length f.description.locks) (sym c.self.view_is) c.requires.lock in
     let may = subst (λ (z : Floor Description × Pass Knowledge). MayClaimIt z.0.description l c.args.by_try
     (word_of seen) z.1.view) (λ i. (sym c.self.view_is i, sym c.pass.view_is i)) c.requires.may in
-    let may_look = subst (λ (z : Floor Description × Pass Knowledge). MayMake z.0.description z.1.view (λ s. Unit {0})
-    (Looks z.1.view.thread l (counts z.1.view l) ∷ [])) (λ i. (sym c.self.view_is i, sym c.pass.view_is i))
-    c.requires.may_look in
+    let may_look = may_look_inside _ _ _ _ c.self.view_is c.pass.view_is l c.requires.may_look in
     let says = c.claimed-new.ensures.word ∙ ap (says_claimed (word_of seen)) c.pass.invariant.thread in
     claim_allowed c.self.inside.board.shared.key c.pass.inside.seat.me c.pass.invariant.role
     c.self.inside.board.shared.table_id.slots c.pass.inside.seat.id seen c.claimed-new.result c.args.l c.args.by_try low
@@ -77,13 +73,9 @@ invariant_of-pass-2 c =
     (omega (arith, h.room, c.push_reserved.ensures.capacity)) h.marks
 
 pub returns-clause-own : goal.returns-clause-own
-returns-clause-own c = record {
-  table = c.own_it.ensures.own ∙ c.claim_word-found.ensures.own ∙ ap (λ (p : Pass Knowledge). p.table) c.pass.view_is
-      ∙ c.requires.own.table;
-  description = ap (λ (w : Knowledge). w.description) (its_claim c).0.view
-      ∙ ap (λ (p : Pass Knowledge). p.view.description) c.pass.view_is ∙ c.requires.own.description;
-  unfinished = ap (λ (p : Pass Knowledge). p.finished) c.pass.view_is ∙ c.requires.own.unfinished;
-}
+returns-clause-own c =
+    of_floor_still _ _ _ _ c.pass.view_is c.requires.own (c.own_it.ensures.own ∙ c.claim_word-found.ensures.own)
+    (ap (λ (w : Knowledge). w.description) (its_claim c).0.view) refl
 
 pub returns-clause-claims : goal.returns-clause-claims
 returns-clause-claims c =

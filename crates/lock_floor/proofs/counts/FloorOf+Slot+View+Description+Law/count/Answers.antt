@@ -1,4 +1,4 @@
-use Rattle.std.proofs.Common.{◌≡◌, [], ◌∷◌, sym, ap, ◌∙◌, subst}
+use Rattle.std.proofs.Common.{◌≡◌, [], ◌∷◌, refl, sym, ap, ◌∙◌, subst}
 use Rattle.atomic_table.specs.Table.{Me}
 use Rattle.floor_table.specs.declared.description.Description.{Description}
 use Rattle.floor_table.specs.declared.slot.Slot.{Slot}
@@ -7,7 +7,7 @@ use Rattle.floor_table.specs.Views.{Knowledge, seeing}
 use Rattle.lock_floor.specs.Counts.{counted, counts_by}
 use Rattle.lock_floor.specs.Floors.{Floor, Pass}
 use Rattle.lock_floor.proofs.CountStep.{count_allowed, count_stays}
-use Rattle.lock_floor.proofs.Tied.{tied_on}
+use Rattle.lock_floor.proofs.Tied.{of_floor_still, tied_on}
 use Rattle.lock_floor.proofs.counts.FloorOf+Slot+View+Description+Law.count.Goals as goal
 
 pub add_awake-requires-clause-may : goal.add_awake-requires-clause-may
@@ -39,13 +39,10 @@ invariant_of-pass c =
     (λ i. (k.role i, k.description i, k.thread i, k.log i, k.spare i)) k.held k.marked
 
 pub returns-clause-own : goal.returns-clause-own
-returns-clause-own c = record {
-  table = c.add_awake.ensures.own ∙ ap (λ (p : Pass Knowledge). p.table) c.pass.view_is ∙ c.requires.own.table;
-  description = ap (λ (m : Me Slot Knowledge). m.0.description) (behind_is c)
-      ∙ (count_stays c.args.how c.add_awake.result c.pass.inside.seat.me.0).description
-      ∙ ap (λ (p : Pass Knowledge). p.view.description) c.pass.view_is ∙ c.requires.own.description;
-  unfinished = ap (λ (p : Pass Knowledge). p.finished) c.pass.view_is ∙ c.requires.own.unfinished;
-}
+returns-clause-own c =
+    of_floor_still _ _ _ _ c.pass.view_is c.requires.own c.add_awake.ensures.own
+    (ap (λ (m : Me Slot Knowledge). m.0.description) (behind_is c) ∙ (count_stays c.args.how c.add_awake.result
+    c.pass.inside.seat.me.0).description) refl
 
 pub returns-clause-view : goal.returns-clause-view
 returns-clause-view c = ap (λ (m : Me Slot Knowledge). m.0) (behind_is c)

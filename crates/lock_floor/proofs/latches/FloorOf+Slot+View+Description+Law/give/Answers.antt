@@ -1,4 +1,4 @@
-use Rattle.std.proofs.Common.{◌≡◌, Some, [], ◌∷◌, sym, ap, ◌∙◌, subst}
+use Rattle.std.proofs.Common.{◌≡◌, Some, [], ◌∷◌, refl, sym, ap, ◌∙◌, subst}
 use Rattle.atomic_table.specs.Table.{Me, rest}
 use Rattle.lock_state.specs.Steps.{GivesItem}
 use Rattle.lock_state.specs.Steps.Items.{Item}
@@ -10,7 +10,7 @@ use Rattle.floor_table.specs.Views.{Knowledge, seeing}
 use Rattle.lock_floor.specs.Floors.{Floor, Pass}
 use Rattle.lock_floor.specs.Views.{gave}
 use Rattle.lock_floor.proofs.Taking.{give_allowed}
-use Rattle.lock_floor.proofs.Tied.{tied_given}
+use Rattle.lock_floor.proofs.Tied.{of_floor_still, tied_given}
 use Rattle.lock_floor.proofs.latches.FloorOf+Slot+View+Description+Law.give.Goals as goal
 
 pub give_latch-requires-clause-may : goal.give_latch-requires-clause-may
@@ -45,12 +45,9 @@ invariant_of-pass c =
     (ap (λ (p : Pass Knowledge). p.finished) c.pass.view_is ∙ c.requires.own.unfinished) c.pass.invariant (behind_is c)
 
 pub returns-clause-own : goal.returns-clause-own
-returns-clause-own c = record {
-  table = c.give_latch.ensures.own ∙ ap (λ (p : Pass Knowledge). p.table) c.pass.view_is ∙ c.requires.own.table;
-  description = ap (λ (m : Me Slot Knowledge). m.0.description) (behind_is c)
-      ∙ ap (λ (p : Pass Knowledge). p.view.description) c.pass.view_is ∙ c.requires.own.description;
-  unfinished = ap (λ (p : Pass Knowledge). p.finished) c.pass.view_is ∙ c.requires.own.unfinished;
-}
+returns-clause-own c =
+    of_floor_still _ _ _ _ c.pass.view_is c.requires.own c.give_latch.ensures.own
+    (ap (λ (m : Me Slot Knowledge). m.0.description) (behind_is c)) refl
 
 pub returns-clause-view : goal.returns-clause-view
 returns-clause-view c i place =

@@ -1,4 +1,4 @@
-use Rattle.std.proofs.Common.{◌≡◌, ◌≢◌, ℕ, suc, eqb, eq-eqb, true, false, Some, None, [], ◌∷◌, sym, ap, ◌∙◌, subst}
+use Rattle.std.proofs.Common.{◌≡◌, ◌≢◌, ℕ, suc, eqb, eq-eqb, true, false, Some, None, [], ◌∷◌, refl, sym, ap, ◌∙◌, subst}
 use Rattle.std.proofs.lemmas.Bool.{eqb-true}
 use prog.Atomic.{either}
 use Rattle.atomic_table.specs.Table.{Me, Allows}
@@ -14,7 +14,7 @@ use Rattle.lock_floor.specs.Floors.{Floor, Pass}
 use Rattle.lock_floor.specs.Ties.{IsTied}
 use Rattle.lock_floor.specs.Latches.{FindsOut, Takes}
 use Rattle.lock_floor.proofs.Taking.{Taken, take_allowed}
-use Rattle.lock_floor.proofs.Tied.{tied_taken}
+use Rattle.lock_floor.proofs.Tied.{of_floor_still, tied_taken}
 use Rattle.lock_floor.proofs.latches.FloorOf+Slot+View+Description+Law.try_take.Goals as goal
 
 pub take_latch-requires-clause-may : goal.take_latch-requires-clause-may
@@ -50,12 +50,8 @@ pub invariant_of-pass : goal.invariant_of-pass
 invariant_of-pass c = (tied c).0
 
 pub returns-clause-own : goal.returns-clause-own
-returns-clause-own c = record {
-  table = c.take_latch.ensures.own ∙ ap (λ (p : Pass Knowledge). p.table) c.pass.view_is ∙ c.requires.own.table;
-  description =
-      (tied c).1 ∙ ap (λ (p : Pass Knowledge). p.view.description) c.pass.view_is ∙ c.requires.own.description;
-  unfinished = ap (λ (p : Pass Knowledge). p.finished) c.pass.view_is ∙ c.requires.own.unfinished;
-}
+returns-clause-own c =
+    of_floor_still _ _ _ _ c.pass.view_is c.requires.own c.take_latch.ensures.own ((tied c).1) refl
 
 pub returns-clause-out : goal.returns-clause-out
 returns-clause-out c hit i place =

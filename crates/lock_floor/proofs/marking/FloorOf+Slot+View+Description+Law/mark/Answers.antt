@@ -1,4 +1,4 @@
-use Rattle.std.proofs.Common.{◌≡◌, false, sym, ap, ◌∙◌, subst}
+use Rattle.std.proofs.Common.{◌≡◌, false, refl, sym, ap, ◌∙◌, subst}
 use Rattle.atomic_table.specs.Table.{Me}
 use Rattle.floor_table.specs.Views.{Knowledge}
 use Rattle.floor_table.specs.declared.description.Description.{Description}
@@ -7,6 +7,7 @@ use Rattle.lock_objects.specs.declared.marked.Marked.{Marked}
 use Rattle.lock_floor.specs.Floors.{Floor, Pass}
 use Rattle.lock_floor.specs.Marks.{AreMarked, MarksFirst, MayMark}
 use Rattle.lock_floor.proofs.MarkCall.{back_last, call_allowed, call_view, call_marks, call_tied}
+use Rattle.lock_floor.proofs.Tied.{of_floor_still}
 use Rattle.lock_floor.proofs.marking.FloorOf+Slot+View+Description+Law.mark.Goals as goal
 
 -- what the call needs, on the floor and the pass as they are inside
@@ -72,18 +73,12 @@ invariant_of-pass c =
     c.pass.invariant
 
 pub returns-clause-own : goal.returns-clause-own
-returns-clause-own c = record {
-  table = c.say_woken.ensures.own ∙ c.hand_back.ensures.own ∙ ap (λ (p : Pass Knowledge). p.table) c.pass.view_is
-      ∙ c.requires.own.table;
-  description =
-      ap (λ (w : Knowledge). w.description)
-      (call_view (key c) (me c) c.in-Some.woken c.pass.inside.marked c.pop.new.self c.from.result c.thread-u.result.0
-      (need c) (are c) c.in-Some.ensures.some c.pass.invariant.out c.from.ensures c.thread-u.ensures
-      c.hand_back.new.seat.me c.hand_back.ensures.view c.hand_back.ensures.value
-      c.word_for-word.result c.say_woken.new.seat.me c.say_woken.ensures.told)
-      ∙ ap (λ (p : Pass Knowledge). p.view.description) c.pass.view_is ∙ c.requires.own.description;
-  unfinished = going c;
-}
+returns-clause-own c =
+    of_floor_still _ _ _ _ c.pass.view_is c.requires.own (c.say_woken.ensures.own ∙ c.hand_back.ensures.own)
+    (ap (λ (w : Knowledge). w.description) (call_view (key c) (me c) c.in-Some.woken c.pass.inside.marked
+    c.pop.new.self c.from.result c.thread-u.result.0 (need c) (are c) c.in-Some.ensures.some c.pass.invariant.out
+    c.from.ensures c.thread-u.ensures c.hand_back.new.seat.me c.hand_back.ensures.view c.hand_back.ensures.value
+    c.word_for-word.result c.say_woken.new.seat.me c.say_woken.ensures.told)) refl
 
 pub returns-clause-marks : goal.returns-clause-marks
 returns-clause-marks c =

@@ -1,20 +1,18 @@
-use Rattle.std.proofs.Common.{◌≡◌, ℕ, ◌<◌, true, [], ◌∷◌, length, refl, sym, ap, ◌∙◌, subst, arith}
+use Rattle.std.proofs.Common.{◌≡◌, ℕ, ◌<◌, true, length, refl, sym, ap, ◌∙◌, subst, arith}
 use Rattle.lock_model.specs.Queues.{lock_queue}
 use Rattle.lock_model.specs.Words.{word_of, is_turnstile, opened, side_woken}
 use Rattle.lock_objects.specs.declared.marked.Marked.TheVariants.{Waiters}
-use Rattle.lock_state.specs.Steps.{Looks}
 use Rattle.floor_table.specs.Descriptions.{config_in}
-use Rattle.floor_table.specs.Steps.{MayMake}
 use Rattle.floor_table.specs.Views.{Knowledge}
 use Rattle.floor_table.specs.declared.description.Description.{Description}
 use Rattle.lock_floor.specs.Floors.{Floor, Pass}
 use Rattle.lock_floor.specs.Marks.{AreMarked}
 use Rattle.lock_floor.specs.Opens.{HasBothOut, MayOpenUp, OpensUp, marks_opened}
-use Rattle.lock_floor.specs.Views.{counts}
 use Rattle.lock_floor.specs.Waits.{chain_place}
+use Rattle.lock_floor.proofs.Looking.{may_look_inside}
 use Rattle.lock_floor.proofs.OpenCall.{side_told, side_out, its_work, tied_opened}
 use Rattle.lock_floor.proofs.OpenStep.{open_allowed}
-use Rattle.lock_floor.proofs.Tied.{tied_looked}
+use Rattle.lock_floor.proofs.Tied.{of_floor_still, tied_looked}
 use Rattle.lock_floor.proofs.opening.FloorOf+Slot+View+Description+Law.open_up.Goals as goal
 
 pub open_word-found-requires-clause-may : goal.open_word-found-requires-clause-may
@@ -29,9 +27,7 @@ open_word-found-requires-clause-may c =
     (λ i. (sym c.self.view_is i, sym c.pass.view_is i)) c.requires.out in
     let may = subst (λ (z : Floor Description × Pass Knowledge). MayOpenUp z.0.description l (word_of seen) z.1.view)
     (λ i. (sym c.self.view_is i, sym c.pass.view_is i)) c.requires.may in
-    let may_look = subst (λ (z : Floor Description × Pass Knowledge). MayMake z.0.description z.1.view (λ s. Unit {0})
-    (Looks z.1.view.thread l (counts z.1.view l) ∷ [])) (λ i. (sym c.self.view_is i, sym c.pass.view_is i))
-    c.requires.may_look in
+    let may_look = may_look_inside _ _ _ _ c.self.view_is c.pass.view_is l c.requires.may_look in
     let kind = c.kind.ensures ∙ ap (λ (f : Floor Description). (config_in f.description).kind l) (sym c.self.view_is) in
     let says = c.opened.ensures.word ∙ ap (λ k. opened k (word_of seen)) kind in
     open_allowed floor c.pass.inside.seat.me c.pass.invariant.role c.self.inside.board.shared.table_id.slots
@@ -95,13 +91,9 @@ invariant_of-pass-2 c =
     c.leave.ensures.left (omega (arith, c.pass.invariant.room, c.leave.ensures.room))
 
 pub returns-clause-own : goal.returns-clause-own
-returns-clause-own c = record {
-  table = c.take_side-woken.ensures.own ∙ c.open_word-found.ensures.own
-      ∙ ap (λ (p : Pass Knowledge). p.table) c.pass.view_is ∙ c.requires.own.table;
-  description = ap (λ (w : Knowledge). w.description) (its_open c).0.view
-      ∙ ap (λ (p : Pass Knowledge). p.view.description) c.pass.view_is ∙ c.requires.own.description;
-  unfinished = ap (λ (p : Pass Knowledge). p.finished) c.pass.view_is ∙ c.requires.own.unfinished;
-}
+returns-clause-own c =
+    of_floor_still _ _ _ _ c.pass.view_is c.requires.own (c.take_side-woken.ensures.own
+    ∙ c.open_word-found.ensures.own) (ap (λ (w : Knowledge). w.description) (its_open c).0.view) refl
 
 pub returns-clause-opens : goal.returns-clause-opens
 returns-clause-opens c =

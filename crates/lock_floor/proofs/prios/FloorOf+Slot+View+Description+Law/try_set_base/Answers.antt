@@ -1,12 +1,9 @@
-use Rattle.std.proofs.Common.{◌≤◌, [], ◌∷◌, refl, sym, ap, subst, ◌∙◌}
+use Rattle.std.proofs.Common.{◌≤◌, [], ◌∷◌, refl, sym, ap, subst}
 use Rattle.lock_model.specs.declared.event.Event.TheVariants.{Base}
 use Rattle.lock_state.specs.Steps.Items.{RecordOf}
-use Rattle.floor_table.specs.Descriptions.{config_in}
 use Rattle.floor_table.specs.Views.{Knowledge}
-use Rattle.lock_floor.specs.Views.{entry_by}
-use Rattle.lock_floor.proofs.May.{may_give}
 use Rattle.lock_floor.proofs.Priorities.{record_out, may_take_own, may_base}
-use Rattle.lock_floor.proofs.Resting.{Used, uses_change, taken_out, changed_out, wake_gone}
+use Rattle.lock_floor.proofs.Resting.{MayGiveBack, Used, gives_changed, uses_change, taken_out}
 use Rattle.lock_floor.proofs.Tries.{ready_still}
 use Rattle.lock_floor.proofs.prios.FloorOf+Slot+View+Description+Law.try_set_base.Goals as goal
 
@@ -48,40 +45,22 @@ stamp_change-requires-clause-may c =
     let out = record_out floor v.thread j v c.try_take.new.pass.view taken in
     may_base floor v c.try_take.new.pass.view j out.0 place c.requires.ready.rest taken out.1 c.args.prio
 
-pub give-requires-clause-last : goal.give-requires-clause-last
-give-requires-clause-last c =
-    let floor = c.args.self.now.description in
+gives : (c : goal.After-give-arg-1)
+    → MayGiveBack c.args.self.now.description c.record_slot-slot.result c.stamp_change.new.pass.view
+gives c =
     let v : Knowledge = c.args.pass.now.view in
-    let j = c.record_slot-slot.result in
-    let taken = c.try_take.ensures.out c.if-not-try_take.false (RecordOf v.thread) c.record_slot-slot.ensures in
-    let entry = entry_by c.try_take.new.pass.view.thread c.stamp_change.result (Base c.args.prio) in
-    let out = changed_out (config_in floor) floor v c.try_take.new.pass.view c.stamp_change.new.pass.view
-    (RecordOf v.thread) j entry taken c.stamp_change.ensures.view in
-    (_, out)
+    let i = RecordOf v.thread in
+    let place = c.record_slot-slot.ensures in
+    gives_changed c.args.self.now.description i c.record_slot-slot.result (Base c.args.prio) v
+    c.try_take.new.pass.view c.stamp_change.new.pass.view c.stamp_change.result
+    (c.try_take.ensures.out c.if-not-try_take.false i place) place refl c.requires.ready.rest
+    c.stamp_change.ensures.view
+
+pub give-requires-clause-last : goal.give-requires-clause-last
+give-requires-clause-last c = (gives c).last
 
 pub give-requires-clause-may : goal.give-requires-clause-may
-give-requires-clause-may c =
-    let floor = c.args.self.now.description in
-    let v : Knowledge = c.args.pass.now.view in
-    let j = c.record_slot-slot.result in
-    let place = c.record_slot-slot.ensures in
-    let taken = c.try_take.ensures.out c.if-not-try_take.false (RecordOf v.thread) place in
-    let entry = entry_by c.try_take.new.pass.view.thread c.stamp_change.result (Base c.args.prio) in
-    let out = changed_out (config_in floor) floor v c.try_take.new.pass.view c.stamp_change.new.pass.view
-    (RecordOf v.thread) j entry taken c.stamp_change.ensures.view in (
-      RecordOf v.thread,
-      place,
-      may_give floor c.stamp_change.new.pass.view (RecordOf v.thread) j _ place out refl
-          (ap (λ (w : Knowledge). w.pose) c.stamp_change.ensures.view ∙ ap (λ (w : Knowledge). w.pose) taken.view
-          ∙ c.requires.ready.rest.runs)
-          (ap (λ (w : Knowledge). w.share.doing.phase) c.stamp_change.ensures.view
-          ∙ ap (λ (w : Knowledge). w.share.doing.phase) taken.view ∙ c.requires.ready.rest.going.awake)
-          (ap (λ (w : Knowledge). w.share.doing.unstamped) c.stamp_change.ensures.view
-          ∙ wake_gone (Base c.args.prio) _
-          (ap (λ (w : Knowledge). w.share.doing.unstamped) taken.view ∙ c.requires.ready.rest.going.stamped))
-          (ap (λ (w : Knowledge). w.share.doing.counting) c.stamp_change.ensures.view
-          ∙ ap (λ (w : Knowledge). w.share.doing.counting) taken.view ∙ c.requires.ready.rest.uncounted),
-    )
+give-requires-clause-may c = (gives c).may
 
 used : (c : goal.After-give)
     → Used c.args.self.now (RecordOf c.args.pass.now.view.thread) (Base c.args.prio) c.args.pass.now c.give.new.pass

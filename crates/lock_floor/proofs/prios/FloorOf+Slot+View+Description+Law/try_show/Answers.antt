@@ -1,5 +1,4 @@
-use Rattle.std.proofs.Common.{◌≡◌, ◌≤◌, [], ◌∷◌, refl, sym, ap, ◌∙◌, subst}
-use Rattle.atomic_table.specs.Table.{rest}
+use Rattle.std.proofs.Common.{◌≤◌, [], ◌∷◌, refl, sym, ap, ◌∙◌, subst}
 use Rattle.lock_model.specs.declared.event.Event.TheVariants.{Shown}
 use Rattle.lock_state.specs.Steps.{Stamps}
 use Rattle.lock_state.specs.Steps.Items.{RecordOf}
@@ -7,9 +6,8 @@ use Rattle.floor_table.specs.Steps.{MayMake}
 use Rattle.floor_table.specs.Views.{Knowledge}
 use Rattle.lock_floor.specs.Floors.{Pass}
 use Rattle.lock_floor.specs.Latches.{Takes}
-use Rattle.lock_floor.proofs.May.{may_give}
 use Rattle.lock_floor.proofs.Priorities.{record_out, may_take_own, may_show}
-use Rattle.lock_floor.proofs.Resting.{Used, uses, wake_gone}
+use Rattle.lock_floor.proofs.Resting.{MayGiveBack, Used, gives_back, uses}
 use Rattle.lock_floor.proofs.Tries.{ready_still}
 use Rattle.lock_floor.proofs.prios.FloorOf+Slot+View+Description+Law.try_show.Goals as goal
 
@@ -50,44 +48,24 @@ stamp-requires-clause-may c =
     (may_show floor v c.try_take.new.pass.view j out.0 place c.requires.ready.rest taken out.1 base effective shown.0
     shown.1)
 
-pub give-requires-clause-last : goal.give-requires-clause-last
-give-requires-clause-last c =
-    let v : Knowledge = c.args.pass.now.view in
-    let j = c.record_slot-slot.result in
-    let taken = c.try_take.ensures.out c.if-not-try_take.false (RecordOf v.thread) c.record_slot-slot.ensures in
-    let same = ap (λ (w : Knowledge). w.out) c.stamp.ensures.view
-    ∙ ap (λ (p : Pass Knowledge). p.view.out) c.priorities.ensures.same
-    ∙ ap (λ (w : Knowledge). w.out) taken.view in
-    (taken.value, subst (λ o. o ≡ (j, taken.value) ∷ rest o) (sym same) refl)
-
-pub give-requires-clause-may : goal.give-requires-clause-may
-give-requires-clause-may c =
+gives : (c : goal.After-give-arg-1)
+    → MayGiveBack c.args.self.now.description c.record_slot-slot.result c.stamp.new.pass.view
+gives c =
     let floor = c.args.self.now.description in
     let v : Knowledge = c.args.pass.now.view in
+    let i = RecordOf v.thread in
     let j = c.record_slot-slot.result in
     let place = c.record_slot-slot.ensures in
-    let taken = c.try_take.ensures.out c.if-not-try_take.false (RecordOf v.thread) place in
-    let same = ap (λ (w : Knowledge). w.out) c.stamp.ensures.view
-    ∙ ap (λ (p : Pass Knowledge). p.view.out) c.priorities.ensures.same
-    ∙ ap (λ (w : Knowledge). w.out) taken.view in (
-      RecordOf v.thread,
-      place,
-      may_give floor c.stamp.new.pass.view (RecordOf v.thread) j taken.value place
-          (subst (λ o. o ≡ (j, taken.value) ∷ rest o) (sym same) refl) refl
-          (ap (λ (w : Knowledge). w.pose) c.stamp.ensures.view
-          ∙ ap (λ (p : Pass Knowledge). p.view.pose) c.priorities.ensures.same
-          ∙ ap (λ (w : Knowledge). w.pose) taken.view ∙ c.requires.ready.rest.runs)
-          (ap (λ (w : Knowledge). w.share.doing.phase) c.stamp.ensures.view
-          ∙ ap (λ (p : Pass Knowledge). p.view.share.doing.phase) c.priorities.ensures.same
-          ∙ ap (λ (w : Knowledge). w.share.doing.phase) taken.view ∙ c.requires.ready.rest.going.awake)
-          (ap (λ (w : Knowledge). w.share.doing.unstamped) c.stamp.ensures.view
-          ∙ wake_gone (Shown c.priorities.result.0 c.priorities.result.1) _
-          (ap (λ (p : Pass Knowledge). p.view.share.doing.unstamped) c.priorities.ensures.same
-          ∙ ap (λ (w : Knowledge). w.share.doing.unstamped) taken.view ∙ c.requires.ready.rest.going.stamped))
-          (ap (λ (w : Knowledge). w.share.doing.counting) c.stamp.ensures.view
-          ∙ ap (λ (p : Pass Knowledge). p.view.share.doing.counting) c.priorities.ensures.same
-          ∙ ap (λ (w : Knowledge). w.share.doing.counting) taken.view ∙ c.requires.ready.rest.uncounted),
-    )
+    let taken = subst (λ (p : Pass Knowledge). Takes floor i j v p.view) (sym c.priorities.ensures.same)
+    (c.try_take.ensures.out c.if-not-try_take.false i place) in
+    gives_back floor i j (Shown c.priorities.result.0 c.priorities.result.1) v c.priorities.new.pass.view
+    c.stamp.new.pass.view c.stamp.result taken place refl c.requires.ready.rest c.stamp.ensures.view
+
+pub give-requires-clause-last : goal.give-requires-clause-last
+give-requires-clause-last c = (gives c).last
+
+pub give-requires-clause-may : goal.give-requires-clause-may
+give-requires-clause-may c = (gives c).may
 
 used : (c : goal.After-give)
     → Used c.args.self.now (RecordOf c.args.pass.now.view.thread) (Shown c.priorities.result.0 c.priorities.result.1)

@@ -1,12 +1,12 @@
 use Rattle.std.proofs.Common.{◌≡◌, ◌<◌, false, [], ◌∷◌, length, sym, subst}
 use Rattle.lock_model.specs.Words.{word_of, gained}
 use Rattle.lock_model.specs.declared.event.Held.{Held}
-use Rattle.lock_state.specs.Steps.{Seeks, Looks, Gains}
+use Rattle.lock_state.specs.Steps.{Seeks, Gains}
 use Rattle.floor_table.specs.declared.description.Description.{Description}
 use Rattle.floor_table.specs.Steps.{MayMake}
 use Rattle.floor_table.specs.Views.{Knowledge}
 use Rattle.lock_floor.specs.Floors.{Floor, Pass}
-use Rattle.lock_floor.specs.Views.{counts}
+use Rattle.lock_floor.proofs.Looking.{may_look_inside}
 use Rattle.lock_floor.proofs.Beginning.{first_allowed}
 use Rattle.lock_floor.proofs.rounds.FloorOf+Slot+View+Description+Law.gain_first.Goals as goal
 
@@ -19,9 +19,7 @@ gain_word-found-requires-clause-may c new says =
     let may = subst (λ (z : Floor Description × Pass Knowledge). MayMake z.0.description z.1.view
     (λ s. s.word l ≡ word_of seen) (Seeks z.1.view.thread l false ∷ Gains z.1.view.thread l c.args.mode false ∷ []))
     (λ i. (sym c.self.view_is i, sym c.pass.view_is i)) c.requires.may in
-    let may_look = subst (λ (z : Floor Description × Pass Knowledge). MayMake z.0.description z.1.view (λ s. Unit {0})
-    (Looks z.1.view.thread l (counts z.1.view l) ∷ []))
-    (λ i. (sym c.self.view_is i, sym c.pass.view_is i)) c.requires.may_look in
+    let may_look = may_look_inside _ _ _ _ c.self.view_is c.pass.view_is l c.requires.may_look in
     let says_mine = subst (λ t. word_of new ≡ gained (word_of seen) t c.args.mode) c.pass.invariant.thread says in
     first_allowed c.self.inside.board.shared.key c.pass.inside.seat.me c.pass.invariant.role
     c.self.inside.board.shared.table_id.slots c.pass.inside.seat.id seen new hold low says_mine may may_look

@@ -1,21 +1,19 @@
-use Rattle.std.proofs.Common.{◌≡◌, ℕ, ◌<◌, [], ◌∷◌, length, sym, ap, ◌∙◌, subst}
+use Rattle.std.proofs.Common.{◌≡◌, ℕ, ◌<◌, length, refl, sym, ap, ◌∙◌, subst}
 use Rattle.atomic_table.specs.Table.{Me}
 use Rattle.lock_model.specs.Queues.{lock_queue}
 use Rattle.lock_model.specs.Words.{Word, word_of}
 use Rattle.lock_model.specs.declared.plan.Mode.{Mode}
-use Rattle.lock_state.specs.Steps.{Looks}
-use Rattle.floor_table.specs.Steps.{MayMake, Makes}
 use Rattle.floor_table.specs.Views.{Knowledge, seeing}
 use Rattle.floor_table.specs.declared.description.Description.{Description}
 use Rattle.floor_table.specs.declared.slot.Slot.{Slot}
 use Rattle.lock_floor.specs.Floors.{Floor, Pass}
 use Rattle.lock_floor.specs.SleepLocks.{MayEnterAsleep, EntersAsleep}
-use Rattle.lock_floor.specs.Views.{counts, looked}
+use Rattle.lock_floor.specs.Views.{looked}
 use Rattle.lock_floor.specs.Waits.{chain_place}
-use Rattle.lock_floor.proofs.Looking.{Looked}
+use Rattle.lock_floor.proofs.Looking.{Looked, may_look_inside, look_outside}
 use Rattle.lock_floor.proofs.SleepEnterCall.{before, its_work, call_tied, call_enters}
 use Rattle.lock_floor.proofs.SleepEnterStep.{enter_allowed}
-use Rattle.lock_floor.proofs.Tied.{tied_looked}
+use Rattle.lock_floor.proofs.Tied.{of_floor_still, tied_looked}
 use Rattle.lock_floor.proofs.sleeping.FloorOf+Slot+View+Description+Law.enter_sleep.Goals as goal
 
 -- what the call needs, on the floor and the pass as they are inside
@@ -33,9 +31,7 @@ enter_word-found-requires-clause-may c new says =
     let l = c.args.l.0 in
     let low = subst (λ (f : Floor Description). l < length f.description.locks) (sym c.self.view_is) c.requires.lock in
     let may = may_inside _ _ _ _ c.self.view_is c.pass.view_is l c.args.mode (word_of c.args.seen) c.requires.may in
-    let may_look = subst (λ (z : Floor Description × Pass Knowledge). MayMake z.0.description z.1.view (λ s. Unit {0})
-    (Looks z.1.view.thread l (counts z.1.view l) ∷ [])) (λ i. (sym c.self.view_is i, sym c.pass.view_is i))
-    c.requires.may_look in
+    let may_look = may_look_inside _ _ _ _ c.self.view_is c.pass.view_is l c.requires.may_look in
     enter_allowed c.self.inside.board.shared.key c.pass.inside.seat.me c.pass.invariant.role
     c.self.inside.board.shared.table_id.slots c.pass.inside.seat.id c.args.seen new l c.args.mode low may says may_look
 
@@ -61,12 +57,9 @@ invariant_of-pass c =
     c.pass.invariant (its_look c)
 
 pub returns-then-found-seen-clause-own : goal.returns-then-found-seen-clause-own
-returns-then-found-seen-clause-own c = record {
-  table = c.enter_word-found.ensures.own ∙ ap (λ (p : Pass Knowledge). p.table) c.pass.view_is ∙ c.requires.own.table;
-  description = ap (λ (w : Knowledge). w.description) (its_view c)
-      ∙ ap (λ (p : Pass Knowledge). p.view.description) c.pass.view_is ∙ c.requires.own.description;
-  unfinished = ap (λ (p : Pass Knowledge). p.finished) c.pass.view_is ∙ c.requires.own.unfinished;
-}
+returns-then-found-seen-clause-own c =
+    of_floor_still _ _ _ _ c.pass.view_is c.requires.own c.enter_word-found.ensures.own
+    (ap (λ (w : Knowledge). w.description) (its_view c)) refl
 
 pub returns-then-found-seen-clause-found : goal.returns-then-found-seen-clause-found
 returns-then-found-seen-clause-found c = (c.if-found-seen.true, (its_look c).0)
@@ -78,9 +71,7 @@ returns-then-found-seen-clause-looked c =
 
 pub returns-then-found-seen-clause-look : goal.returns-then-found-seen-clause-look
 returns-then-found-seen-clause-look c =
-    subst (λ (z : Floor Description × Pass Knowledge). Makes z.0.description
-    (Looks z.1.view.thread c.args.l.0 (counts z.1.view c.args.l.0) ∷ []) z.1.view c.enter_word-found.new.seat.me.0)
-    (λ i. (c.self.view_is i, c.pass.view_is i)) (its_look c).2
+    look_outside _ _ _ _ c.self.view_is c.pass.view_is c.args.l.0 c.enter_word-found.new.seat.me.0 (its_look c).2
 
 -- it was the one that was seen
 pub lie_down-requires-clause-out : goal.lie_down-requires-clause-out
@@ -103,19 +94,14 @@ invariant_of-pass-2 c =
     c.pass.invariant
 
 pub returns-clause-own : goal.returns-clause-own
-returns-clause-own c = record {
-  table = c.lie_down.ensures.own ∙ c.enter_word-found.ensures.own
-      ∙ ap (λ (p : Pass Knowledge). p.table) c.pass.view_is ∙ c.requires.own.table;
-  description = ap (λ (w : Knowledge). w.description)
-      (its_work c.self.inside.board.shared.key c.pass.inside.seat.me c.enter_word-found.new.seat.me c.args.l.0
-      c.args.mode c.args.seen c.enter_word-found.result c.enter_word-found.ensures.told c.if-found-seen.false
-      c.from-own.result c.chain_slot-at.result (c.from-own.ensures ∙ c.pass.invariant.thread)
-      (c.chain_slot-at.ensures.place ∙ place_inside _ _ _ _ c.self.view_is c.pass.view_is c.args.l.0)
-      c.pass.invariant.out c.side_of.result c.side_of.ensures c.lie_down.new.seat.me c.lie_down.ensures.view
-      c.lie_down.ensures.out).view
-      ∙ ap (λ (p : Pass Knowledge). p.view.description) c.pass.view_is ∙ c.requires.own.description;
-  unfinished = ap (λ (p : Pass Knowledge). p.finished) c.pass.view_is ∙ c.requires.own.unfinished;
-}
+returns-clause-own c =
+    of_floor_still _ _ _ _ c.pass.view_is c.requires.own (c.lie_down.ensures.own ∙ c.enter_word-found.ensures.own)
+    (ap (λ (w : Knowledge). w.description) (its_work c.self.inside.board.shared.key c.pass.inside.seat.me
+    c.enter_word-found.new.seat.me c.args.l.0 c.args.mode c.args.seen c.enter_word-found.result
+    c.enter_word-found.ensures.told c.if-found-seen.false c.from-own.result c.chain_slot-at.result (c.from-own.ensures
+    ∙ c.pass.invariant.thread) (c.chain_slot-at.ensures.place ∙ place_inside _ _ _ _ c.self.view_is c.pass.view_is
+    c.args.l.0) c.pass.invariant.out c.side_of.result c.side_of.ensures c.lie_down.new.seat.me c.lie_down.ensures.view
+    c.lie_down.ensures.out).view) refl
 
 pub returns-clause-enters : goal.returns-clause-enters
 returns-clause-enters c =

@@ -1,23 +1,21 @@
-use Rattle.std.proofs.Common.{◌≡◌, ℕ, ◌<◌, false, [], ◌∷◌, length, refl, sym, ap, ◌∙◌, subst, arith}
+use Rattle.std.proofs.Common.{◌≡◌, ℕ, ◌<◌, false, length, refl, sym, ap, ◌∙◌, subst, arith}
 use Rattle.atomic_table.specs.Table.{Me}
 use Rattle.lock_model.specs.Queues.{lock_queue}
 use Rattle.lock_model.specs.Words.{Word, word_of, is_turnstile, opened, side_woken}
 use Rattle.lock_model.specs.declared.plan.Kind.TheVariants.{Sx}
-use Rattle.lock_state.specs.Steps.{Looks}
 use Rattle.floor_table.specs.Descriptions.{config_in}
-use Rattle.floor_table.specs.Steps.{MayMake, Makes}
 use Rattle.floor_table.specs.Views.{Knowledge, seeing}
 use Rattle.floor_table.specs.declared.description.Description.{Description}
 use Rattle.floor_table.specs.declared.slot.Slot.{Slot}
 use Rattle.lock_floor.specs.Floors.{Floor, Pass}
 use Rattle.lock_floor.specs.SleepLocks.{MayOpenSleepers, OpensSleepers}
-use Rattle.lock_floor.specs.Views.{counts, looked}
+use Rattle.lock_floor.specs.Views.{looked}
 use Rattle.lock_floor.specs.Waits.{chain_place}
-use Rattle.lock_floor.proofs.Looking.{Looked}
+use Rattle.lock_floor.proofs.Looking.{Looked, may_look_inside, look_outside}
 use Rattle.lock_floor.proofs.OpenCall.{side_told}
 use Rattle.lock_floor.proofs.SleepOpenCall.{before, call_view, call_tied, call_opens}
 use Rattle.lock_floor.proofs.SleepOpenStep.{open_allowed}
-use Rattle.lock_floor.proofs.Tied.{tied_looked}
+use Rattle.lock_floor.proofs.Tied.{of_floor_still, tied_looked}
 use Rattle.lock_floor.proofs.sleeping.FloorOf+Slot+View+Description+Law.open_sleep.Goals as goal
 
 -- what the call needs, on the floor and the pass as they are inside
@@ -48,9 +46,7 @@ open_word-found-requires-clause-may c =
     let seen = c.args.seen in
     let low = subst (λ (f : Floor Description). l < length f.description.locks) (sym c.self.view_is) c.requires.lock in
     let may = may_inside _ _ _ _ c.self.view_is c.pass.view_is l (word_of seen) c.requires.may in
-    let may_look = subst (λ (z : Floor Description × Pass Knowledge). MayMake z.0.description z.1.view (λ s. Unit {0})
-    (Looks z.1.view.thread l (counts z.1.view l) ∷ [])) (λ i. (sym c.self.view_is i, sym c.pass.view_is i))
-    c.requires.may_look in
+    let may_look = may_look_inside _ _ _ _ c.self.view_is c.pass.view_is l c.requires.may_look in
     let kind = c.kind.ensures ∙ ap (λ (f : Floor Description). (config_in f.description).kind l) (sym c.self.view_is) in
     let says = c.opened.ensures.word ∙ ap (λ k. opened k (word_of seen)) kind in
     open_allowed floor c.pass.inside.seat.me c.pass.invariant.role c.self.inside.board.shared.table_id.slots
@@ -79,12 +75,9 @@ invariant_of-pass c =
     c.pass.invariant (its_look c)
 
 pub returns-then-found-seen-clause-own : goal.returns-then-found-seen-clause-own
-returns-then-found-seen-clause-own c = record {
-  table = c.open_word-found.ensures.own ∙ ap (λ (p : Pass Knowledge). p.table) c.pass.view_is ∙ c.requires.own.table;
-  description = ap (λ (w : Knowledge). w.description) (its_view c)
-      ∙ ap (λ (p : Pass Knowledge). p.view.description) c.pass.view_is ∙ c.requires.own.description;
-  unfinished = ap (λ (p : Pass Knowledge). p.finished) c.pass.view_is ∙ c.requires.own.unfinished;
-}
+returns-then-found-seen-clause-own c =
+    of_floor_still _ _ _ _ c.pass.view_is c.requires.own c.open_word-found.ensures.own
+    (ap (λ (w : Knowledge). w.description) (its_view c)) refl
 
 pub returns-then-found-seen-clause-found : goal.returns-then-found-seen-clause-found
 returns-then-found-seen-clause-found c = (c.if-found-seen.true, (its_look c).0)
@@ -96,9 +89,7 @@ returns-then-found-seen-clause-looked c =
 
 pub returns-then-found-seen-clause-look : goal.returns-then-found-seen-clause-look
 returns-then-found-seen-clause-look c =
-    subst (λ (z : Floor Description × Pass Knowledge). Makes z.0.description
-    (Looks z.1.view.thread c.args.l.0 (counts z.1.view c.args.l.0) ∷ []) z.1.view c.open_word-found.new.seat.me.0)
-    (λ i. (c.self.view_is i, c.pass.view_is i)) (its_look c).2
+    look_outside _ _ _ _ c.self.view_is c.pass.view_is c.args.l.0 c.open_word-found.new.seat.me.0 (its_look c).2
 
 -- it was the one that was seen
 
@@ -133,23 +124,17 @@ invariant_of-pass-2 c =
     c.leave.ensures.left (omega (arith, c.pass.invariant.room, c.leave.ensures.room))
 
 pub returns-clause-own : goal.returns-clause-own
-returns-clause-own c = record {
-  table = c.turn-2.ensures.0 ∙ c.take_sleepers-woken.ensures.own ∙ c.turn.ensures.0 ∙ c.open_word-found.ensures.own
-      ∙ ap (λ (p : Pass Knowledge). p.table) c.pass.view_is ∙ c.requires.own.table;
-  description = ap (λ (w : Knowledge). w.description)
-      (call_view c.self.inside.board.shared.key c.pass.inside.seat.me c.open_word-found.new.seat.me c.args.l.0
-      c.args.seen c.open_word-found.result c.in_default-Some.side
-      (side_told c.self.inside.board.shared.key c.args.l.0 c.kind.result (word_of c.args.seen) c.opened.result.1
-      c.in_default-Some.side c.opened.ensures.side c.in_default-Some.is-1 c.requires.opens
-      (c.kind.ensures ∙ kind_inside _ _ _ _ c.self.view_is c.pass.view_is c.args.l.0))
-      c.open_word-found.ensures.told c.if-found-seen.false c.chain_slot-at.result
-      (c.chain_slot-at.ensures.place ∙ place_inside _ _ _ _ c.self.view_is c.pass.view_is c.args.l.0)
-      c.pass.invariant.out c.turn.new.self.me c.turn.ensures.2
-      c.take_sleepers-woken.new.seat.me c.take_sleepers-woken.result c.take_sleepers-woken.ensures.view
-      c.take_sleepers-woken.ensures.out c.turn-2.new.self.me c.turn-2.ensures.2)
-      ∙ ap (λ (p : Pass Knowledge). p.view.description) c.pass.view_is ∙ c.requires.own.description;
-  unfinished = ap (λ (p : Pass Knowledge). p.finished) c.pass.view_is ∙ c.requires.own.unfinished;
-}
+returns-clause-own c =
+    of_floor_still _ _ _ _ c.pass.view_is c.requires.own (c.turn-2.ensures.0 ∙ c.take_sleepers-woken.ensures.own
+    ∙ c.turn.ensures.0 ∙ c.open_word-found.ensures.own) (ap (λ (w : Knowledge). w.description) (call_view
+    c.self.inside.board.shared.key c.pass.inside.seat.me c.open_word-found.new.seat.me c.args.l.0 c.args.seen
+    c.open_word-found.result c.in_default-Some.side (side_told c.self.inside.board.shared.key c.args.l.0 c.kind.result
+    (word_of c.args.seen) c.opened.result.1 c.in_default-Some.side c.opened.ensures.side c.in_default-Some.is-1
+    c.requires.opens (c.kind.ensures ∙ kind_inside _ _ _ _ c.self.view_is c.pass.view_is c.args.l.0))
+    c.open_word-found.ensures.told c.if-found-seen.false c.chain_slot-at.result (c.chain_slot-at.ensures.place
+    ∙ place_inside _ _ _ _ c.self.view_is c.pass.view_is c.args.l.0) c.pass.invariant.out c.turn.new.self.me
+    c.turn.ensures.2 c.take_sleepers-woken.new.seat.me c.take_sleepers-woken.result c.take_sleepers-woken.ensures.view
+    c.take_sleepers-woken.ensures.out c.turn-2.new.self.me c.turn-2.ensures.2)) refl
 
 pub returns-clause-opens : goal.returns-clause-opens
 returns-clause-opens c =

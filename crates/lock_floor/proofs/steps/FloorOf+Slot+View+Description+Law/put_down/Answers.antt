@@ -1,11 +1,11 @@
 use Rattle.std.proofs.Common.{◌≡◌, ◌<◌, [], ◌∷◌, length, sym, subst, arith}
 use Rattle.lock_model.specs.Words.{word_of}
-use Rattle.lock_state.specs.Steps.{Looks, Drops}
+use Rattle.lock_state.specs.Steps.{Drops}
 use Rattle.floor_table.specs.declared.description.Description.{Description}
 use Rattle.floor_table.specs.Steps.{MayMake}
 use Rattle.floor_table.specs.Views.{Knowledge}
 use Rattle.lock_floor.specs.Floors.{Floor, Pass}
-use Rattle.lock_floor.specs.Views.{counts}
+use Rattle.lock_floor.proofs.Looking.{may_look_inside}
 use Rattle.lock_floor.proofs.Gaining.{drop_allowed}
 use Rattle.lock_floor.proofs.Tied.{tied_without}
 use Rattle.lock_floor.proofs.steps.FloorOf+Slot+View+Description+Law.put_down.Goals as goal
@@ -19,9 +19,7 @@ drop_word-found-requires-clause-may c new says =
     let may = subst (λ (z : Floor Description × Pass Knowledge). MayMake z.0.description z.1.view
     (λ s. s.word l ≡ word_of seen) (Drops z.1.view.thread l mode ∷ []))
     (λ i. (sym c.self.view_is i, sym c.pass.view_is i)) c.requires.may in
-    let may_look = subst (λ (z : Floor Description × Pass Knowledge). MayMake z.0.description z.1.view (λ s. Unit {0})
-    (Looks z.1.view.thread l (counts z.1.view l) ∷ [])) (λ i. (sym c.self.view_is i, sym c.pass.view_is i))
-    c.requires.may_look in
+    let may_look = may_look_inside _ _ _ _ c.self.view_is c.pass.view_is l c.requires.may_look in
     drop_allowed c.self.inside.board.shared.key c.pass.inside.seat.me c.pass.invariant.role
     c.self.inside.board.shared.table_id.slots c.pass.inside.seat.id seen new l mode low says may may_look
 

@@ -1,4 +1,4 @@
-use Rattle.std.proofs.Common.{◌≡◌, ◌≢◌, ◌≤◌, [], ◌∷◌, refl, sym, ◌∙◌, subst, ap}
+use Rattle.std.proofs.Common.{◌≡◌, ◌≢◌, ◌≤◌, [], ◌∷◌, refl, sym, ◌∙◌, subst}
 use Rattle.lock_model.specs.Holds.{NotHeld, Holds}
 use Rattle.lock_model.specs.Operations.{hold_in}
 use Rattle.lock_model.specs.declared.event.Event.{Event}
@@ -11,8 +11,7 @@ use Rattle.floor_table.specs.Views.{Knowledge, seeing}
 use Rattle.lock_floor.specs.Changes.{event_of, IsChangeOf, stamped_change}
 use Rattle.lock_floor.specs.Views.{entry_by}
 use Rattle.lock_floor.proofs.AboutCells.{change_of, change_is_quiet, may_take_cell, may_change}
-use Rattle.lock_floor.proofs.May.{may_give}
-use Rattle.lock_floor.proofs.Resting.{Used, uses_change, taken_out, changed_out, wake_gone}
+use Rattle.lock_floor.proofs.Resting.{MayGiveBack, Used, gives_changed, uses_change, taken_out}
 use Rattle.lock_floor.proofs.Tries.{ready_still}
 use Rattle.lock_floor.proofs.tables.FloorOf+Slot+View+Description+Law.try_edit.Goals as goal
 
@@ -61,38 +60,20 @@ stamp_change-requires-clause-may c =
     (may_change floor c.args.pass.now.view c.requires.ready.rest c.args.cell.l c.args.cell.key c.args.cell.slot place a
     taken c.args.change c.requires.held)
 
-pub give-requires-clause-last : goal.give-requires-clause-last
-give-requires-clause-last c =
-    let floor = c.args.self.now.description in
+gives : (c : goal.After-give-arg-1)
+    → MayGiveBack c.args.self.now.description c.args.cell.slot c.stamp_change.new.pass.view
+gives c =
     let cell = CellOf c.args.cell.l.0 c.args.cell.key in
-    let taken = c.try_take.ensures.out c.if-not-try_take.false cell c.requires.cell in
-    let entry = entry_by c.try_take.new.pass.view.thread c.stamp_change.result c.event.result in
-    let out = changed_out (config_in floor) floor c.args.pass.now.view c.try_take.new.pass.view
-    c.stamp_change.new.pass.view cell c.args.cell.slot entry taken c.stamp_change.ensures.view in
-    (_, out)
+    gives_changed c.args.self.now.description cell c.args.cell.slot c.event.result c.args.pass.now.view
+    c.try_take.new.pass.view c.stamp_change.new.pass.view c.stamp_change.result
+    (c.try_take.ensures.out c.if-not-try_take.false cell c.requires.cell) c.requires.cell refl c.requires.ready.rest
+    c.stamp_change.ensures.view
+
+pub give-requires-clause-last : goal.give-requires-clause-last
+give-requires-clause-last c = (gives c).last
 
 pub give-requires-clause-may : goal.give-requires-clause-may
-give-requires-clause-may c =
-    let floor = c.args.self.now.description in
-    let cell = CellOf c.args.cell.l.0 c.args.cell.key in
-    let place = c.requires.cell in
-    let taken = c.try_take.ensures.out c.if-not-try_take.false cell place in
-    let entry = entry_by c.try_take.new.pass.view.thread c.stamp_change.result c.event.result in
-    let out = changed_out (config_in floor) floor c.args.pass.now.view c.try_take.new.pass.view
-    c.stamp_change.new.pass.view cell c.args.cell.slot entry taken c.stamp_change.ensures.view in (
-      cell,
-      place,
-      may_give floor c.stamp_change.new.pass.view cell c.args.cell.slot _ place out refl
-          (ap (λ (w : Knowledge). w.pose) c.stamp_change.ensures.view ∙ ap (λ (w : Knowledge). w.pose) taken.view
-          ∙ c.requires.ready.rest.runs)
-          (ap (λ (w : Knowledge). w.share.doing.phase) c.stamp_change.ensures.view
-          ∙ ap (λ (w : Knowledge). w.share.doing.phase) taken.view ∙ c.requires.ready.rest.going.awake)
-          (ap (λ (w : Knowledge). w.share.doing.unstamped) c.stamp_change.ensures.view
-          ∙ wake_gone c.event.result _
-          (ap (λ (w : Knowledge). w.share.doing.unstamped) taken.view ∙ c.requires.ready.rest.going.stamped))
-          (ap (λ (w : Knowledge). w.share.doing.counting) c.stamp_change.ensures.view
-          ∙ ap (λ (w : Knowledge). w.share.doing.counting) taken.view ∙ c.requires.ready.rest.uncounted),
-    )
+give-requires-clause-may c = (gives c).may
 
 used : (c : goal.After-give)
     → Used c.args.self.now (CellOf c.args.cell.l.0 c.args.cell.key)

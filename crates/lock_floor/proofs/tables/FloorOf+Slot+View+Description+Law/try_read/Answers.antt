@@ -1,16 +1,13 @@
-use Rattle.std.proofs.Common.{◌≡◌, ◌≤◌, [], ◌∷◌, refl, sym, ap, ◌∙◌, subst}
-use Rattle.atomic_table.specs.Table.{rest}
+use Rattle.std.proofs.Common.{◌≤◌, [], ◌∷◌, refl, sym, ap, ◌∙◌, subst}
 use Rattle.lock_model.specs.declared.event.Event.TheVariants.{Got}
 use Rattle.lock_state.specs.Steps.{Stamps}
 use Rattle.lock_state.specs.Steps.Items.{CellOf}
-use Rattle.floor_table.specs.declared.slot.Slot.TheVariants.{Cell}
 use Rattle.floor_table.specs.Steps.{MayMake}
 use Rattle.floor_table.specs.Views.{Knowledge}
 use Rattle.lock_floor.specs.Floors.{Pass}
 use Rattle.lock_floor.specs.Latches.{Takes}
 use Rattle.lock_floor.proofs.AboutCells.{may_take_cell, may_tell, cell_out}
-use Rattle.lock_floor.proofs.May.{may_give}
-use Rattle.lock_floor.proofs.Resting.{Used, uses, wake_gone}
+use Rattle.lock_floor.proofs.Resting.{MayGiveBack, Used, gives_back, uses}
 use Rattle.lock_floor.proofs.Tries.{ready_still}
 use Rattle.lock_floor.proofs.tables.FloorOf+Slot+View+Description+Law.try_read.Goals as goal
 
@@ -48,44 +45,22 @@ stamp-requires-clause-may c =
     (may_tell floor c.args.pass.now.view c.requires.ready.rest c.args.cell.l c.args.cell.key c.args.cell.slot place
     c.try_take.new.pass.view taken found c.value-found.ensures.value c.requires.held)
 
-pub give-requires-clause-last : goal.give-requires-clause-last
-give-requires-clause-last c =
-    let j = c.args.cell.slot in
-    let x = Cell c.value-found.result in
-    let same = ap (λ (w : Knowledge). w.out) c.stamp.ensures.view
-    ∙ ap (λ (p : Pass Knowledge). p.view.out) c.value-found.ensures.same in
-    (x, subst (λ o. o ≡ (j, x) ∷ rest o) (sym same) c.value-found.ensures.value)
-
-pub give-requires-clause-may : goal.give-requires-clause-may
-give-requires-clause-may c =
+gives : (c : goal.After-give-arg-1) → MayGiveBack c.args.self.now.description c.args.cell.slot c.stamp.new.pass.view
+gives c =
+    let floor = c.args.self.now.description in
+    let v : Knowledge = c.args.pass.now.view in
     let cell = CellOf c.args.cell.l.0 c.args.cell.key in
     let j = c.args.cell.slot in
-    let place = c.requires.cell in
-    let taken = c.try_take.ensures.out c.if-not-try_take.false cell place in
-    let x = Cell c.value-found.result in
-    let same = ap (λ (w : Knowledge). w.out) c.stamp.ensures.view
-    ∙ ap (λ (p : Pass Knowledge). p.view.out) c.value-found.ensures.same in (
-      cell,
-      place,
-      may_give c.args.self.now.description c.stamp.new.pass.view cell j x place
-          (subst (λ o. o ≡ (j, x) ∷ rest o) (sym same) c.value-found.ensures.value) refl
-          (ap (λ (w : Knowledge). w.pose) c.stamp.ensures.view
-          ∙ ap (λ (p : Pass Knowledge). p.view.pose) c.value-found.ensures.same
-          ∙ ap (λ (w : Knowledge). w.pose) taken.view ∙ c.requires.ready.rest.runs)
-          (ap (λ (w : Knowledge). w.share.doing.phase) c.stamp.ensures.view
-          ∙ ap (λ (p : Pass Knowledge). p.view.share.doing.phase) c.value-found.ensures.same
-          ∙ ap (λ (w : Knowledge). w.share.doing.phase) taken.view
-          ∙ c.requires.ready.rest.going.awake)
-          (ap (λ (w : Knowledge). w.share.doing.unstamped) c.stamp.ensures.view
-          ∙ wake_gone (Got c.args.cell.l c.args.cell.key c.value-found.result) _
-          (ap (λ (p : Pass Knowledge). p.view.share.doing.unstamped) c.value-found.ensures.same
-          ∙ ap (λ (w : Knowledge). w.share.doing.unstamped) taken.view
-          ∙ c.requires.ready.rest.going.stamped))
-          (ap (λ (w : Knowledge). w.share.doing.counting) c.stamp.ensures.view
-          ∙ ap (λ (p : Pass Knowledge). p.view.share.doing.counting) c.value-found.ensures.same
-          ∙ ap (λ (w : Knowledge). w.share.doing.counting) taken.view
-          ∙ c.requires.ready.rest.uncounted),
-    )
+    let taken = subst (λ (p : Pass Knowledge). Takes floor cell j v p.view) (sym c.value-found.ensures.same)
+    (c.try_take.ensures.out c.if-not-try_take.false cell c.requires.cell) in
+    gives_back floor cell j (Got c.args.cell.l c.args.cell.key c.value-found.result) v c.value-found.new.pass.view
+    c.stamp.new.pass.view c.stamp.result taken c.requires.cell refl c.requires.ready.rest c.stamp.ensures.view
+
+pub give-requires-clause-last : goal.give-requires-clause-last
+give-requires-clause-last c = (gives c).last
+
+pub give-requires-clause-may : goal.give-requires-clause-may
+give-requires-clause-may c = (gives c).may
 
 used : (c : goal.After-give)
     → Used c.args.self.now (CellOf c.args.cell.l.0 c.args.cell.key)

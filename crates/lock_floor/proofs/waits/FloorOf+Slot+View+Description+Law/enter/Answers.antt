@@ -8,21 +8,21 @@ use Rattle.floor_table.specs.declared.description.Description.{Description}
 use Rattle.lock_model.specs.declared.plan.QueueName.{QueueName}
 use Rattle.lock_model.specs.Queues.{lock_queue, side_of}
 use Rattle.lock_objects.specs.Enters.{waiter_of, record_entered, chain_entered}
-use Rattle.lock_state.specs.Steps.{Looks, Enters}
+use Rattle.lock_state.specs.Steps.{Enters}
 use Rattle.thread_records.specs.declared.record.ThreadRec.{ThreadRec}
 use Rattle.turnstile_core.specs.Seen.{Turnstile}
 use Rattle.floor_table.specs.declared.slot.Slot.{Slot}
-use Rattle.floor_table.specs.Steps.{MayMake, Makes}
+use Rattle.floor_table.specs.Steps.{Makes}
 use Rattle.floor_table.specs.Views.{Knowledge, seeing}
 use Rattle.lock_floor.specs.Floors.{Floor, Pass}
-use Rattle.lock_floor.specs.Views.{counts, looked}
+use Rattle.lock_floor.specs.Views.{looked}
 use Rattle.lock_floor.specs.Waits.{chain_place, both_out, out_entered, entered}
 use Rattle.lock_model.specs.declared.plan.Mode.{Mode}
 use Rattle.floor_table.specs.declared.slot.Slot.TheVariants.{Record, Turnstiles}
 use Rattle.lock_floor.proofs.BothChanged.{Worked, out_before, worked}
-use Rattle.lock_floor.proofs.Looking.{Looked}
+use Rattle.lock_floor.proofs.Looking.{Looked, may_look_inside, look_outside}
 use Rattle.lock_floor.proofs.Entering.{Need, enter_any, told_missed, told_entered}
-use Rattle.lock_floor.proofs.Tied.{tied_on, tied_looked}
+use Rattle.lock_floor.proofs.Tied.{of_floor_still, tied_on, tied_looked}
 use Rattle.lock_floor.proofs.waits.FloorOf+Slot+View+Description+Law.enter.Goals as goal
 
 -- what the call needs, on the floor and the pass as they are inside
@@ -38,9 +38,7 @@ enter_word-found-requires-clause-may c new says =
     let l = c.args.l.0 in
     let low = subst (λ (f : Floor Description). l < length f.description.locks) (sym c.self.view_is) c.requires.lock in
     let need = need_inside _ _ _ _ c.self.view_is c.pass.view_is l c.args.mode c.args.seen c.requires.out in
-    let may_look = subst (λ (z : Floor Description × Pass Knowledge). MayMake z.0.description z.1.view (λ s. Unit {0})
-    (Looks z.1.view.thread l (counts z.1.view l) ∷ [])) (λ i. (sym c.self.view_is i, sym c.pass.view_is i))
-    c.requires.may_look in
+    let may_look = may_look_inside _ _ _ _ c.self.view_is c.pass.view_is l c.requires.may_look in
     enter_any c.self.inside.board.shared.key c.pass.inside.seat.me c.pass.invariant.role
     c.self.inside.board.shared.table_id.slots c.pass.inside.seat.id c.args.seen new l c.args.mode need.0 need.1
     need.2 low need.3 need.4 says need.5 may_look
@@ -66,12 +64,9 @@ invariant_of-pass c =
     c.pass.invariant (its_look c)
 
 pub returns-then-found-seen-clause-own : goal.returns-then-found-seen-clause-own
-returns-then-found-seen-clause-own c = record {
-  table = c.enter_word-found.ensures.own ∙ ap (λ (p : Pass Knowledge). p.table) c.pass.view_is ∙ c.requires.own.table;
-  description = ap (λ (w : Knowledge). w.description) (its_view c)
-      ∙ ap (λ (p : Pass Knowledge). p.view.description) c.pass.view_is ∙ c.requires.own.description;
-  unfinished = ap (λ (p : Pass Knowledge). p.finished) c.pass.view_is ∙ c.requires.own.unfinished;
-}
+returns-then-found-seen-clause-own c =
+    of_floor_still _ _ _ _ c.pass.view_is c.requires.own c.enter_word-found.ensures.own
+    (ap (λ (w : Knowledge). w.description) (its_view c)) refl
 
 pub returns-then-found-seen-clause-found : goal.returns-then-found-seen-clause-found
 returns-then-found-seen-clause-found c = (c.if-found-seen.true, (its_look c).0)
@@ -83,9 +78,7 @@ returns-then-found-seen-clause-looked c = its_view c
 
 pub returns-then-found-seen-clause-look : goal.returns-then-found-seen-clause-look
 returns-then-found-seen-clause-look c =
-    subst (λ (z : Floor Description × Pass Knowledge). Makes z.0.description
-    (Looks z.1.view.thread c.args.l.0 (counts z.1.view c.args.l.0) ∷ []) z.1.view c.enter_word-found.new.seat.me.0)
-    (λ i. (c.self.view_is i, c.pass.view_is i)) (its_look c).2
+    look_outside _ _ _ _ c.self.view_is c.pass.view_is c.args.l.0 c.enter_word-found.new.seat.me.0 (its_look c).2
 
 pub stand-requires-clause-out : goal.stand-requires-clause-out
 stand-requires-clause-out c =
@@ -150,13 +143,9 @@ invariant_of-pass-2 c =
     (its_work c).view (its_work c).out refl refl refl
 
 pub returns-clause-own : goal.returns-clause-own
-returns-clause-own c = record {
-  table = c.stand.ensures.own ∙ c.enter_word-found.ensures.own ∙ ap (λ (p : Pass Knowledge). p.table) c.pass.view_is
-      ∙ c.requires.own.table;
-  description = ap (λ (w : Knowledge). w.description) (its_work c).view
-      ∙ ap (λ (p : Pass Knowledge). p.view.description) c.pass.view_is ∙ c.requires.own.description;
-  unfinished = ap (λ (p : Pass Knowledge). p.finished) c.pass.view_is ∙ c.requires.own.unfinished;
-}
+returns-clause-own c =
+    of_floor_still _ _ _ _ c.pass.view_is c.requires.own (c.stand.ensures.own ∙ c.enter_word-found.ensures.own)
+    (ap (λ (w : Knowledge). w.description) (its_work c).view) refl
 
 -- what is told of a pass that entered
 abbrev Told : Description → Knowledge → Knowledge → ℕ → Mode → ℕ → Type 0

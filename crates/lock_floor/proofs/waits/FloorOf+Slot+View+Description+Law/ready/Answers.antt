@@ -1,4 +1,4 @@
-use Rattle.std.proofs.Common.{◌≡◌, cond, [], ◌∷◌, sym, ap, ◌∙◌, subst}
+use Rattle.std.proofs.Common.{◌≡◌, cond, [], ◌∷◌, refl, sym, ap, ◌∙◌, subst}
 use Rattle.atomic_table.specs.Table.{Me, Allows}
 use Rattle.floor_table.specs.declared.description.Description.{Description}
 use Rattle.floor_table.specs.declared.slot.Slot.{Slot}
@@ -9,7 +9,7 @@ use Rattle.floor_table.specs.Views.{Knowledge, seeing}
 use Rattle.lock_floor.specs.Floors.{Floor, Pass}
 use Rattle.lock_floor.specs.Waits.{readies, readied}
 use Rattle.lock_floor.proofs.Readying.{Readied, ready_allowed, ready_stays}
-use Rattle.lock_floor.proofs.Tied.{tied_on}
+use Rattle.lock_floor.proofs.Tied.{of_floor_still, tied_on}
 use Rattle.lock_floor.proofs.waits.FloorOf+Slot+View+Description+Law.ready.Goals as goal
 
 pub say_wait-requires-clause-may : goal.say_wait-requires-clause-may
@@ -42,13 +42,10 @@ invariant_of-pass c =
     (ap (λ x. x.doing.marked) k.share)
 
 pub returns-clause-own : goal.returns-clause-own
-returns-clause-own c = record {
-  table = c.say_wait.ensures.own ∙ ap (λ (p : Pass Knowledge). p.table) c.pass.view_is ∙ c.requires.own.table;
-  description = ap (λ (m : Me Slot Knowledge). m.0.description) (behind_is c)
-      ∙ (ready_stays c.args.queued c.pass.inside.seat.me.0).description
-      ∙ ap (λ (p : Pass Knowledge). p.view.description) c.pass.view_is ∙ c.requires.own.description;
-  unfinished = ap (λ (p : Pass Knowledge). p.finished) c.pass.view_is ∙ c.requires.own.unfinished;
-}
+returns-clause-own c =
+    of_floor_still _ _ _ _ c.pass.view_is c.requires.own c.say_wait.ensures.own
+    (ap (λ (m : Me Slot Knowledge). m.0.description) (behind_is c) ∙ (ready_stays c.args.queued
+    c.pass.inside.seat.me.0).description) refl
 
 pub returns-clause-view : goal.returns-clause-view
 returns-clause-view c = ap (λ (m : Me Slot Knowledge). m.0) (behind_is c)

@@ -13,6 +13,7 @@ use Rattle.lock_floor.specs.Walks.{hopped, turnstiles_place}
 use Rattle.lock_floor.proofs.WalkCall.{call_view, call_step, call_tied}
 use Rattle.lock_floor.proofs.WalkEnd.{Ended, end_allowed}
 use Rattle.lock_floor.proofs.WalkStep.{Hopped}
+use Rattle.lock_floor.proofs.Tied.{of_floor_still}
 use Rattle.lock_floor.proofs.walking.FloorOf+Slot+View+Description+Law.end_walk.Goals as goal
 
 pub ended-requires-clause-may : goal.ended-requires-clause-may
@@ -55,12 +56,9 @@ invariant_of-pass c =
     c.pass.inside.marked c.pass.inside.log c.pass.inside.finished (going c) c.pass.invariant
 
 pub returns-clause-own : goal.returns-clause-own
-returns-clause-own c = record {
-  table = c.ended.ensures.own ∙ ap (λ (p : Pass Knowledge). p.table) c.pass.view_is ∙ c.requires.own.table;
-  description = ap (λ (w : Knowledge). w.description) (view c)
-      ∙ ap (λ (p : Pass Knowledge). p.view.description) c.pass.view_is ∙ c.requires.own.description;
-  unfinished = going c;
-}
+returns-clause-own c =
+    of_floor_still _ _ _ _ c.pass.view_is c.requires.own c.ended.ensures.own (ap (λ (w : Knowledge). w.description)
+    (view c)) refl
 
 pub returns-clause-view : goal.returns-clause-view
 returns-clause-view c = view c

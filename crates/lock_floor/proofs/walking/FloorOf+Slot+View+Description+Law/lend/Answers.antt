@@ -1,4 +1,4 @@
-use Rattle.std.proofs.Common.{◌≡◌, ℕ, false, sym, ap, ◌∙◌, subst}
+use Rattle.std.proofs.Common.{◌≡◌, ℕ, false, refl, sym, ap, ◌∙◌, subst}
 use Rattle.atomic_table.specs.Table.{Me}
 use Rattle.lock_objects.specs.Represents.{walk_of}
 use Rattle.lock_state.specs.Steps.{Lends}
@@ -10,6 +10,7 @@ use Rattle.lock_floor.specs.Walks.{MayLendTo, StepsInHop, turnstiles_place}
 use Rattle.lock_floor.proofs.WalkCall.{call_view, call_tied, call_in_hop}
 use Rattle.lock_floor.proofs.WalkStep.{Hopped}
 use Rattle.lock_floor.proofs.WalkWork.{LentOut, lend_before, lend_made_out, lend_may}
+use Rattle.lock_floor.proofs.Tied.{of_floor_still}
 use Rattle.lock_floor.proofs.walking.FloorOf+Slot+View+Description+Law.lend.Goals as goal
 
 -- what the call needs, on the floor and the pass as they are inside
@@ -73,16 +74,10 @@ invariant_of-pass c =
     c.pass.inside.marked c.pass.inside.log c.pass.inside.finished (going c) c.pass.invariant
 
 pub returns-clause-own : goal.returns-clause-own
-returns-clause-own c = record {
-  table = c.lent.ensures.own ∙ c.lend_out-walk.ensures.own ∙ ap (λ (p : Pass Knowledge). p.table) c.pass.view_is
-      ∙ c.requires.own.table;
-  description =
-      ap (λ (w : Knowledge). w.description)
-      (call_view (its_key c) (old c) (mid c) (behind c) (λ t. Lends t c.args.l.0 c.args.o.0 (h c))
-      (walk_of c.lend_out-walk.result) c.lend_out-walk.ensures.view (told c))
-      ∙ ap (λ (p : Pass Knowledge). p.view.description) c.pass.view_is ∙ c.requires.own.description;
-  unfinished = going c;
-}
+returns-clause-own c =
+    of_floor_still _ _ _ _ c.pass.view_is c.requires.own (c.lent.ensures.own ∙ c.lend_out-walk.ensures.own)
+    (ap (λ (w : Knowledge). w.description) (call_view (its_key c) (old c) (mid c) (behind c) (λ t. Lends t c.args.l.0
+    c.args.o.0 (h c)) (walk_of c.lend_out-walk.result) c.lend_out-walk.ensures.view (told c))) refl
 
 pub returns-clause-step : goal.returns-clause-step
 returns-clause-step c =

@@ -11,6 +11,7 @@ use Rattle.lock_floor.specs.Walks.{MaySort, StepsInHop, turnstiles_place}
 use Rattle.lock_floor.proofs.WalkCall.{call_view, call_tied, call_in_hop}
 use Rattle.lock_floor.proofs.WalkStep.{Hopped}
 use Rattle.lock_floor.proofs.WalkWork.{SortedOut, UnsortedOut, sort_before, sorted_out, unsorted_out, shift_may, end_may}
+use Rattle.lock_floor.proofs.Tied.{of_floor_still}
 use Rattle.lock_floor.proofs.walking.FloorOf+Slot+View+Description+Law.sort.Goals as goal
 
 -- what the call needs, on the floor and the pass as they are inside
@@ -86,16 +87,10 @@ invariant_of-pass c =
     c.pass.inside.finished (going c) c.pass.invariant
 
 pub returns-in-Some-clause-own : goal.returns-in-Some-clause-own
-returns-in-Some-clause-own c = record {
-  table = c.shifted.ensures.own ∙ c.sort_out-sorted.ensures.own ∙ ap (λ (p : Pass Knowledge). p.table) c.pass.view_is
-      ∙ c.requires.own.table;
-  description =
-      ap (λ (w : Knowledge). w.description)
-      (call_view (key c) (me c) (mid c) (behind c) (λ t. Shifts t c.args.o.0 c.in-Some.l.0) (walk_of c.in-Some.walk)
-      c.sort_out-sorted.ensures.view (told c))
-      ∙ ap (λ (p : Pass Knowledge). p.view.description) c.pass.view_is ∙ c.requires.own.description;
-  unfinished = going c;
-}
+returns-in-Some-clause-own c =
+    of_floor_still _ _ _ _ c.pass.view_is c.requires.own (c.shifted.ensures.own ∙ c.sort_out-sorted.ensures.own)
+    (ap (λ (w : Knowledge). w.description) (call_view (key c) (me c) (mid c) (behind c) (λ t. Shifts t c.args.o.0
+    c.in-Some.l.0) (walk_of c.in-Some.walk) c.sort_out-sorted.ensures.view (told c))) refl
 
 pub returns-in-Some-clause-step : goal.returns-in-Some-clause-step
 returns-in-Some-clause-step c =
@@ -146,15 +141,10 @@ invariant_of-pass-in-None c =
     c.pass.invariant
 
 pub returns-in-None-clause-own : goal.returns-in-None-clause-own
-returns-in-None-clause-own c = record {
-  table = c.ended.ensures.own ∙ c.sort_out-sorted.ensures.own ∙ ap (λ (p : Pass Knowledge). p.table) c.pass.view_is
-      ∙ c.requires.own.table;
-  description =
-      ap (λ (w : Knowledge). w.description)
-      (call_view (its_key c) (old c) (between c) (new c) EndsWalk NoWalk c.sort_out-sorted.ensures.view (its_told c))
-      ∙ ap (λ (p : Pass Knowledge). p.view.description) c.pass.view_is ∙ c.requires.own.description;
-  unfinished = its_going c;
-}
+returns-in-None-clause-own c =
+    of_floor_still _ _ _ _ c.pass.view_is c.requires.own (c.ended.ensures.own ∙ c.sort_out-sorted.ensures.own)
+    (ap (λ (w : Knowledge). w.description) (call_view (its_key c) (old c) (between c) (new c) EndsWalk NoWalk
+    c.sort_out-sorted.ensures.view (its_told c))) refl
 
 pub returns-in-None-clause-step : goal.returns-in-None-clause-step
 returns-in-None-clause-step c =
