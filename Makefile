@@ -19,7 +19,8 @@ LOCKCHART ?=
 export SCRIPT FORM FROM TO TURNS TITLE BY PREFIX DESTDIR LOCKRUN LOCKPLAN LOCKCHART PROGRAMS
 
 .DEFAULT_GOAL := help
-.PHONY: help step run plan chart proved quick $(PROGRAMS) examples install uninstall dist words bench costs c c-test
+.PHONY: help step run plan chart proved quick $(PROGRAMS) examples install uninstall dist words docs bench costs c \
+  c-test
 
 # Says what there is to type.
 help:
@@ -40,6 +41,7 @@ help:
 	@echo '                          DESTDIR; make uninstall removes them'
 	@echo 'make dist                 makes an archive of the sources in out/'
 	@echo 'make words                compares the lists of words for shells and editors with what the programs know'
+	@echo 'make docs                 lists the public calls of all libraries, from their doc comments, in out/CALLS.md'
 	@echo 'make bench                times long scripts by the proved lockrun, and puts the figures into bench/results.md'
 	@echo 'make c                    proves the library for C, and leaves liblockrun.a and lockrun.h in out/c/'
 	@echo 'make c-test               runs its tests and its examples, under sanitizers and helgrind where these are there'
@@ -80,6 +82,10 @@ dist:
 # Compares what is written by hand for shells and editors with what the programs know.
 words:
 	@tools/compare_words
+
+# The list of the public calls of all libraries, made from their doc comments into out/CALLS.md.
+docs:
+	@tools/index_calls
 
 # Times long scripts by the proved program.
 bench:

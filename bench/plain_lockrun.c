@@ -2,7 +2,7 @@
 // without a proof, written for speed: arrays and bit masks, the text made while the run goes on, and one write at the
 // end. It is what `bench/race` holds the proved program to. Standard error gets nothing.
 //
-// What a script and a run are stands in docs/SCRIPT.md, part C of docs/LOCKS.md and crates/lock_state/specs/Run.antt.
+// What a script and a run are stands in docs/SCRIPT.md, section 4 of docs/DESIGN.md and crates/lock_state/specs/Run.antt.
 // Built by bench/race: -O3 -march=x86-64-v2, no threads.
 
 #include <stddef.h>
