@@ -1,7 +1,7 @@
 -- What steps change: a look, and the columns of who holds a lock and whether its section began. Behind each change who
 -- had a lock still has it.
 use Rattle.std.proofs.Common.{◌≡◌, ℕ, zero, suc, Bool, true, false, not, cond, eqb, ◌&&◌, ◌||◌, List, [], ◌∷◌, Some, None, refl, sym, ap, inl, inr, arith, eq-eqb, subst, ◌∙◌}
-use Rattle.std.proofs.lemmas.Bool.{eqb-true, lt-ltb, or_cases, or_left, or_right, and_from, and_parts}
+use Rattle.std.proofs.lemmas.Bool.{lt-ltb, or_cases, or_left, or_right, and_from, and_parts}
 use Rattle.std.proofs.lemmas.Option.{same_Some}
 use Rattle.lock_model.specs.Config.{Config}
 use Rattle.lock_model.specs.Events.{facets}
@@ -31,23 +31,13 @@ use Rattle.busy_laws.proofs.Had.{still_had, still_have, same_mode, mode_is, held
 at_place : {A : Type 0} (P : ℕ → ℕ → A → Type 0) (f : ℕ → ℕ → A) (t l : ℕ) (v : A) → P t l v
     → ((u k : ℕ) → P u k (f u k)) → (u k : ℕ) → P u k (put_at f t l v u k)
 unfolding put_at
-at_place P f t l v here rest u k = go (eqb t u && eqb l k) (and_parts (eqb t u) (eqb l k))
-  where
-    go : (b : Bool) → (b ≡ true → (eqb t u ≡ true) × (eqb l k ≡ true)) → P u k (cond b v (f u k))
-    go true g =
-        subst (λ w. P w k v) (eqb-true t u (g refl).0) (subst (λ w. P t w v) (eqb-true l k (g refl).1) here)
-    go false g = rest u k
+at_place P f t l v here rest k u = grind arith
 
 -- the same of two columns
 at_both : (P : ℕ → ℕ → Hold → Bool → Type 0) (f : ℕ → ℕ → Hold) (g : ℕ → ℕ → Bool) (t l : ℕ) (v : Hold) (w : Bool)
     → P t l v w → ((u k : ℕ) → P u k (f u k) (g u k)) → (u k : ℕ) → P u k (put_at f t l v u k) (put_at g t l w u k)
 unfolding put_at
-at_both P f g t l v w here rest u k = go (eqb t u && eqb l k) (and_parts (eqb t u) (eqb l k))
-  where
-    go : (b : Bool) → (b ≡ true → (eqb t u ≡ true) × (eqb l k ≡ true)) → P u k (cond b v (f u k)) (cond b w (g u k))
-    go true h =
-        subst (λ i. P i k v w) (eqb-true t u (h refl).0) (subst (λ i. P t i v w) (eqb-true l k (h refl).1) here)
-    go false h = rest u k
+at_both P f g t l v w here rest k u = grind arith
 
 module _ (c : Config) (s : State) (x : BusyWordsFit c s) (t : ℕ) where
   abbrev had : ℕ → ℕ → Mode → Bool
@@ -59,10 +49,7 @@ module _ (c : Config) (s : State) (x : BusyWordsFit c s) (t : ℕ) where
   -- what was had by no section that has yet to begin is had by one of the history
   by_section : (u k : ℕ) (m : Mode) (h : Hold) (b : Bool) → (is_in_mode m h && not b) ≡ false
       → (section u k m || is_in_mode m h && not b) ≡ true → section u k m ≡ true
-  by_section u k m h b none e = elim (or_cases (section u k m) (is_in_mode m h && not b) e) [
-    | inl i ↦ i
-    | inr i ↦ absurd (let z : false ≡ true = sym none ∙ i in cc)
-  ]
+  by_section u k m h b none e = grind arith
 
   -- 2. Looks
 
@@ -145,9 +132,6 @@ module _ (c : Config) (s : State) (x : BusyWordsFit c s) (t : ℕ) where
   module _ (e : Event) (g : MayStamp c s t e) where
     abbrev new : List Entry
     new = entry_of s t e ∷ s.history
-
-    abbrev begun : ℕ → ℕ → Bool
-    begun = begun_after c e t s.has_begun
 
     still_section : (u k : ℕ) (m : Mode) → section u k m ≡ true → has_section c new u k m ≡ true
     unfolding has_section

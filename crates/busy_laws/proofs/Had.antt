@@ -1,6 +1,6 @@
 -- Who had a lock: what explains a word still does where more is had, and who holds a lock has it.
 use Rattle.std.proofs.Common.{◌≡◌, ℕ, ◌<◌, Bool, true, false, not, eqb, ◌&&◌, List, [], ◌∷◌, refl, sym, ap, arith, eq-eqb, ◌∙◌}
-use Rattle.std.proofs.lemmas.Bool.{ne_eqb, ltb-true, or_left, or_right, and_from}
+use Rattle.std.proofs.lemmas.Bool.{ne_eqb, ltb-true, and_from}
 use Rattle.lock_model.specs.Config.{Config}
 use Rattle.lock_model.specs.Counts.{any_below, sum_below}
 use Rattle.lock_model.specs.Events.{OfTake, NoTake, GainedBy, FoundBusy, HaltedFor, RefusedBy, facets}
@@ -15,7 +15,7 @@ use Rattle.lock_state.specs.Facts.Words.{owns, shares}
 use Rattle.lock_laws.proofs.Best.{any_below-true}
 use Rattle.lock_laws.proofs.Shown.{true-any_below, exclusive_is}
 use Rattle.lock_laws.proofs.Sums.{sum_below-single}
-use Rattle.lock_model.specs.BusyWords.{is_in_mode, has_section, is_had_by_another, WordHasHolder, BusyWordsHaveHolders}
+use Rattle.lock_model.specs.BusyWords.{is_in_mode, is_had_by_another, WordHasHolder, BusyWordsHaveHolders}
 use Rattle.busy_laws.specs.Holders.{BusyWordsFit, BegunAreNoted, has_another, has_or_begins}
 
 -- 1. Where more is had
@@ -49,15 +49,10 @@ module _ (c : Config) (had more : ℕ → ℕ → Mode → Bool)
 -- 2. Modes
 
 pub same_mode : (mode : Mode) → is_in_mode mode (Holds mode) ≡ true
-same_mode Excl = refl
-same_mode Shared = refl
+same_mode mode = grind arith
 
 pub mode_is : (mode : Mode) (h : Hold) → is_in_mode mode h ≡ true → h ≡ Holds mode
-mode_is mode NotHeld e = absurd cc
-mode_is Excl (Holds Excl) e = refl
-mode_is Excl (Holds Shared) e = absurd cc
-mode_is Shared (Holds Excl) e = absurd cc
-mode_is Shared (Holds Shared) e = refl
+mode_is mode h e = grind arith
 
 -- 3. Who holds a lock
 
@@ -68,12 +63,7 @@ module _ (c : Config) (s : State) (x : BusyWordsFit c s) where
   -- has a section of it, or has yet to note that
   holder_had : (u k : ℕ) (mode : Mode) → s.held u k ≡ Holds mode → had u k mode ≡ true
   unfolding BegunAreNoted
-  holder_had u k mode e = go (s.has_begun u k) refl
-    where
-      go : (b : Bool) → s.has_begun u k ≡ b → had u k mode ≡ true
-      go true i = or_left (has_section c s.history u k mode) _ (x.begun_are_noted u k mode e i)
-      go false i = or_right (has_section c s.history u k mode) _
-          (and_from _ _ (ap (is_in_mode mode) e ∙ same_mode mode) (ap not i))
+  holder_had u k mode e = grind arith
 
   -- so a word that another holds is explained
   pub held_had : Lawful c s → (t k : ℕ) → has_another (s.held t k) (s.word k).holder ≡ true

@@ -1,8 +1,7 @@
 -- Each step that may be made keeps that busy words fit who holds locks. So where nobody has a section left to begin,
 -- the history explains each of them.
-use Rattle.std.proofs.Common.{◌≡◌, ℕ, ◌<◌, Bool, true, false, not, ◌&&◌, List, [], ◌∷◌, None, refl, sym, ap, inl, inr, ◌∙◌}
+use Rattle.std.proofs.Common.{◌≡◌, ℕ, ◌<◌, Bool, true, false, not, List, [], ◌∷◌, None, refl, sym, ap, ◌∙◌}
 use Rattle.std.proofs.Props.{props}
-use Rattle.std.proofs.lemmas.Bool.{or_cases, and_parts}
 use Rattle.lock_model.specs.Config.{Config}
 use Rattle.lock_model.specs.Events.{OfTake, NoTake, GainedBy, FoundBusy, HaltedFor, RefusedBy}
 use Rattle.lock_model.specs.Holds.{NotHeld, Holds, is_unheld}
@@ -23,10 +22,11 @@ use Rattle.lock_state.specs.Steps.Orders.{after_admit, after_refuse}
 use Rattle.lock_state.specs.Steps.Counting.{after_count_out, after_count_in, after_count_self_in, after_count_end, after_halt}
 use Rattle.lock_laws.proofs.Kit.{put_at_other}
 use Rattle.lock_laws.proofs.Steps as lawful
-use Rattle.lock_model.specs.BusyWords.{is_in_mode, has_section, WordHasHolder, BusyWordsHaveHolders, BusyIsExplained}
+use Rattle.lock_model.specs.BusyWords.{has_section, WordHasHolder, BusyWordsHaveHolders, BusyIsExplained}
 use Rattle.busy_laws.specs.Holders.{BusyWordsFit, BegunAreNoted, LooksHaveHolders, NobodyHasToBegin, has_or_begins}
-use Rattle.busy_laws.proofs.Had.{still_have, mode_is}
+use Rattle.busy_laws.proofs.Had.{still_have}
 use Rattle.busy_laws.proofs.Changes.{looks_less, looks_left, looks_more, gain_noted, gain_more, left_noted, left_more, stamp_noted, stamp_more, stamp_words}
+use Rattle.std.proofs.Common.{arith}
 
 -- 1. Steps
 
@@ -125,11 +125,7 @@ all_keep c s (step ∷ steps) g l x =
 
 pub begins : (c : Config) → BusyWordsFit c (start_state c)
 unfolding start_state BegunAreNoted LooksHaveHolders BusyWordsHaveHolders
-begins c = record {
-  begun_are_noted = λ t l m e f. absurd cc;
-  looks_have_holders = λ t look e a. absurd cc;
-  busy_words_have_holders = tt;
-}
+begins c = grind arith
 
 -- 2. Whole histories
 
@@ -140,13 +136,7 @@ explained c s x n =
   where
     noted : (u k : ℕ) (m : Mode) → has_or_begins c s.held s.has_begun s.history u k m ≡ true
         → has_section c s.history u k m ≡ true
-    noted u k m e = elim (or_cases (has_section c s.history u k m)
-        (is_in_mode m (s.held u k) && not (s.has_begun u k)) e) [
-          | inl i ↦ i
-          | inr i ↦
-              let p = and_parts (is_in_mode m (s.held u k)) (not (s.has_begun u k)) i in
-              absurd (let z : false ≡ true = sym (ap not (n u k m (mode_is m (s.held u k) p.0))) ∙ p.1 in cc)
-        ]
+    noted u k m e = grind arith
 
 -- where nobody holds a lock, nobody has a section left to begin
 pub unheld_begun : (c : Config) (s : State) → Lawful c s → ((t : ℕ) → t < c.threads → s.held_locks t ≡ [])

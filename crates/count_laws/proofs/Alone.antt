@@ -1,12 +1,12 @@
 -- What the facts of counting say of a moment at which nobody is awake, and of a finder.
-use Rattle.std.proofs.Common.{◌≡◌, ℕ, zero, suc, eqb, ◌+◌, ◌<◌, ◌≤◌, true, false, List, [], ◌∷◌, Option, Some, None, refl, sym, ap, inl, inr, arith, ◌∙◌}
+use Rattle.std.proofs.Common.{◌≡◌, ℕ, zero, suc, ◌+◌, ◌<◌, ◌≤◌, true, false, List, [], ◌∷◌, Option, Some, None, refl, sym, ap, inl, inr, arith, ◌∙◌}
 use Rattle.std.proofs.lemmas.Bool.{cases_eq}
 use Rattle.std.proofs.lemmas.Option.{same_Some}
 use Rattle.lock_model.specs.Config.{Config}
 use Rattle.lock_model.specs.Counts.{one, at_option, sum_below}
 use Rattle.lock_model.specs.Queues.{Mark}
 use Rattle.lock_model.specs.declared.plan.QueueName.{QueueName}
-use Rattle.lock_state.specs.State.{State, Wait, Running, Queued, Woken, Phase, Awake, Asleep, Last, Halting, Aborting, SelfAborted, is_finder}
+use Rattle.lock_state.specs.State.{State, Wait, Running, Queued, Woken, Phase, is_finder}
 use Rattle.lock_state.specs.Steps.LockWords.{is_woken}
 use Rattle.lock_state.specs.Steps.Counting.{IsFirst}
 use Rattle.lock_state.specs.Facts.{Lawful, StandsOnce, StandingIsQueued, Counted, TermsFitParking, CountedInIsNextMarked, RestingHasNoMarks, RestingStands, FinderIsAlone}
@@ -41,10 +41,7 @@ module _ (c : Config) (s : State) (l : Lawful c s) (h : Counted c s) (f : ℕ) (
   all_stand u lt alive = by_named (s.blocked_on u) refl
     where
       rests : is_at_rest (s.phase u) ≡ true
-      rests = elim (cases_eq f u) [
-        | inl x ↦ finder_rests (s.phase u) (ap (λ k. is_finder (s.phase k)) (sym x) ∙ e)
-        | inr x ↦ ap is_at_rest ((h.finder_is_alone f u e lt).1 x)
-      ]
+      rests = grind arith
 
       by_named : (o : Option QueueName) → s.blocked_on u ≡ o → StandsOnQueue s u
       by_named None i = absurd
@@ -74,8 +71,7 @@ module _ (c : Config) (s : State) (l : Lawful c s) (h : Counted c s) (t : ℕ) w
       first_queued v lt (s.marked v) refl (h.counted_in_is_next_marked v t (at_option_one t (s.counting v) i)).0
 
   at_most : (o : Option ℕ) → at_option t o ≤ 1
-  at_most None = omega arith
-  at_most (Some u) = elim (eqb t u) as (λ b. one b ≤ 1) [ true ↦ omega arith | false ↦ omega arith ]
+  at_most o = grind arith
 
   counters : sum_below c.threads (λ v. at_option t (s.counting v)) ≤ 1
   counters = go (sum_below c.threads (λ v. at_option t (s.counting v))) refl
@@ -115,12 +111,7 @@ module _ (c : Config) (s : State) (l : Lawful c s) (h : Counted c s) (t : ℕ) w
 
 -- so no more than two for each thread are awake
 own_few : (p : Phase) → own_term p ≤ 1
-own_few Awake = omega arith
-own_few Asleep = omega arith
-own_few Last = omega arith
-own_few Halting = omega arith
-own_few Aborting = omega arith
-own_few SelfAborted = omega arith
+own_few p = grind arith
 
 sum_below-few : (n : ℕ) (f : ℕ → ℕ) → ((t : ℕ) → f t ≤ 2) → sum_below n f ≤ n + n
 unfolding sum_below

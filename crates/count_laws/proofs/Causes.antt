@@ -6,12 +6,11 @@ use Rattle.lock_model.specs.Counts.{one, is_empty}
 use Rattle.lock_model.specs.Halts.{entries_below, entries_since, ends_asleep, is_sleeping, waits_for_another, first_was_awaited, awaited_by, HaltsComeSince}
 use Rattle.lock_model.specs.History.{entries_of}
 use Rattle.lock_model.specs.Law.{is_asleep, is_named, is_halt, passes_over}
-use Rattle.lock_model.specs.Queues.{BySignal, ByAbort, Mark}
-use Rattle.lock_model.specs.declared.plan.QueueName.TheVariants.{Lock, Chan}
+use Rattle.lock_model.specs.Queues.{Mark}
 use Rattle.lock_model.specs.declared.event.Event.{Event}
-use Rattle.lock_model.specs.declared.event.Event.TheVariants.{Locked, HaltedLock, Woke, HaltedChan, WokeOne, WokeAll}
+use Rattle.lock_model.specs.declared.event.Event.TheVariants.{Locked, HaltedLock, Woke, HaltedChan}
 use Rattle.lock_model.specs.declared.event.Entry.{Entry}
-use Rattle.lock_state.specs.State.{State, Wait, Running, Queued, Woken, Note, OrderRefused, SleepHalted, is_finder, put}
+use Rattle.lock_state.specs.State.{State, Wait, Note, is_finder, put}
 use Rattle.lock_state.specs.Steps.{EndsTake, EndsItsTake, ends_sleep}
 use Rattle.lock_state.specs.Steps.LockWords.{MayStamp, is_taking_back, taking_from, taking_after, entry_of}
 use Rattle.lock_state.specs.Steps.Counting.{MayHalt, moment_of}
@@ -27,8 +26,7 @@ use Rattle.count_laws.proofs.Moments.{below-new, since-new, all_below, none_sinc
 
 -- a log tells of a sleep as the history does
 taking_back_ends : (es : List Entry) → is_taking_back es ≡ ends_asleep es
-taking_back_ends [] = refl
-taking_back_ends (e ∷ es) = refl
+taking_back_ends es = grind arith
 
 no_aborts : (u : ℕ) (ms : List Mark) → AreSignals ms → aborts u ms ≡ 0
 no_aborts u [] a = refl
@@ -46,16 +44,10 @@ module _ {at_work : ℕ → Option ℕ} {c : Config} {s : State} (p : SleepersFi
       omega arith
     where
       by_wait : (w : Wait) → s.wait u ≡ w → is_aborted w ≡ 0
-      by_wait Running e = refl
-      by_wait Queued e = refl
-      by_wait (Woken (Lock k) cause) e = refl
-      by_wait (Woken (Chan d) BySignal) e = refl
-      by_wait (Woken (Chan d) ByAbort) e = absurd (let z = p.woken_by_signal i u (Chan d) ByAbort e in cc)
+      by_wait w e = grind arith
 
       by_note : (o : Option Note) → s.noted u ≡ o → is_chan_halt o ≡ 0
-      by_note None e = refl
-      by_note (Some (OrderRefused l k)) e = refl
-      by_note (Some (SleepHalted q)) e = absurd (p.no_sleep_is_halted i u q e)
+      by_note o e = grind arith
 
 -- 1. An entry
 
@@ -70,9 +62,7 @@ module _ {at_work : ℕ → Option ℕ} {c : Config} {s : State} (l : Lawful c s
 
   no_halt : s.halted ≡ false → (e : Event) → MayStamp c s t e → is_halt e ≡ false
   unfolding NoSleepIsHalted
-  no_halt i (HaltedChan d) g = absurd (p.no_sleep_is_halted i t (Chan d) g.asks.1)
-  no_halt i (HaltedLock k) g = absurd (p.no_sleep_is_halted i t (Lock k) g.asks.0)
-  no_halt i other g = refl
+  no_halt i e g = grind arith
 
   -- the thread of a waking doesn't sleep
   awake : (is_taking_back (s.log t) ≡ true → ends_sleep e ≡ true) → ends_sleep e ≡ false → (d : ℕ)
@@ -88,9 +78,7 @@ module _ {at_work : ℕ → Option ℕ} {c : Config} {s : State} (l : Lawful c s
 
   own_passes : (e : Event) → (ends_sleep e ≡ false → (d : ℕ) → is_asleep s.history d t ≡ false)
       → passes_over c s.history e t ≡ false
-  own_passes (WokeOne d woken) f = rw (f refl d.0) refl
-  own_passes (WokeAll d woken) f = rw (f refl d.0) refl
-  own_passes other f = refl
+  own_passes e ends_sleep = grind arith
 
   pub unhalted : (is_taking_back (s.log t) ≡ true → ends_sleep e ≡ true) → UnhaltedBefore c s.halted history
   unfolding UnhaltedBefore NobodyIsHalted
@@ -204,8 +192,7 @@ module _ (c : Config) (s : State) (x : Explained c s) (t : ℕ) where
 
   pub none_waits : (o y : Option ℕ) → o ≡ None → (past : List Entry) → waits_for_another c past t o ≡ true
       → waits_for_another c past t y ≡ true
-  none_waits None y e past z = absurd cc
-  none_waits (Some k) y e past z = absurd cc
+  none_waits o y e past z = grind arith
 
   pub seek_waits : (by_try : Bool) (w : Option ℕ) (l : ℕ) (o : Option ℕ) → (w ≡ None → o ≡ None) → (past : List Entry)
       → waits_for_another c past t o ≡ true → waits_for_another c past t (taking_from by_try w l o) ≡ true

@@ -11,7 +11,7 @@ use Rattle.lock_model.specs.declared.plan.Mode.TheVariants.{Excl}
 use Rattle.lock_model.specs.declared.plan.Side.{Side}
 use Rattle.lock_model.specs.declared.plan.QueueName.{QueueName}
 use Rattle.lock_model.specs.declared.event.Event.{Event}
-use Rattle.lock_state.specs.State.{State, Wait, Running, Queued, Woken, Walk, NoWalk, Phase, Awake, Asleep, Last, Halting, Aborting, SelfAborted, is_parked, is_finder, found_nobody_awake, put, put_at}
+use Rattle.lock_state.specs.State.{State, Wait, Running, Queued, Woken, Walk, NoWalk, Phase, Awake, SelfAborted, is_parked, is_finder, found_nobody_awake, put, put_at}
 use Rattle.lock_state.specs.Steps.{IsRunnable, IsCountedIn, IsAtResume, KeepsCountedOut}
 use Rattle.lock_state.specs.Steps.LockWords.{is_woken, MayReady, MayUnready, after_seek, after_look, after_gain, after_drop, after_stamp, after_ready, after_unready}
 use Rattle.lock_state.specs.Steps.Turnstiles.{MayOpen, MayMark, MayResume, after_enter, after_open, after_mark, after_resume, phase_marked}
@@ -74,10 +74,7 @@ module _ (c : Config) (s : State) (t : ℕ) (a : IsRunnable s t) (h : Counted c 
 
   named_rest : (q : Option QueueName) → RestingStands s.phase s.has_ended (put s.blocked_on t q) s.wait
   unfolding RestingStands
-  named_rest q u p f e = elim (cases_eq t u) [
-    | inl x ↦ absurd (let z = ap is_at_rest (sym a.phase ∙ ap s.phase x) ∙ p in cc)
-    | inr x ↦ h.resting_stands u p f (sym (put_other s.blocked_on t q u x) ∙ e)
-  ]
+  named_rest q u p f e = grind (arith, columns)
 
   pub gain : (l : ℕ) (mode : Mode) (by_try : Bool) → Counted c (after_gain s t l mode by_try)
   unfolding after_gain
@@ -366,22 +363,11 @@ module _ (c : Config) (s : State) (t : ℕ) (m : Mark) (ms : List Mark) (g : May
 
   mark_no_walk : ParkedHasNoWalk n.phase n.walk
   unfolding after_mark ParkedHasNoWalk
-  mark_no_walk v q = elim (marked_phase v) [
-    | inl x ↦ h.parked_has_no_walk v (ap is_parked (sym x) ∙ q)
-    | inr x ↦
-        absurd (let z = ap is_parked (sym x.1) ∙ q in cc)
-  ]
+  mark_no_walk v q = grind (arith, columns)
 
   mark_no_marks : RestingHasNoMarks n.phase n.marked
   unfolding after_mark RestingHasNoMarks
-  mark_no_marks v q = elim (marked_phase v) [
-    | inl x ↦ elim (cases_eq t v) [
-      | inl y ↦ absurd (let z = h.resting_has_no_marks v (ap is_at_rest (sym x) ∙ q) in let w : [] ≡ m ∷ ms = sym z
-          ∙ ap s.marked (sym y) ∙ g.marked in cc)
-      | inr y ↦ rw (put_other s.marked t ms v y) (h.resting_has_no_marks v (ap is_at_rest (sym x) ∙ q))
-    ]
-    | inr x ↦ absurd (let z = ap is_at_rest (sym x.1) ∙ q in cc)
-  ]
+  mark_no_marks v q = grind (arith, columns)
 
   mark_nothing : ParkedHasNothingOut n.phase n.turnstile_chain_with n.sleep_chain_with n.record_with n.cell_with
       n.graph_with
@@ -394,24 +380,11 @@ module _ (c : Config) (s : State) (t : ℕ) (m : Mark) (ms : List Mark) (g : May
 
   mark_waits : RestingStands n.phase n.has_ended n.blocked_on n.wait
   unfolding after_mark RestingStands
-  mark_waits v q f e = elim (cases_eq u v) [
-    | inl y ↦ rw (← y, put_same s.wait u (Woken m.queue m.cause)) refl
-    | inr y ↦ elim (marked_phase v) [
-      | inl x ↦ rw (put_other s.wait u (Woken m.queue m.cause) v y)
-          (h.resting_stands v (ap is_at_rest (sym x) ∙ q) f (sym (put_other s.blocked_on u None v y) ∙ e))
-      | inr x ↦ absurd (y x.0)
-    ]
-  ]
+  mark_waits v q f e = grind (arith, columns)
 
   mark_self_aborted : SelfAbortedIsWoken n.phase n.wait
   unfolding after_mark SelfAbortedIsWoken
-  mark_self_aborted v q = elim (cases_eq u v) [
-    | inl y ↦ rw (← y, put_same s.wait u (Woken m.queue m.cause)) refl
-    | inr y ↦ elim (marked_phase v) [
-      | inl x ↦ rw (put_other s.wait u (Woken m.queue m.cause) v y) (h.self_aborted_is_woken v (sym x ∙ q))
-      | inr x ↦ absurd (y x.0)
-    ]
-  ]
+  mark_self_aborted v q = grind (arith, columns)
 
   mark_ended : EndedRuns n.has_ended n.wait
   unfolding after_mark EndedRuns
@@ -450,13 +423,7 @@ module _ (c : Config) (s : State) (t : ℕ) (m : Mark) (ms : List Mark) (g : May
 -- 6. A resume
 
 at_resume : (p : Phase) → IsAtResume p → own_term p ≡ 0
-at_resume Awake e = absurd
-    (elim e [ inl x ↦ cc | inr x ↦ let z = ap is_parked (sym x) in let y = ap own_term x in omega arith ])
-at_resume Asleep e = refl
-at_resume Last e = refl
-at_resume Halting e = absurd (elim e [ inl x ↦ cc | inr x ↦ let y = ap own_term x in omega arith ])
-at_resume Aborting e = absurd (elim e [ inl x ↦ cc | inr x ↦ let y = ap own_term x in omega arith ])
-at_resume SelfAborted e = refl
+at_resume p e = grind arith
 
 module _ (c : Config) (s : State) (t : ℕ) (q : QueueName) (cause : Cause) (g : MayResume c s t q cause)
     (r : IsAtResume (s.phase t)) (h : Counted c s) where
@@ -510,10 +477,7 @@ module _ (c : Config) (s : State) (t : ℕ) (q : QueueName) (cause : Cause) (g :
 
   resume_bare : EndedIsBare o.has_ended o.held o.wanted
   unfolding after_resume EndedIsBare EndedRuns
-  resume_bare u f = elim (cases_eq t u) [
-    | inl x ↦ absurd (let z = ap is_woken (sym g.woken ∙ ap s.wait x ∙ h.ended_runs u f) in cc)
-    | inr x ↦ let z = h.ended_is_bare u f in (z.0, put_other s.wanted t _ u x ∙ z.1)
-  ]
+  resume_bare u f = grind (arith, columns)
 
   pub resume : Counted c o
   unfolding after_resume
@@ -597,30 +561,15 @@ module _ (c : Config) (s : State) (t : ℕ) (p : is_parked (s.phase t) ≡ false
 -- 8. An abort
 
 aborting_weight : (p : Phase) → own_term (phase_aborting p) ≡ own_term p
-aborting_weight Awake = refl
-aborting_weight Asleep = refl
-aborting_weight Last = refl
-aborting_weight Halting = refl
-aborting_weight Aborting = refl
-aborting_weight SelfAborted = refl
+aborting_weight p = grind arith
 
 -- after an abort its thread neither rests nor is parked nor a finder
 aborts : (p : Phase) → found_nobody_awake p ≡ true → is_parked p ≡ false → (is_parked (phase_aborting p) ≡ false)
     × (is_at_rest (phase_aborting p) ≡ false) × (is_finder (phase_aborting p) ≡ false)
-aborts Awake e p = absurd cc
-aborts Asleep e p = absurd cc
-aborts Last e p = absurd cc
-aborts Halting e p = (refl, refl, refl)
-aborts Aborting e p = (refl, refl, refl)
-aborts SelfAborted e p = (refl, refl, refl)
+aborts p e f = grind arith
 
 still_self : (p : Phase) → phase_aborting p ≡ SelfAborted → p ≡ SelfAborted
-still_self Awake e = e
-still_self Asleep e = e
-still_self Last e = e
-still_self Halting e = absurd (let z = ap own_term e in omega arith)
-still_self Aborting e = e
-still_self SelfAborted e = refl
+still_self p e = grind arith
 
 module _ (c : Config) (s : State) (t : ℕ) (q : QueueName) (side : Side) (w : ℕ) (g : MayAbort c s t q side w)
     (h : Counted c s) where

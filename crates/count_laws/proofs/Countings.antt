@@ -1,6 +1,6 @@
 -- Countings out and in, ends and halts keep the facts of counting.
-use Rattle.std.proofs.Common.{◌≡◌, ◌≢◌, ℕ, zero, suc, ◌+◌, ◌<◌, ◌≤◌, Bool, true, false, cond, eqb, List, [], ◌∷◌, Option, Some, None, refl, sym, ap, inl, inr, arith, eq-eqb, subst, ◌∙◌}
-use Rattle.std.proofs.lemmas.Bool.{cases_eq, eqb-true, ne_eqb}
+use Rattle.std.proofs.Common.{◌≡◌, ◌≢◌, ℕ, zero, suc, ◌+◌, ◌<◌, ◌≤◌, true, false, cond, eqb, List, [], ◌∷◌, Option, Some, None, refl, sym, ap, inl, inr, arith, eq-eqb, subst, ◌∙◌}
+use Rattle.std.proofs.lemmas.Bool.{cases_eq, ne_eqb}
 use Rattle.lock_model.specs.Config.{Config}
 use Rattle.lock_model.specs.Counts.{one, at_option, sum_below}
 use Rattle.lock_model.specs.Queues.{Mark}
@@ -23,23 +23,13 @@ sum_below-suc (suc n) f = omega (arith, sum_below-suc n f)
 
 -- a thread that is neither parked nor aborted itself counts of itself
 pub own_one : (p : Phase) → is_parked p ≡ false → (p ≡ SelfAborted → ⊥) → own_term p ≡ 1
-own_one Awake e f = refl
-own_one Asleep e f = absurd cc
-own_one Last e f = absurd cc
-own_one Halting e f = refl
-own_one Aborting e f = refl
-own_one SelfAborted e f = absurd (f refl)
+own_one p e f = grind arith
 
 own_term_of : (c : Config) (s : State) (t : ℕ) → MayCountOut c s t → own_term (s.phase t) ≡ 1
 own_term_of c s t g = own_one (s.phase t) g.unparked g.unaborted
 
 pub finder_rests : (p : Phase) → is_finder p ≡ true → is_at_rest p ≡ true
-finder_rests Awake e = absurd cc
-finder_rests Asleep e = absurd cc
-finder_rests Last e = refl
-finder_rests Halting e = refl
-finder_rests Aborting e = absurd cc
-finder_rests SelfAborted e = absurd cc
+finder_rests p e = grind arith
 
 module _ (c : Config) (s : State) (h : Counted c s) where
   abbrev pub term : ℕ → ℕ
@@ -75,11 +65,7 @@ out_parked : (n : ℕ) → is_parked (phase_out n) ≡ true
 out_parked n = elim (eqb n 1) as (λ b. is_parked (cond b Last Asleep) ≡ true) [ true ↦ refl | false ↦ refl ]
 
 out_finder : (n : ℕ) → is_finder (phase_out n) ≡ true → n ≡ 1
-out_finder n e = go (eqb n 1) refl e
-  where
-    go : (b : Bool) → eqb n 1 ≡ b → is_finder (cond b Last Asleep) ≡ true → n ≡ 1
-    go true i f = eqb-true n 1 i
-    go false i f = absurd cc
+out_finder n e = grind arith
 
 out_unaborted : (n : ℕ) → phase_out n ≡ SelfAborted → ⊥
 out_unaborted n e = let z = ap is_parked e in let y = out_parked n in cc
@@ -249,11 +235,7 @@ module _ (c : Config) (s : State) (t u : ℕ) (g : MayCountIn c s t u) (record_o
     where
       go : (w : ℕ) → ◌≡◌ {A = Option ℕ} (Some u) (Some w) → (v : ℕ) → t ≡ v → IsFirst w (s.marked v) × (v ≢ w)
           × (s.record_with w ≡ Some v)
-      go w z v x = let y : u ≡ w = ap (number_or 0) z in rw (← y, ← x) (g.first, g.other, record_out)
-        where
-          number_or : ℕ → Option ℕ → ℕ
-          number_or d None = d
-          number_or d (Some k) = k
+      go w z v x = grind arith
 
   in_alone : FinderIsAlone c i.phase i.wait i.counting
   unfolding after_count_in FinderIsAlone RestingHasNoMarks
@@ -349,10 +331,7 @@ module _ (c : Config) (s : State) (t : ℕ) (g : MayCountEnd c s t) (h : Counted
 
   end_bare : EndedIsBare e.has_ended e.held e.wanted
   unfolding after_count_end EndedIsBare
-  end_bare u f = elim (cases_eq t u) [
-    | inl x ↦ rw (← x) (g.bare, g.wants)
-    | inr x ↦ h.ended_is_bare u (sym (put_other s.has_ended t true u x) ∙ f)
-  ]
+  end_bare u f = grind (arith, columns)
 
   pub end_counted : Counted c e
   unfolding after_count_end

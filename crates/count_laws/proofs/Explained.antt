@@ -1,5 +1,5 @@
 -- Each kind of step keeps the facts by which halts are explained.
-use Rattle.std.proofs.Common.{◌≡◌, ◌⊎◌, ℕ, Bool, true, false, cond, eqb, ◌∷◌, Option, Some, None, refl, sym, ap, inl, inr, arith, subst, ◌∙◌}
+use Rattle.std.proofs.Common.{◌≡◌, ◌⊎◌, ℕ, Bool, true, false, cond, eqb, ◌∷◌, Option, Some, None, sym, ap, inl, inr, arith, subst, ◌∙◌}
 use Rattle.std.proofs.lemmas.Bool.{cases_eq}
 use Rattle.lock_model.specs.Config.{Config}
 use Rattle.lock_model.specs.Holds.{Hold, NotHeld, Holds}
@@ -8,8 +8,7 @@ use Rattle.lock_model.specs.Queues.{Cause, Mark, lock_queue, chan_queue}
 use Rattle.lock_model.specs.declared.plan.Mode.{Mode}
 use Rattle.lock_model.specs.declared.plan.QueueName.{QueueName}
 use Rattle.lock_model.specs.declared.event.Event.{Event}
-use Rattle.lock_model.specs.declared.event.Event.TheVariants.{Locked, HaltedLock, Woke, HaltedChan}
-use Rattle.lock_state.specs.State.{State, Wait, Running, Woken, Phase, Awake, Asleep, Last, Halting, Aborting, SelfAborted, put, put_at}
+use Rattle.lock_state.specs.State.{State, Wait, Running, Woken, Phase, Awake, SelfAborted, put, put_at}
 use Rattle.lock_state.specs.Steps.LockWords.{AllOpen, OthersOpen, is_woken, taking_after, entry_of, after_stamp}
 use Rattle.lock_state.specs.Steps.Turnstiles.{MayResume, HasReleased, phase_marked, taking_by}
 use Rattle.lock_state.specs.Steps.SleepQueues.{phase_aborting}
@@ -17,7 +16,7 @@ use Rattle.lock_state.specs.Steps.Counting.{phase_out}
 use Rattle.lock_state.specs.Facts.{Explained, StandersAreOpen, RestingHasReleased, SleepersTakeNothing}
 use Rattle.lock_state.specs.Facts.Counts.{is_at_rest}
 use Rattle.lock_state.specs.Facts.Halts.{IsLockOf}
-use Rattle.lock_laws.proofs.Kit.{columns, put_same, put_other, put_at_same, put_at_other, put_at_beside}
+use Rattle.lock_laws.proofs.Kit.{columns, put_same, put_other, put_at_other}
 use Rattle.lock_laws.proofs.OwnEntries.{other_sections}
 
 module _ (c : Config) (s : State) (x : Explained c s) (t : ℕ) where
@@ -35,18 +34,10 @@ module _ (c : Config) (s : State) (x : Explained c s) (t : ℕ) where
   pub gain_released : (l : ℕ) (h : Hold) → s.blocked_on t ≡ None
       → RestingHasReleased c s.phase s.blocked_on (put_at s.held t l h)
   unfolding RestingHasReleased
-  gain_released l h n u d p e = put_at_other s.held t l h u (c.chan_lock d) (apart n u (chan_queue d) e)
-      ∙ x.resting_has_released u d p e
+  gain_released l h n u d p e = grind (arith, columns)
 
   was_held : (l u k : ℕ) (m : Mode) → put_at s.held t l NotHeld u k ≡ Holds m → s.held u k ≡ Holds m
-  was_held l u k m e = elim (cases_eq t u) [
-    | inl i ↦ elim (cases_eq l k) [
-      | inl j ↦ absurd (let z : NotHeld ≡ Holds m = sym (put_at_same s.held t l NotHeld)
-          ∙ (λ v. put_at s.held t l NotHeld (i v) (j v)) ∙ e in cc)
-      | inr j ↦ sym (put_at_beside s.held t l NotHeld u k j) ∙ e
-    ]
-    | inr i ↦ sym (put_at_other s.held t l NotHeld u k i) ∙ e
-  ]
+  was_held l u k m e = grind (arith, columns)
 
   pub left_open : (l : ℕ) → StandersAreOpen c s.blocked_on (put_at s.held t l NotHeld) s.history
   unfolding StandersAreOpen
@@ -54,12 +45,7 @@ module _ (c : Config) (s : State) (x : Explained c s) (t : ℕ) where
 
   pub left_released : (l : ℕ) → RestingHasReleased c s.phase s.blocked_on (put_at s.held t l NotHeld)
   unfolding RestingHasReleased
-  left_released l u d p e = go (put_at s.held t l NotHeld u (c.chan_lock d)) refl
-    where
-      go : (h : Hold) → put_at s.held t l NotHeld u (c.chan_lock d) ≡ h → h ≡ NotHeld
-      go NotHeld i = refl
-      go (Holds m) i = absurd
-          (let z : NotHeld ≡ Holds m = sym (x.resting_has_released u d p e) ∙ was_held l u (c.chan_lock d) m i in cc)
+  left_released l u d p e = grind (arith, columns)
 
   -- 2. An entry: the thread stands on no queue
 
@@ -72,11 +58,7 @@ module _ (c : Config) (s : State) (x : Explained c s) (t : ℕ) where
       λ away. same ∙ x.standers_are_open u q f k m g away
 
   ended_or_none : (e : Event) (o : Option ℕ) → o ≡ None → taking_after e o ≡ None
-  ended_or_none (Locked l mode) o i = refl
-  ended_or_none (HaltedLock l) o i = refl
-  ended_or_none (Woke d) o i = refl
-  ended_or_none (HaltedChan d) o i = refl
-  ended_or_none other o i = i
+  ended_or_none e o i = grind arith
 
   pub stamp_sleepers : (e : Event)
       → SleepersTakeNothing s.blocked_on s.wait (put s.taking t (taking_after e (s.taking t)))
@@ -108,10 +90,7 @@ module _ (c : Config) (s : State) (x : Explained c s) (t : ℕ) where
   pub stand_released : (q : QueueName) → s.phase t ≡ Awake
       → RestingHasReleased c s.phase (put s.blocked_on t (Some q)) s.held
   unfolding RestingHasReleased
-  stand_released q a u d p e = elim (cases_eq t u) [
-    | inl i ↦ absurd (let z : false ≡ true = ap is_at_rest (sym a) ∙ ap (λ v. is_at_rest (s.phase v)) i ∙ p in cc)
-    | inr i ↦ x.resting_has_released u d p (sym (put_other s.blocked_on t (Some q) u i) ∙ e)
-  ]
+  stand_released q a u d p e = grind (arith, columns)
 
   pub enter_sleepers : (l : ℕ) → SleepersTakeNothing (put s.blocked_on t (Some (lock_queue l))) s.wait s.taking
   unfolding SleepersTakeNothing
@@ -137,8 +116,7 @@ module _ (c : Config) (s : State) (x : Explained c s) (t : ℕ) where
     where
       ne : (s.blocked_on u ≡ Some (chan_queue d)) ⊎ ((cause : Cause) × (s.wait u ≡ Woken (chan_queue d) cause)) → t ≡ u
           → ⊥
-      ne (inl e) i = apart n u (chan_queue d) e i
-      ne (inr e) i = let z : false ≡ true = sym w ∙ ap (λ v. is_woken (s.wait v)) i ∙ ap is_woken e.1 in cc
+      ne e i = grind arith
 
   pub wait_sleepers : (w : Wait) → is_woken w ≡ false → SleepersTakeNothing s.blocked_on (put s.wait t w) s.taking
   unfolding SleepersTakeNothing
@@ -255,9 +233,4 @@ module _ (c : Config) (s : State) (x : Explained c s) (t : ℕ) where
   ]
 
 pub aborting_rests : (p : Phase) → is_at_rest (phase_aborting p) ≡ true → is_at_rest p ≡ true
-aborting_rests Awake i = absurd cc
-aborting_rests Asleep i = refl
-aborting_rests Last i = refl
-aborting_rests Halting i = refl
-aborting_rests Aborting i = absurd cc
-aborting_rests SelfAborted i = absurd cc
+aborting_rests p i = grind arith

@@ -1,6 +1,6 @@
 -- Each step of a running floor that keeps to the order keeps the facts by which halts are explained, and so the part of
 -- the law of a history that speaks of the causes of halts.
-use Rattle.std.proofs.Common.{◌≡◌, ℕ, ◌≤◌, true, false, Bool, List, length, Option, Some, None, refl, sym, ap, arith, ◌∙◌}
+use Rattle.std.proofs.Common.{◌≡◌, ℕ, ◌≤◌, true, false, Bool, List, length, Option, Some, None, refl, ap, arith}
 use Rattle.lock_model.specs.Config.{Config}
 use Rattle.lock_model.specs.Holds.{Holds}
 use Rattle.lock_model.specs.Halts.{HaltsAreHonest, waits_for_another}
@@ -33,11 +33,7 @@ use Rattle.count_laws.proofs.Moments.{none_since, halts_to_come, cause_honest}
 -- a thread that runs stands on no queue
 runs_nowhere : (c : Config) (s : State) (t : ℕ) → Lawful c s → s.wait t ≡ Running → s.blocked_on t ≡ None
 unfolding StandingIsQueued
-runs_nowhere c s t l r = go (s.blocked_on t) refl
-  where
-    go : (o : Option QueueName) → s.blocked_on t ≡ o → o ≡ None
-    go None e = refl
-    go (Some q) e = absurd (let z : Running ≡ Queued = sym r ∙ l.waits.standing_is_queued t q e in cc)
+runs_nowhere c s t l r = grind arith
 
 module _ {at_work : ℕ → Option ℕ} (c : Config) (s : State) (w : LawfulFloor c s) (h : Counted c s) (o : Ordered c s)
     (p : SleepersFit at_work c s) (x : Explained c s) where

@@ -1,24 +1,21 @@
 -- While there is a finder each thread has ended, or sleeps in the history, or takes a lock of which another has an open
 -- section. So a halt that it sets has its causes.
-use Rattle.std.proofs.Common.{◌≡◌, ◌≢◌, ◌⊎◌, ℕ, zero, suc, ◌+◌, ◌<◌, ◌≤◌, Bool, true, false, not, ◌&&◌, eqb, List, [], ◌∷◌, Option, Some, None, refl, sym, ap, inl, inr, arith, eq-eqb, subst, ◌∙◌}
+use Rattle.std.proofs.Common.{◌≡◌, ◌≢◌, ◌⊎◌, ℕ, zero, suc, ◌<◌, ◌≤◌, Bool, true, false, not, ◌&&◌, eqb, List, Option, Some, None, refl, sym, ap, inl, inr, arith, eq-eqb, subst, ◌∙◌}
 use Rattle.std.proofs.lemmas.Bool.{ne_eqb}
 use Rattle.lock_model.specs.Config.{Config}
-use Rattle.lock_model.specs.Counts.{one, at_option, is_empty}
+use Rattle.lock_model.specs.Counts.{one, at_option}
 use Rattle.lock_model.specs.Words.{Holder, Free, HeldBy, SharedBy, shows_waiters, sharers}
 use Rattle.lock_model.specs.Holds.{Hold, NotHeld, Holds, is_exclusive, is_unheld}
 use Rattle.lock_model.specs.Halts.{ends_asleep, is_sleeping, waits_for_another}
 use Rattle.lock_model.specs.History.{open_in, entries_of}
 use Rattle.lock_model.specs.Law.{is_asleep}
-use Rattle.lock_model.specs.Queues.{Waiter, lock_queue, stands, times_waiting}
+use Rattle.lock_model.specs.Queues.{lock_queue, stands}
 use Rattle.lock_model.specs.declared.plan.Mode.{Mode}
 use Rattle.lock_model.specs.declared.plan.Mode.TheVariants.{Excl, Shared}
 use Rattle.lock_model.specs.declared.plan.QueueName.{QueueName}
 use Rattle.lock_model.specs.declared.plan.QueueName.TheVariants.{Lock, Chan}
-use Rattle.lock_model.specs.declared.event.Event.{Event}
-use Rattle.lock_model.specs.declared.event.Event.TheVariants.{Sleeps}
 use Rattle.lock_model.specs.declared.event.Entry.{Entry}
-use Rattle.lock_model.specs.Events.{of_sleep, is_falling, sleeps_on}
-use Rattle.lock_state.specs.State.{State, Wait, Running, Queued, Woken, is_finder}
+use Rattle.lock_state.specs.State.{State, Wait, is_finder}
 use Rattle.lock_state.specs.Steps.LockWords.{is_woken}
 use Rattle.lock_state.specs.Steps.SleepQueues.{has_slept}
 use Rattle.lock_state.specs.Facts.{Lawful, BitsShowWaiters, StandingWants, StandingIsUncalled, CalledWants, FreeWordHasCalled, WordsMatchHolders, OnlyThreadsHold, Counted, FinderIsAlone, EndedIsBare, Ordered, Explained, StandersAreOpen, RestingHasReleased, WantedIsTaken}
@@ -35,25 +32,16 @@ use Rattle.count_laws.proofs.Alone.{all_stand, no_marks, resting}
 
 -- a thread that sleeps on a channel sleeps
 slept_ends : (d : ℕ) (es : List Entry) → has_slept d es ≡ true → ends_asleep es ≡ true
-slept_ends d [] x = absurd cc
-slept_ends d (e ∷ es) x = by_event e.event x
-  where
-    by_event : (v : Event) → sleeps_on v d ≡ true → is_falling (of_sleep v) ≡ true
-    by_event (Sleeps k) x = refl
-    by_event other x = absurd cc
+slept_ends d es x = grind arith
 
 pub asleep_sleeps : (es : List Entry) (d t : ℕ) → is_asleep es d t ≡ true → is_sleeping es t ≡ true
 asleep_sleeps es d t a = rw (slept_ends d (entries_of es t) (asleep_slept es d t a), asleep_unnamed es d t a) refl
 
 pub exclusive_hold : (x : Hold) → is_exclusive x ≡ true → x ≡ Holds Excl
-exclusive_hold NotHeld e = absurd cc
-exclusive_hold (Holds Excl) e = refl
-exclusive_hold (Holds Shared) e = absurd cc
+exclusive_hold x e = grind arith
 
 pub shared_hold : (x : Hold) → 1 ≤ shares x → x ≡ Holds Shared
-shared_hold NotHeld e = absurd (omega arith)
-shared_hold (Holds Excl) e = absurd (omega arith)
-shared_hold (Holds Shared) e = refl
+shared_hold x e = grind arith
 
 module _ (c : Config) (s : State) (l : Lawful c s) (h : Counted c s) (o : Ordered c s) (w : Explained c s) (f : ℕ)
     (e : is_finder (s.phase f) ≡ true) where
@@ -70,9 +58,7 @@ module _ (c : Config) (s : State) (l : Lawful c s) (h : Counted c s) (o : Ordere
       omega (arith, l.waits.free_word_has_called k)
     where
       unwoken : (x : Wait) → one (is_woken x) ≡ 0 → calls_woken k x ≡ 0
-      unwoken Running i = refl
-      unwoken Queued i = refl
-      unwoken (Woken q cause) i = absurd (omega arith)
+      unwoken x i = grind arith
 
       uncalled : (t : ℕ) → t < c.threads → s.called t ≡ None
       uncalled t lt = by_end (s.has_ended t) refl
@@ -126,15 +112,7 @@ module _ (c : Config) (s : State) (l : Lawful c s) (h : Counted c s) (o : Ordere
 
   shown_of : (t k : ℕ) → stands t (s.lists (lock_queue k)) ≡ 1 → shows_waiters (s.word k) ≡ true
   unfolding BitsShowWaiters
-  shown_of t k a = go (s.lists (lock_queue k)).exclusive (s.lists (lock_queue k)).shared
-      (l.queues.bits_show_waiters k).exclusive (l.queues.bits_show_waiters k).shared a
-    where
-      go : (x y : List Waiter) → (s.word k).exclusive_waiters ≡ not (is_empty x)
-          → (s.word k).shared_waiters ≡ not (is_empty y) → times_waiting t x + times_waiting t y ≡ 1
-          → shows_waiters (s.word k) ≡ true
-      go [] [] e f i = absurd (omega arith)
-      go (v ∷ x) y e f i = rw e refl
-      go [] (v ∷ y) e f i = rw (e, f) refl
+  shown_of t k a = grind arith
 
   thread_of : (u k : ℕ) (mode : Mode) → s.held u k ≡ Holds mode → u < c.threads
   unfolding OnlyThreadsHold

@@ -69,13 +69,7 @@ woken_halt = entry 3 1 (Base (record { 0 = 5 })) ∷ entry 2 0 (HaltedChan chan)
 
 refuses_awake : HaltsAreHonest two woken_halt → ⊥
 unfolding HaltsComeSince entries_below entries_since is_named has_bit any_below sections_in two slept woken_halt
-refuses_awake h = go h.moment (since_halt two h.moment slept h.comes_first.2) (h.honest 1 (omega arith))
-  where
-    go : (p : ℕ) → p ≤ 2 → is_honest_to two p woken_halt 1 ≡ true → ⊥
-    go zero le e = cc
-    go (suc zero) le e = cc
-    go (suc (suc zero)) le e = cc
-    go (suc (suc (suc n))) le e = omega (arith, le)
+refuses_awake h = grind arith
 
 -- 3. q takes the mutex behind the halt of p, which had left it: nobody had it, so q did not wait for it
 
@@ -84,11 +78,4 @@ free_halt = entry 3 1 (Locked mutex Excl) ∷ entry 2 0 (HaltedChan chan) ∷ sl
 
 refuses_unheld : HaltsAreHonest two free_halt → ⊥
 unfolding HaltsComeSince entries_below entries_since is_named has_bit any_below sections_in two slept free_halt
-refuses_unheld h = go h.moment (since_halt two h.moment slept h.comes_first.2) (h.honest 0 (omega arith))
-    (h.honest 1 (omega arith))
-  where
-    go : (p : ℕ) → p ≤ 2 → is_honest_to two p free_halt 0 ≡ true → is_honest_to two p free_halt 1 ≡ true → ⊥
-    go zero le e f = cc
-    go (suc zero) le e f = cc
-    go (suc (suc zero)) le e f = cc
-    go (suc (suc (suc n))) le e f = omega (arith, le)
+refuses_unheld h = grind arith

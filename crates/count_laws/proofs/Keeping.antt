@@ -1,24 +1,19 @@
 -- Each step of a running floor that keeps the count keeps the facts of counting.
-use Rattle.std.proofs.Common.{◌≡◌, ◌⊎◌, ℕ, true, false, Bool, inl, inr, refl, ap}
+use Rattle.std.proofs.Common.{◌≡◌, ◌⊎◌, ℕ, true, false, Bool, inl, inr, ap}
 use Rattle.lock_model.specs.Config.{Config}
-use Rattle.lock_state.specs.State.{State, Phase, Awake, Asleep, Last, Halting, Aborting, SelfAborted, is_parked}
+use Rattle.lock_state.specs.State.{State, Phase, is_parked}
 use Rattle.lock_state.specs.Facts.{LawfulFloor, Counted}
 use Rattle.lock_state.specs.Steps.{Step, Seeks, Looks, TakesItem, GivesItem, Gains, Drops, Stamps, Readies, Unreadies, Enters, Opens, EntersSleepQueue, OpensSleepQueue, Adds, Wakes, Marks, Resumes, Claims, Lends, Shifts, EndsWalk, Admits, Refuses, CountsOut, CountsIn, CountsSelfIn, CountsEnd, Halts, Aborts, IsRunnable, IsHalting, is_halting, FitsFloor, KeepsCount, after}
 use Rattle.count_laws.proofs.Counted as counted
 use Rattle.count_laws.proofs.Countings as counts
+use Rattle.std.proofs.Common.{arith}
 
 halting_unparked : (p : Phase) → is_halting p ≡ true → is_parked p ≡ false
-halting_unparked Awake e = refl
-halting_unparked Asleep e = absurd cc
-halting_unparked Last e = absurd cc
-halting_unparked Halting e = refl
-halting_unparked Aborting e = refl
-halting_unparked SelfAborted e = refl
+halting_unparked p e = grind arith
 
 -- a thread that is awake, or at halting others, isn't parked
 unparked : (s : State) (t : ℕ) → IsRunnable s t ⊎ IsHalting s t → is_parked (s.phase t) ≡ false
-unparked s t (inl a) = ap is_parked a.phase
-unparked s t (inr e) = halting_unparked (s.phase t) e
+unparked s t e = grind arith
 
 taking_unparked : (s : State) (t : ℕ) (b : Bool) → IsRunnable s t ⊎ (IsHalting s t × (b ≡ true))
     → is_parked (s.phase t) ≡ false

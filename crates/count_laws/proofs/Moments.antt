@@ -63,10 +63,6 @@ halts_to_come c p (e ∷ es) n = (
 
 -- 3. A thread that has made no entry since
 
-empty_is : (xs : List Entry) → is_empty xs ≡ true → xs ≡ []
-empty_is [] e = refl
-empty_is (x ∷ xs) e = absurd cc
-
 module _ (p t : ℕ) where
   -- its entries are all below
   pub own_below : (es : List Entry) → is_empty (entries_of (entries_since p es) t) ≡ true

@@ -42,8 +42,7 @@ no_calls l (m ∷ ms) = grind (arith, no_calls l ms)
 -- 2. The queue
 
 there : (c : Config) (q : QueueName) → IsQueueOf c q → IsThere c q
-there c (Lock l) i = i
-there c (Chan d) i = i
+there c q i = grind arith
 
 module _ (c : Config) (s : State) (t : ℕ) (q : QueueName) (side : Side) (u : ℕ) (g : MayAbort c s t q side u)
     (h : Lawful c s) where
@@ -103,8 +102,7 @@ bits_less X w ws q i = record { exclusive = refl; shared = i.shared }
 bits_less S w ws q i = record { exclusive = i.exclusive; shared = refl }
 
 some_stands : (u : ℕ) (ws : List Waiter) → 1 ≤ times_waiting u ws → is_empty ws ≡ false
-some_stands u [] i = absurd (omega arith)
-some_stands u (w ∷ ws) i = refl
+some_stands u ws i = grind arith
 
 -- where a side has a waiter, its bit alone may fall
 shows_less : (side : Side) (b : Bool) (w : Word) (q : Lists) → ShowsItsWaiters w q → is_empty (list_of side q) ≡ false

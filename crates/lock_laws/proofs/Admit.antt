@@ -3,18 +3,14 @@ use Rattle.std.proofs.Common.{◌≡◌, ℕ, Option, Some, None, sym, arith, �
 use Rattle.lock_model.specs.Config.{Config}
 use Rattle.lock_model.specs.declared.plan.QueueName.{QueueName}
 use Rattle.lock_state.specs.State.{State, Running, Queued, put}
-use Rattle.lock_state.specs.Steps.Items.{Item, TurnstileChain, SleepChain, RecordOf, CellOf, ClassGraph, out_with, item_with}
+use Rattle.lock_state.specs.Steps.Items.{Item, out_with, item_with}
 use Rattle.lock_state.specs.Steps.Orders.{IsFreeToTake, after_admit, after_refuse}
 use Rattle.lock_state.specs.Facts.{Lawful, StandingIsQueued, StandingWants, WokenWants, CalledWants, OutIsNarrow}
 use Rattle.lock_laws.proofs.Kit.{columns}
 
 -- what is out once the class graph is home
 pub less_out : (s : State) (i : Item) (t : ℕ) → out_with s.turnstile_chain_with s.sleep_chain_with s.record_with s.cell_with None i ≡ Some t → item_with s i ≡ Some t
-less_out s (TurnstileChain k) t e = e
-less_out s (SleepChain k) t e = e
-less_out s (RecordOf k) t e = e
-less_out s (CellOf l k) t e = e
-less_out s ClassGraph t e = absurd cc
+less_out s i t e = grind arith
 
 narrow : (c : Config) (s : State) → Lawful c s → OutIsNarrow s.turnstile_chain_with s.sleep_chain_with s.record_with s.cell_with None
 unfolding OutIsNarrow

@@ -1,13 +1,12 @@
 -- What a turn finds in a lawful state: words that can be, and objects where they are.
-use Rattle.std.proofs.Common.{◌≡◌, ◌⊎◌, ℕ, ◌+◌, ◌≤◌, true, false, not, ◌||◌, Option, Some, None, refl, sym, ap, inl, inr, arith, ◌∙◌}
+use Rattle.std.proofs.Common.{◌≡◌, ◌⊎◌, ℕ, ◌+◌, ◌≤◌, true, false, not, ◌||◌, Option, Some, None, refl, arith}
 use Rattle.lock_model.specs.Counts.{some}
-use Rattle.lock_model.specs.Words.{Holder, Free, HeldBy, SharedBy, IsWellFormed, word_of, bits_of, is_turnstile, owner_of, is_free, without_one, shows_waiters, is_drop}
-use Rattle.lock_model.specs.Holds.{is_exclusive, Holds}
+use Rattle.lock_model.specs.Words.{IsWellFormed, word_of, bits_of, is_turnstile, owner_of, shows_waiters, is_drop}
+use Rattle.lock_model.specs.Holds.{Holds}
 use Rattle.lock_model.specs.Config.{Config}
 use Rattle.lock_state.specs.State.{State}
 use Rattle.lock_model.specs.Queues.{lock_queue, stands}
 use Rattle.lock_state.specs.Facts.{Lawful, TurnstileIsLent, SleepQueueIsLent, WordsMatchHolders, OnlyThreadsStand, HeadsFitWaiters, BitsShowWaiters, OwnersHold}
-use Rattle.lock_state.specs.Facts.Words.{owns}
 use Rattle.lock_model.specs.declared.plan.Mode.TheVariants.{Excl}
 use Rattle.lock_model.specs.declared.plan.QueueName.{QueueName}
 use Rattle.lock_laws.proofs.Words.{word_again}
@@ -27,18 +26,12 @@ seen_again c s l h = word_again (s.word l) (h.words.words_match_holders l).some_
 -- a release of a lock that is held exclusively is a drop exactly where no waiter is shown
 pub drop_where_none_shown : (c : Config) (s : State) (t l : ℕ) → Lawful c s → s.held t l ≡ Holds Excl → is_drop (s.word l) ≡ not (shows_waiters (s.word l))
 unfolding WordsMatchHolders
-drop_where_none_shown c s t l h e = go (s.word l).holder (sym ((h.words.words_match_holders l).owner t) ∙ ap is_exclusive e)
-  where
-    go : (x : Holder) → owns t x ≡ true → (not (is_free (without_one x)) || not (shows_waiters (s.word l))) ≡ not (shows_waiters (s.word l))
-    go Free i = absurd cc
-    go (HeldBy u) i = refl
-    go (SharedBy n) i = absurd cc
+drop_where_none_shown c s t l h e = grind arith
 
 -- 2. Objects
 
 at_home : (o : Option ℕ) → some o ≡ 1 → (x : ℕ) × (o ≡ Some x)
-at_home None e = absurd cc
-at_home (Some x) e = (x, refl)
+at_home o e = grind arith
 
 -- a thread that stands on no queue has its turnstile
 pub has_turnstile : (c : Config) (s : State) (t : ℕ) → Lawful c s → s.blocked_on t ≡ None → (x : ℕ) × (s.turnstile t ≡ Some x)
@@ -75,27 +68,15 @@ no_owner c s q h e = (h.queues.heads_fit_waiters q).no_owner e
 pub owner_found : (c : Config) (s : State) (l o : ℕ) → Lawful c s → is_turnstile (c.kind l) ≡ true → s.owner (lock_queue l) ≡ Some o
     → (x : ℕ) × (s.head (lock_queue l) ≡ Some x) × (owner_of (s.word l).holder ≡ Some o)
 unfolding OwnersHold
-owner_found c s l o h k e = go (s.head (lock_queue l)) refl
-  where
-    go : (x : Option ℕ) → s.head (lock_queue l) ≡ x → (y : ℕ) × (s.head (lock_queue l) ≡ Some y) × (owner_of (s.word l).holder ≡ Some o)
-    go None f = absurd (let z : None ≡ Some o = sym (no_owner c s (lock_queue l) h f) ∙ e in cc)
-    go (Some y) f = (y, f, sym (h.loans.owners_hold l ∙ rw (k, f) refl) ∙ e)
+owner_found c s l o h k e = grind arith
 
 -- where it has none, there is no head or the word says none
 pub no_owner_found : (c : Config) (s : State) (l : ℕ) → Lawful c s → is_turnstile (c.kind l) ≡ true → s.owner (lock_queue l) ≡ None
     → (s.head (lock_queue l) ≡ None) ⊎ (owner_of (s.word l).holder ≡ None)
 unfolding OwnersHold
-no_owner_found c s l h k e = go (s.head (lock_queue l)) refl
-  where
-    go : (x : Option ℕ) → s.head (lock_queue l) ≡ x → (s.head (lock_queue l) ≡ None) ⊎ (owner_of (s.word l).holder ≡ None)
-    go None f = inl f
-    go (Some y) f = inr (sym (h.loans.owners_hold l ∙ rw (k, f) refl) ∙ e)
+no_owner_found c s l h k e = grind arith
 
 -- the record of a number beyond the plan's threads names nothing
 pub beyond_unnamed : (c : Config) (s : State) (t : ℕ) → Lawful c s → c.threads ≤ t → s.blocked_on t ≡ None
 unfolding OnlyThreadsStand
-beyond_unnamed c s t h l = go (s.blocked_on t) refl
-  where
-    go : (o : Option QueueName) → s.blocked_on t ≡ o → o ≡ None
-    go None e = refl
-    go (Some q) e = absurd (let a = h.waits.only_threads_stand t q e in omega (arith, a))
+beyond_unnamed c s t h l = grind arith

@@ -24,16 +24,13 @@ use Rattle.lock_laws.proofs.Words.{owns_is}
 -- 1. The least
 
 lower-le : (o : Option ℕ) (d p : ℕ) → o ≡ Some p → lower o d ≤ p
-lower-le None d p e = cc
-lower-le (Some q) d p e = grind arith
+lower-le o d p e = grind arith
 
 lower-le_base : (o : Option ℕ) (d : ℕ) → lower o d ≤ d
-lower-le_base None d = omega arith
-lower-le_base (Some q) d = omega arith
+lower-le_base o d = grind arith
 
 lower-above : (o : Option ℕ) (d m : ℕ) → ((p : ℕ) → o ≡ Some p → m ≤ p) → m ≤ d → m ≤ lower o d
-lower-above None d m f l = l
-lower-above (Some q) d m f l = let a = f q refl in omega arith
+lower-above o d m f l = grind arith
 
 pub least-le : (n : ℕ) (f : ℕ → Option ℕ) (d j p : ℕ) → j < n → f j ≡ Some p → least n f d ≤ p
 unfolding least

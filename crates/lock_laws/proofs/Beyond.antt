@@ -184,9 +184,4 @@ module _ (c : Config) (s : State) (h : Lawful c s) where
   few_wait q = omega (arith, waiters_stand q, sum_below-most c.threads (λ u. stands u (s.lists q)) (λ u. omega (arith, h.waits.stands_once u q, one_at (s.blocked_on u))))
     where
       one_at : (o : Option QueueName) → at_queue q o ≤ 1
-      one_at None = omega arith
-      one_at (Some r) = go (is_queue q r)
-        where
-          go : (b : Bool) → one b ≤ 1
-          go true = omega arith
-          go false = omega arith
+      one_at o = grind arith

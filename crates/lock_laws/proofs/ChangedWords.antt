@@ -26,8 +26,7 @@ use Rattle.lock_laws.proofs.Kit.{put_same, put_back}
 -- 1. The word of a lock, where somebody stands on a side
 
 pub some_there : (u : ℕ) (ws : List Waiter) → 0 < times_waiting u ws → is_empty ws ≡ false
-some_there u [] here = absurd (omega arith)
-some_there u (w ∷ ws) here = refl
+some_there u ws here = grind arith
 
 -- it has the side's bit,
 bit_stays : (side : Side) (w : Word) (q : Lists) → ShowsItsWaiters w q → is_empty (list_of side q) ≡ false

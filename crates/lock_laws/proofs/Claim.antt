@@ -1,5 +1,5 @@
 -- A claim keeps each fact.
-use Rattle.std.proofs.Common.{◌≡◌, ℕ, Bool, true, false, Option, Some, None, refl, sym, ap, inl, inr, arith, ◌∙◌}
+use Rattle.std.proofs.Common.{◌≡◌, ℕ, Bool, true, Option, Some, None, refl, sym, ap, inl, inr, arith, ◌∙◌}
 use Rattle.std.proofs.lemmas.Bool.{cases_eq}
 use Rattle.lock_model.specs.Counts.{at_option}
 use Rattle.lock_model.specs.Words.{Free, HeldBy, is_turnstile, claimed}
@@ -25,9 +25,7 @@ head_keeps : (o p : Option ℕ) (h : Option ℕ) (x : ℕ) → h ≡ Some x → 
 head_keeps o p h x e f = absurd (let z : Some x ≡ None = sym e ∙ f in cc)
 
 no_owner_here : (b : Bool) (x : Option ℕ) (t : ℕ) → owner_if b x Free ≡ Some t → ⊥
-no_owner_here b None t e = cc
-no_owner_here true (Some x) t e = cc
-no_owner_here false (Some x) t e = cc
+no_owner_here b x t e = grind arith
 
 owner_claimed : (b : Bool) (h : Option ℕ) (x t : ℕ) → b ≡ true → h ≡ Some x → Some t ≡ owner_if b h (HeldBy t)
 owner_claimed b h x t e f = rw (e, f) refl

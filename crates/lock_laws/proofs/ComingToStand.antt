@@ -2,7 +2,7 @@
 -- sleep queue. Whichever the queue, its sort and the rule by which waiters are put in, what that could break is kept:
 -- places of objects, heads, the order of lists, who stands, and what those who stand want and are called for. A word's
 -- bits and callers, owners, loans and kept priorities are for the steps that change these.
-use Rattle.std.proofs.Common.{◌≡◌, ℕ, suc, ◌+◌, ◌<◌, Bool, true, false, not, eqb, List, [], ◌∷◌, length, Option, Some, None, refl, sym, ap, subst, arith, ◌∙◌}
+use Rattle.std.proofs.Common.{◌≡◌, ℕ, suc, ◌+◌, ◌<◌, Bool, true, false, not, eqb, List, [], length, Option, Some, None, refl, sym, ap, subst, arith, ◌∙◌}
 use Rattle.lock_model.specs.Counts.{is_empty, one}
 use Rattle.lock_model.specs.Config.{Config}
 use Rattle.lock_model.specs.Queues.{Waiter, Lists, Ascends, is_turnstile_queue, names_turnstile, names_sleep_queue, lock_queue, list_of, with_list, times_waiting, stands, waiting, insert, head_with, free_with, with_last}
@@ -17,7 +17,7 @@ use Rattle.lock_state.specs.Steps.Turnstiles.{with_waiter}
 use Rattle.lock_state.specs.Facts.{Lawful, OneTurnstileEach, OneSleepQueueEach, TurnstileIsLent, SleepQueueIsLent, HeadsFitWaiters, ListsAscend, MutexWaitersAreExclusive, StandsOnce, OnlyThreadsStand, StandingIsQueued, StandingWants, WokenWants, CalledWants, StandingIsUncalled, WokenIsUncalled}
 use Rattle.lock_state.specs.Facts.Queues.{HeadFits, turnstile_places, sleep_queue_places}
 use Rattle.lock_model.proofs.Lists.{times_waiting-insert, length-insert, ascends-insert, times_waiting-last, length-last}
-use Rattle.lock_laws.proofs.Kit.{columns, at_locks, is_queue_same, same_lock}
+use Rattle.lock_laws.proofs.Kit.{columns, at_locks, is_queue_same}
 use Rattle.lock_laws.proofs.Queues.{stands-with, waiting-with, BothAscend, ascends-with}
 use Rattle.lock_laws.proofs.Places.{IsThere, at_home, is_sort, lent, own_there, lent_places, lent_named}
 use Rattle.lock_laws.proofs.OneQueue.{QueuesKept, SameElsewhere, other_queue, heads_put, stand_put}
@@ -45,8 +45,7 @@ pub some_stand : {turnstile : Bool} {put_in : Waiter → List Waiter → List Wa
 some_stand {put_in} rule w ws = go (put_in w ws) (rule.longer w ws)
   where
     go : (vs : List Waiter) → length vs ≡ suc (length ws) → is_empty vs ≡ false
-    go [] e = absurd (omega arith)
-    go (v ∷ vs) e = refl
+    go vs e = grind arith
 
 -- the queue is a mutex's
 abbrev pub IsOfMutex : Config → QueueName → Type 0
@@ -104,8 +103,7 @@ head_fits q lists free head o owner x more f = grind (arith, f.balanced)
 
 wants_lock : (q : QueueName) (l : ℕ) → ◌≡◌ {A = Option QueueName} (Some q) (Some (lock_queue l))
     → wanted_on q ≡ Some l
-wants_lock (Lock k) l e = ap Some (same_lock k.0 l e)
-wants_lock (Chan d) l e = absurd cc
+wants_lock q l e = grind arith
 
 module _ {c : Config} {s : State} {t : ℕ} {q : QueueName} {turnstile : Bool} {side : Side} {x : ℕ}
     {put_in : Waiter → List Waiter → List Waiter} (rule : IsInsertion turnstile put_in) (kept : ℕ)

@@ -5,7 +5,6 @@ use Rattle.lock_model.specs.Config.{Config}
 use Rattle.lock_model.specs.Counts.{sum_below, one, some, times}
 use Rattle.lock_model.specs.Queues.{Waiter, Mark, is_queue, lock_queue, chan_queue, dealt, times_waiting}
 use Rattle.lock_model.specs.declared.plan.QueueName.{QueueName}
-use Rattle.lock_model.specs.declared.plan.QueueName.TheVariants.{Lock, Chan}
 use Rattle.lock_state.specs.State.{State, Wake, put}
 use Rattle.lock_state.specs.Facts.{Lawful, StandsOnce}
 use Rattle.lock_state.specs.Facts.Waits.{times_marked, at_queue}
@@ -89,8 +88,7 @@ marks_signal u d (m ∷ ms) a = rw a.0 (go m.queue (marks_signal u d ms a.1))
     go : (q : QueueName) → times_marked u (chan_queue d) ms ≤ signals u ms
         → one (is_queue (chan_queue d) q && eqb u m.thread) + times_marked u (chan_queue d) ms
         ≤ one (is_chan q && (true && eqb u m.thread)) + signals u ms
-    go (Lock l) i = omega arith
-    go (Chan k) i = grind (arith, nat_tests)
+    go q i = grind arith
 
 module _ (c : Config) (s : State) (u : ℕ) (l : Lawful c s) where
   -- a thread is in marked lists from the queue that its record names

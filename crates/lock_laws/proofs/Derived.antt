@@ -1,10 +1,10 @@
 -- What follows from the facts of a lawful state.
-use Rattle.std.proofs.Common.{◌≡◌, ◌≢◌, ℕ, ◌+◌, ◌<◌, ◌≤◌, Bool, true, false, not, List, [], ◌∷◌, Option, Some, None, refl, sym, ap, arith, ◌∙◌}
-use Rattle.lock_model.specs.Counts.{one, is_empty}
+use Rattle.std.proofs.Common.{◌≡◌, ◌≢◌, ℕ, ◌+◌, ◌<◌, ◌≤◌, true, not, List, Option, Some, None, refl, sym, ap, arith, ◌∙◌}
+use Rattle.lock_model.specs.Counts.{is_empty}
 use Rattle.lock_model.specs.Words.{is_turnstile, shows_waiters}
 use Rattle.lock_model.specs.Config.{Config}
 use Rattle.lock_state.specs.State.{State, Queued, Loan}
-use Rattle.lock_model.specs.Queues.{Waiter, is_queue, lock_queue, times_waiting, stands, waiting}
+use Rattle.lock_model.specs.Queues.{Waiter, lock_queue, times_waiting, stands, waiting}
 use Rattle.lock_model.specs.Holds.{Hold, NotHeld, Holds}
 use Rattle.lock_model.specs.History.{value_at}
 use Rattle.lock_state.specs.Facts.{Lawful, BitsShowWaiters, StandsOnce, StandingIsQueued, StandingWants, LoansAreOnHeads, TablesReplay}
@@ -37,12 +37,7 @@ pub effective : (c : Config) (s : State) (t : ℕ) → Lawful c s → NobodyWalk
 effective c s t h still free lt = best.effective_best c s h still t lt free
 
 at_most_one : (q : QueueName) (o : Option QueueName) → at_queue q o ≤ 1
-at_most_one q None = omega arith
-at_most_one q (Some r) = one_le (is_queue q r)
-  where
-    one_le : (b : Bool) → one b ≤ 1
-    one_le true = omega arith
-    one_le false = omega arith
+at_most_one q o = grind arith
 
 -- a thread stands at most once, and on one queue
 pub once : (c : Config) (s : State) (t : ℕ) (q : QueueName) → Lawful c s → stands t (s.lists q) ≤ 1
@@ -72,6 +67,4 @@ shown c s t l h a =
     (h.waits.standing_is_queued t (lock_queue l) x, h.waits.standing_wants t l x, go (s.lists (lock_queue l)).exclusive (s.lists (lock_queue l)).shared (h.queues.bits_show_waiters l).exclusive (h.queues.bits_show_waiters l).shared a)
   where
     go : (x y : List Waiter) → (s.word l).exclusive_waiters ≡ not (is_empty x) → (s.word l).shared_waiters ≡ not (is_empty y) → 1 ≤ times_waiting t x + times_waiting t y → shows_waiters (s.word l) ≡ true
-    go [] [] e f i = absurd (omega arith)
-    go (w ∷ x) y e f i = rw e refl
-    go [] (w ∷ y) e f i = rw (e, f) refl
+    go x y e f i = grind arith

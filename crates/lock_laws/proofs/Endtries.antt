@@ -1,7 +1,5 @@
 -- Endtrys take no turn: a thread goes on at the first operation from a place on that is none.
-use Rattle.std.proofs.Common.{◌≡◌, ◌≢◌, ℕ, zero, suc, Bool, true, false, cond, List, [], ◌∷◌, length, slice_get, Some, refl, sym, ap, arith, subst}
-use Rattle.std.specs.List.{take_while}
-use Rattle.std.proofs.lemmas.List.Sums.{take_while-cons}
+use Rattle.std.proofs.Common.{◌≡◌, ◌≢◌, ℕ, zero, suc, Bool, true, false, cond, List, [], ◌∷◌, slice_get, Some, refl, sym, ap, arith, subst}
 use Rattle.std.proofs.lemmas.Option.{none-some, same_Some}
 use Rattle.lock_model.specs.Operations.{is_endtry, next_at}
 use Rattle.lock_model.specs.declared.plan.Op.{Op}
@@ -15,11 +13,7 @@ next_behind : (op : Op) (ops : List Op) (n : ℕ) → next_at (op ∷ ops) (suc 
 next_behind op ops n = omega arith
 
 next_here : (op : Op) (ops : List Op) → next_at (op ∷ ops) 0 ≡ cond (is_endtry op) (suc (next_at ops 0)) 0
-next_here op ops = let e = ap length (take_while-cons is_endtry op ops) in go (is_endtry op) e
-  where
-    go : (b : Bool) → length (take_while is_endtry (op ∷ ops)) ≡ length (cond b (op ∷ take_while is_endtry ops) []) → next_at (op ∷ ops) 0 ≡ cond b (suc (next_at ops 0)) 0
-    go true e = omega arith
-    go false e = omega arith
+next_here op ops = grind arith
 
 next_past : (n : ℕ) → next_at [] n ≡ n
 next_past zero = refl

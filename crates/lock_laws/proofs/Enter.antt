@@ -1,5 +1,5 @@
 -- An enter on a turnstile keeps each fact.
-use Rattle.std.proofs.Common.{◌≡◌, ℕ, true, Option, Some, None, refl, sym, ap, inl, inr, arith, ◌∙◌}
+use Rattle.std.proofs.Common.{◌≡◌, ℕ, true, Option, refl, sym, ap, inl, inr, arith, ◌∙◌}
 use Rattle.std.proofs.lemmas.Bool.{cases_eq}
 use Rattle.lock_model.specs.Config.{Config}
 use Rattle.lock_model.specs.Words.{Holder, is_turnstile, owner_of}
@@ -21,13 +21,11 @@ use Rattle.lock_laws.proofs.LockQueues.{entered_lock}
 -- the owner behind an enter, of a first waiter's turnstile and of one that stands there, is the word's exclusive holder
 owner_is : (head o : Option ℕ) (y : Holder) → o ≡ owner_if true head y
     → owner_with head o y ≡ owner_of y
-owner_is None o y e = refl
-owner_is (Some x) o y e = e
+owner_is head o y e = grind arith
 
 owner_behind : (head : Option ℕ) (x : ℕ) (y : Holder)
     → owner_if true (head_with head x) y ≡ owner_of y
-owner_behind None x y = refl
-owner_behind (Some i) x y = refl
+owner_behind head x y = grind arith
 
 module _ (c : Config) (s : State) (t l : ℕ) (mode : Mode) (x : ℕ) (g : MayEnter c s t l mode x) (h : Lawful c s) where
   abbrev n : State

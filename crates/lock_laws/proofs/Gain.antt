@@ -29,15 +29,7 @@ pub record Gained (c : Config) (s : State) (t l : ℕ) (mode : Mode) : Type 0 wh
 pub gained_lock : (c : Config) (s : State) (t l : ℕ) (mode : Mode) → t < c.threads → s.held t l ≡ NotHeld
     → IsActing s t → Lawful c s → Gained c s t l mode
 unfolding StandingWants WokenWants CalledWants StandingIsUncalled WokenIsUncalled OnlyThreadsHold SectionsAreHeld
-gained_lock c s t l mode thread unheld acting h = record {
-  standing_wants = λ u k. grind (arith, columns, h.waits.standing_wants u k);
-  woken_wants = λ u k. grind (arith, columns, h.waits.woken_wants u k);
-  called_wants = λ u k. grind (arith, columns, h.waits.called_wants u k);
-  standing_uncalled = λ u q. grind (arith, columns, h.waits.standing_is_uncalled u q);
-  woken_uncalled = λ u. grind (arith, columns, h.waits.woken_is_uncalled u);
-  threads_hold = λ u k m. grind (arith, columns, h.words.only_threads_hold u k m, thread);
-  sections = λ u k m. grind (arith, columns, h.books.sections_are_held u k m, unheld);
-}
+gained_lock c s t l mode thread unheld acting h = grind (arith, columns)
 
 module _ (c : Config) (s : State) (t l : ℕ) (mode : Mode) (by_try : Bool) (g : MayGain c s t l mode) (h : Lawful c s) where
   abbrev n : State

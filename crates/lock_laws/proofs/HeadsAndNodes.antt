@@ -1,6 +1,6 @@
 -- Where the turnstiles and the loan nodes of a lawful state are, and who owns a head.
 use Rattle.std.proofs.Common.{◌≡◌, ℕ, ◌+◌, ◌<◌, ◌≤◌, Bool, true, false, ltb, ◌&&◌, Option, Some, None, refl, sym, ap, inl, inr, arith, ◌∙◌}
-use Rattle.std.proofs.lemmas.Bool.{ne_eqb, cases_lt}
+use Rattle.std.proofs.lemmas.Bool.{cases_lt}
 use Rattle.lock_model.specs.Counts.{sum_below, one, at_option}
 use Rattle.lock_model.specs.Words.{is_turnstile}
 use Rattle.lock_model.specs.Config.{Config}
@@ -75,8 +75,7 @@ unused_home c s x h inside none =
     home (ltb x c.threads) (s.loan_home x) inside (omega (arith, h.queues.one_node_each x))
   where
     unused : (u k : ℕ) → k < c.locks → (o : Option Loan) → s.loan u k ≡ o → at_loan x o ≡ 0
-    unused u k j None e = refl
-    unused u k j (Some y) e = ap one (ne_eqb x y.number (none u k y j e))
+    unused u k j o e = grind arith
 
     home : (b d : Bool) → b ≡ true → one (b && d) ≡ one b → d ≡ true
     home true true i e = refl

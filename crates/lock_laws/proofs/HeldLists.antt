@@ -31,12 +31,10 @@ use Rattle.lock_laws.proofs.Endtries.{at_next}
 -- 1. Lists
 
 pub unheld_is : (x : Hold) → is_unheld x ≡ true → x ≡ NotHeld
-unheld_is NotHeld e = refl
-unheld_is (Holds mode) e = absurd cc
+unheld_is x e = grind arith
 
 pub held_is : (x : Hold) → is_unheld x ≡ false → x ≢ NotHeld
-held_is NotHeld e n = absurd cc
-held_is (Holds mode) e n = cc
+held_is x e n = grind arith
 
 -- a hold that isn't one still isn't, where a lock is released
 pub still_unheld : (b : Bool) (x : Hold) → x ≡ NotHeld → cond b NotHeld x ≡ NotHeld

@@ -1,11 +1,12 @@
 -- Taking something out of its home, and giving it back, keep each fact.
-use Rattle.std.proofs.Common.{◌≡◌, ◌⊎◌, ℕ, true, Option, Some, None, ap, refl, sym, inl, inr, ◌∙◌, subst, eq-eqb}
+use Rattle.std.proofs.Common.{◌≡◌, ◌⊎◌, ℕ, true, Option, Some, None, ap, refl, sym, inl, inr, ◌∙◌, subst}
 use Rattle.std.proofs.lemmas.Bool.{cases_eq}
 use Rattle.lock_state.specs.State.{State, put, put_at}
 use Rattle.lock_model.specs.Config.{Config}
 use Rattle.lock_state.specs.Steps.Items.{Item, TurnstileChain, SleepChain, RecordOf, CellOf, ClassGraph, MayTake, MayGive, after_take, after_give, item_with, out_with, go_together, turnstile_chains_after, sleep_chains_after, records_after, cells_after, graph_after}
 use Rattle.lock_state.specs.Facts.{Lawful, OutIsNarrow}
 use Rattle.lock_laws.proofs.Kit.{put_same, put_other, put_at_same, put_at_other, put_at_beside}
+use Rattle.std.proofs.Common.{arith}
 
 by_place : (f : ℕ → Option ℕ) (i : ℕ) (o : Option ℕ) (j : ℕ) → (i ≡ j) ⊎ (put f i o j ≡ f j)
 by_place f i o j = elim (cases_eq i j) [ inl x ↦ inl x | inr x ↦ inr (put_other f i o j x) ]
@@ -62,11 +63,7 @@ pub changed : (s : State) (i : Item) (o : Option ℕ) (j : Item) (t : ℕ) → w
 changed s i o j t e = elim (beside s i o j) [ inl x ↦ inl (x, sym (at_itself s i o) ∙ ap (with_then s i o) x ∙ e) | inr x ↦ inr (sym x ∙ e) ]
 
 with_itself : (i : Item) → go_together i i ≡ true
-with_itself (TurnstileChain a) = eq-eqb a a refl
-with_itself (SleepChain a) = eq-eqb a a refl
-with_itself (RecordOf a) = eq-eqb a a refl
-with_itself (CellOf a k) = rw (eq-eqb a a refl, eq-eqb k k refl) refl
-with_itself ClassGraph = refl
+with_itself i = grind arith
 
 abbrev Narrow : State → Item → Option ℕ → Type 0
 Narrow s i o = OutIsNarrow (turnstile_chains_after i o s.turnstile_chain_with) (sleep_chains_after i o s.sleep_chain_with) (records_after i o s.record_with) (cells_after i o s.cell_with) (graph_after i o s.graph_with)

@@ -1,6 +1,6 @@
 -- Laws of columns and of sums that each law of a kind uses.
-use Rattle.std.proofs.Common.{◌≡◌, ℕ, zero, suc, ◌+◌, ◌<◌, ◌≤◌, Bool, true, false, cond, eqb, Option, Some, None, refl, sym, ap, inl, inr, arith, eq-eqb, subst, ◌&&◌, ◌∙◌}
-use Rattle.std.proofs.lemmas.Bool.{ne_eqb, cases_eq, eqb-true}
+use Rattle.std.proofs.Common.{◌≡◌, ℕ, zero, suc, ◌+◌, ◌<◌, ◌≤◌, true, false, cond, eqb, Option, Some, None, refl, sym, ap, inl, inr, arith, eq-eqb, subst, ◌&&◌}
+use Rattle.std.proofs.lemmas.Bool.{ne_eqb, cases_eq}
 use Rattle.lock_model.specs.Counts.{sum_below, one, at_option}
 use Rattle.lock_state.specs.State.{put, put_at, put_queue}
 use Rattle.lock_model.specs.Queues.{is_queue, lock_queue, chan_queue}
@@ -9,14 +9,10 @@ use Rattle.lock_model.specs.declared.plan.QueueName.{QueueName}
 use Rattle.lock_model.specs.declared.plan.QueueName.TheVariants.{Lock, Chan}
 
 pub is_queue_same : (q : QueueName) → is_queue q q ≡ true
-is_queue_same (Lock l) = eq-eqb l.0 l.0 refl
-is_queue_same (Chan d) = eq-eqb d.0 d.0 refl
+is_queue_same q = grind arith
 
 pub is_queue_true : (q r : QueueName) → is_queue q r ≡ true → q ≡ r
-is_queue_true (Lock l) (Lock k) e = ap lock_queue (eqb-true l.0 k.0 e)
-is_queue_true (Chan d) (Chan e) x = ap chan_queue (eqb-true d.0 e.0 x)
-is_queue_true (Lock l) (Chan d) e = absurd cc
-is_queue_true (Chan d) (Lock l) e = absurd cc
+is_queue_true q r e = grind arith
 
 -- 1. Columns
 
@@ -27,11 +23,7 @@ put_same f i v = ap (λ b. cond b v (f i)) (eq-eqb i i refl)
 -- the entry that is put was there before
 pub put_back : {A : Type 0} (f : ℕ → A) (i : ℕ) (v : A) → f i ≡ v → put f i v ≡ f
 unfolding put
-put_back f i v e = λ k j. go (eqb i j) (eqb-true i j) k
-  where
-    go : {j : ℕ} (b : Bool) → (b ≡ true → i ≡ j) → cond b v (f j) ≡ f j
-    go true h = sym e ∙ ap f (h refl)
-    go false h = refl
+put_back f i v e = grind arith
 
 pub put_other : {A : Type 0} (f : ℕ → A) (i : ℕ) (v : A) (j : ℕ) → (i ≡ j → ⊥) → put f i v j ≡ f j
 unfolding put
@@ -105,11 +97,7 @@ at_put_lock P f i v here there j =
 pub at_put_queue : {A : Type 0} (P : QueueName → A → Type 0) (f : QueueName → A) (q : QueueName) (v : A) → P q v
     → ((r : QueueName) → is_queue q r ≡ false → P r (f r)) → (r : QueueName) → P r (put_queue f q v r)
 unfolding put_queue
-at_put_queue P f q v here there r = go (is_queue q r) refl
-  where
-    go : (b : Bool) → is_queue q r ≡ b → P r (cond b v (f r))
-    go true e = subst (λ i. P i v) (is_queue_true q r e) here
-    go false e = there r e
+at_put_queue P f q v here there r = grind arith
 
 -- a fact of the entries of some locks, where one queue's entry is changed
 pub at_locks : {A : Type 0} (K : ℕ → Type 0) (P : A → Type 0) (f : QueueName → A) (q : QueueName) (v : A)
@@ -219,8 +207,7 @@ pub one_same : (n : ℕ) → one (eqb n n) ≡ 1
 one_same n = ap one (eq-eqb n n refl)
 
 pub at_option_one : (n : ℕ) (o : Option ℕ) → 1 ≤ at_option n o → o ≡ Some n
-at_option_one n None l = absurd (omega arith)
-at_option_one n (Some m) l = elim (cases_eq n m) [ inl e ↦ ap Some (sym e) | inr e ↦ let z : one (eqb n m) ≡ 0 = ap one (ne_eqb n m e) in absurd (omega arith) ]
+at_option_one n o l = grind arith
 
 -- 4. Queues
 
@@ -235,9 +222,4 @@ unfolding number_of
 same_lock l k e = ap number_of e
 
 pub at_queue_one : (q : QueueName) (o : Option QueueName) → 1 ≤ at_queue q o → o ≡ Some q
-at_queue_one q None l = absurd (omega arith)
-at_queue_one q (Some r) l = go (is_queue q r) refl l
-  where
-    go : (b : Bool) → is_queue q r ≡ b → 1 ≤ one b → Some r ≡ Some q
-    go true e i = ap Some (sym (is_queue_true q r e))
-    go false e i = absurd (omega arith)
+at_queue_one q o l = grind arith

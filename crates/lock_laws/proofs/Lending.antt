@@ -1,5 +1,5 @@
 -- Laws of loans, of kept priorities and of walks.
-use Rattle.std.proofs.Common.{◌≡◌, ◌≢◌, ℕ, zero, suc, ◌<◌, ◌≤◌, true, false, cond, eqb, leb, min, List, [], ◌∷◌, length, Option, Some, None, refl, sym, ap, inl, inr, arith, eq-eqb, ◌∙◌}
+use Rattle.std.proofs.Common.{◌≡◌, ◌≢◌, ℕ, zero, suc, ◌<◌, ◌≤◌, true, false, cond, eqb, leb, List, [], ◌∷◌, length, Option, Some, refl, sym, ap, inl, inr, arith, eq-eqb, ◌∙◌}
 use Rattle.std.proofs.lemmas.Bool.{ne_eqb, cases_eq}
 use Rattle.lock_model.specs.Counts.{one, least, lower, is_empty}
 use Rattle.lock_model.specs.Config.{Config}
@@ -10,7 +10,7 @@ use Rattle.lock_state.specs.Steps.Turnstiles.{walk_up}
 use Rattle.lock_state.specs.Facts.Loans.{Each, EachOf, IsKept, EffectiveIsLeast, at_lock, at_thread}
 use Rattle.lock_model.specs.declared.plan.Side.{Side}
 use Rattle.lock_model.specs.declared.plan.Side.TheVariants.{X, S}
-use Rattle.lock_laws.proofs.Kit.{put_same, put_other, put_at_same, put_at_other, put_at_beside, each_place, one_same}
+use Rattle.lock_laws.proofs.Kit.{put_same, put_other, put_at_same, put_at_other, put_at_beside, each_place}
 use Rattle.lock_model.proofs.Lists.{times_waiting-reinsert, length-reinsert, by_reinsert}
 
 -- 1. The least
@@ -32,8 +32,7 @@ by_least P zero f d b o = b
 by_least P (suc n) f d b o = go (f n) (λ p e. o n p (omega arith) e) (least n f d) (by_least P n f d b (λ j p l e. o j p (omega arith) e))
   where
     go : (x : Option ℕ) → ((p : ℕ) → x ≡ Some p → P p) → (m : ℕ) → P m → P (lower x m)
-    go None k m q = q
-    go (Some p) k m q = elim (cases_eq (min p m) p) [ inl e ↦ rw e (k p refl) | inr e ↦ let z : min p m ≡ m = omega arith in rw z q ]
+    go x k m q = grind arith
 
 -- 2. Effective priorities
 
@@ -74,15 +73,8 @@ each-insert P w (v ∷ vs) p e =
       | false ↦ (p, e)
     ]
 
-each-without : (P : Waiter → Type 0) (t : ℕ) (ws : List Waiter) → Each P ws → Each P (without t ws)
-each-without P t [] e = tt
-each-without P t (w ∷ ws) e = elim (eqb t w.thread) as (λ b. Each P (cond b ws (w ∷ without t ws))) [ true ↦ e.1 | false ↦ (e.0, each-without P t ws e.1) ]
-
 is_empty-length : (ws vs : List Waiter) → length ws ≡ length vs → is_empty ws ≡ is_empty vs
-is_empty-length [] [] e = refl
-is_empty-length (w ∷ ws) (v ∷ vs) e = refl
-is_empty-length [] (v ∷ vs) e = absurd (omega arith)
-is_empty-length (w ∷ ws) [] e = absurd (omega arith)
+is_empty-length ws vs e = grind arith
 
 pub is_empty-reinsert : (t p : ℕ) (ws : List Waiter) → is_empty (reinsert t p ws) ≡ is_empty ws
 is_empty-reinsert t p ws = is_empty-length (reinsert t p ws) ws (length-reinsert t p ws)
@@ -135,9 +127,7 @@ each_of-elsewhere c walk effective t v q z =
 -- 4. A walk goes on to the lock where there is an owner to lend to
 
 pub at_thread-walk_up : (o l : ℕ) (x : Option ℕ) → at_thread o (walk_up l x) ≡ 0
-at_thread-walk_up o l None = refl
-at_thread-walk_up o l (Some y) = refl
+at_thread-walk_up o l x = grind arith
 
 pub walk_up-there : (l : ℕ) (x : Option ℕ) (u : ℕ) → x ≡ Some u → at_lock l (walk_up l x) ≡ 1
-walk_up-there l None u e = absurd cc
-walk_up-there l (Some y) u e = one_same l
+walk_up-there l x u e = grind arith

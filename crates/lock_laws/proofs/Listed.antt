@@ -8,6 +8,7 @@ use Rattle.lock_state.specs.Facts.Words.{is_listed}
 use Rattle.lock_state.specs.Facts.{HeldAreListed}
 use Rattle.lock_model.specs.declared.plan.Mode.{Mode}
 use Rattle.lock_laws.proofs.Kit.{put_same, put_other, put_at_same, put_at_other, put_at_beside}
+use Rattle.std.proofs.Common.{arith}
 
 listed_without : (l k : ℕ) (hs : List HeldLock) → is_listed k (without_held l hs) ≡ cond (eqb l k) false (is_listed k hs)
 listed_without l k [] = elim (eqb l k) as (λ b. false ≡ cond b false false) [ true ↦ refl | false ↦ refl ]
@@ -18,16 +19,10 @@ listed_without l k (h ∷ hs) =
     ]
   where
     here : l ≡ h.lock → cond (eqb l k) false (is_listed k hs) ≡ cond (eqb l k) false (eqb k h.lock || is_listed k hs)
-    here x = elim (cases_eq l k) [
-      | inl y ↦ rw (eq-eqb l k y) refl
-      | inr y ↦ rw (ne_eqb l k y, ne_eqb k h.lock (λ z. y (x ∙ sym z))) refl
-    ]
+    here x = grind arith
 
     beside : (l ≡ h.lock → ⊥) → is_listed k (without_held l hs) ≡ cond (eqb l k) false (is_listed k hs) → (eqb k h.lock || is_listed k (without_held l hs)) ≡ cond (eqb l k) false (eqb k h.lock || is_listed k hs)
-    beside x rest = elim (cases_eq l k) [
-      | inl y ↦ rw (rest, eq-eqb l k y, ne_eqb k h.lock (λ z. x (y ∙ z))) refl
-      | inr y ↦ rw (rest, ne_eqb l k y) refl
-    ]
+    beside x rest = grind arith
 
 module _ (s : State) (t l : ℕ) (h : HeldAreListed s.held s.held_locks) where
   pub gained : (mode : Mode) (by_try : Bool) → HeldAreListed (put_at s.held t l (Holds mode)) (put s.held_locks t (record { lock = l; by_try = by_try } ∷ s.held_locks t))

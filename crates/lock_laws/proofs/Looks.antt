@@ -2,7 +2,6 @@
 use Rattle.std.proofs.Common.{◌≡◌, ◌≢◌, ℕ, suc, ◌<◌, ◌≤◌, Bool, true, false, not, ◌||◌, ◌&&◌, cond, Option, Some, None, refl, sym, ap, ◌∙◌, subst, inl, inr, arith, eq-eqb}
 use Rattle.lock_model.specs.Config.{Config}
 use Rattle.lock_model.specs.declared.event.Event.{Event}
-use Rattle.lock_model.specs.declared.event.Event.TheVariants.{Busy}
 use Rattle.lock_model.specs.Holds.{Hold, NotHeld, Holds}
 use Rattle.lock_state.specs.State.{State, Round, put, start_state}
 use Rattle.lock_state.specs.Steps.LockWords.{looks_after, round_after, after_seek, after_look, after_gain, after_drop, after_stamp, after_ready, after_unready}
@@ -29,8 +28,7 @@ one_more true n room l = let r = room refl in omega arith
 one_more false n room l = l
 
 noted : (e : Event) (n : ℕ) → n ≤ 100 → looks_after e n ≤ 100
-noted (Busy l seen) n h = omega arith
-noted other n h = h
+noted e n h = grind arith
 
 kept : (c : Config) (s : State) (step : Step) → May c s step → AreFew s.looks → AreFew (after c s step).looks
 unfolding AreFew after_seek after_look after_gain after_drop after_stamp after_ready after_unready after_enter
@@ -137,8 +135,7 @@ module _ (chains : ℕ) (c : Config) (s : State) (t l : ℕ) (counts : Bool) (x 
 -- an entry leaves the looks, or ends them with its round
 noted_few : (e : Event) (round : Option Round) (wanted : Option ℕ) (n : ℕ) → (round ≡ None → wanted ≡ None → n ≤ 2)
     → round_after e round ≡ None → wanted ≡ None → looks_after e n ≤ 2
-noted_few (Busy l seen) round wanted n few r w = omega arith
-noted_few other round wanted n few r w = few r w
+noted_few e round wanted n few r w = grind arith
 
 -- a round that takes its chain goes on
 in_chain_still : (b : Bool) (round : Option Round) → cond b (in_its_chain round) round ≡ None → round ≡ None

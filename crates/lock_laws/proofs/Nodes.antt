@@ -1,5 +1,5 @@
 -- Laws of loan nodes and of known priorities, where one loan is changed.
-use Rattle.std.proofs.Common.{◌≡◌, ℕ, ◌+◌, ◌<◌, ◌≤◌, Bool, true, false, ◌&&◌, eqb, ltb, min, List, [], ◌∷◌, length, Option, Some, None, refl, sym, ap, inl, inr, arith, ◌∙◌, subst}
+use Rattle.std.proofs.Common.{◌≡◌, ℕ, ◌+◌, ◌<◌, ◌≤◌, Bool, true, false, ◌&&◌, eqb, ltb, List, [], ◌∷◌, length, Option, Some, None, refl, sym, ap, inl, inr, arith, ◌∙◌, subst}
 use Rattle.std.proofs.lemmas.Bool.{ne_eqb, cases_eq}
 use Rattle.lock_model.specs.Counts.{one, some, at_option, sum_below, lower}
 use Rattle.lock_model.specs.Words.{is_turnstile}
@@ -76,8 +76,7 @@ module _ (c : Config) (s : State) (h : Lawful c s) where
       ]
     where
       one_loan : (o : Option Loan) → ((x : Loan) → o ≡ Some x → IsKnown c s.history x.prio) → (p : ℕ) → prio_of o ≡ Some p → IsKnown c s.history p
-      one_loan None f p e = absurd cc
-      one_loan (Some x) f p e = subst (IsKnown c s.history) (let i : x.prio ≡ p = cc in i) (f x refl)
+      one_loan o f p e = grind arith
 
       each_loan : (j : ℕ) (x : Loan) → put (s.loan t) l v j ≡ Some x → IsKnown c s.history x.prio
       each_loan j x e = elim (cases_eq l j) [ inl i ↦ k x (sym (put_same (s.loan t) l v) ∙ ap (put (s.loan t) l v) i ∙ e) | inr i ↦ h.loans.loans_are_known t j x (sym (put_other (s.loan t) l v j i) ∙ e) ]
@@ -96,8 +95,7 @@ least_some q l = go q.exclusive q.shared l
     go (v ∷ vs) b i = (lower (least_kept b) (lower (least_kept vs) v.kept), refl)
 
 pub prio_loan_of : (h : ℕ) (o : Option ℕ) → prio_of (loan_of h o) ≡ o
-prio_loan_of h None = refl
-prio_loan_of h (Some p) = refl
+prio_loan_of h o = grind arith
 
 pub number_loan_of : (h : ℕ) (o : Option ℕ) (x : Loan) → loan_of h o ≡ Some x → h ≡ x.number
 number_loan_of h None x e = absurd cc
@@ -114,21 +112,15 @@ on_node h q n l = let r = least_some q l in rw r.1 refl
 pub least_known : (c : Config) (es : List Entry) (q : Lists) (p : ℕ) → EachOf (λ w. IsKnown c es w.kept) q → least_of q ≡ Some p → IsKnown c es p
 least_known c es q p k e = both (least_kept q.exclusive) (least_kept q.shared) (λ x i. one_list q.exclusive x k.0 i) (λ x i. one_list q.shared x k.1 i) e
   where
-    lesser : (x y : ℕ) → IsKnown c es x → IsKnown c es y → IsKnown c es (min x y)
-    lesser x y a b = elim (cases_eq (min x y) x) [ inl i ↦ rw i a | inr i ↦ let z : min x y ≡ y = omega arith in rw z b ]
-
     one_list : (ws : List Waiter) (x : ℕ) → Each (λ w. IsKnown c es w.kept) ws → least_kept ws ≡ Some x → IsKnown c es x
     one_list [] x a i = absurd cc
     one_list (w ∷ ws) x a i = go (least_kept ws) (λ y j. one_list ws y a.1 j) i
       where
         go : (o : Option ℕ) → ((y : ℕ) → o ≡ Some y → IsKnown c es y) → Some (lower o w.kept) ≡ Some x → IsKnown c es x
-        go None f j = subst (IsKnown c es) (let z : w.kept ≡ x = cc in z) a.0
-        go (Some y) f j = subst (IsKnown c es) (let z : min y w.kept ≡ x = cc in z) (lesser y w.kept (f y refl) a.0)
+        go o f j = grind arith
 
     both : (a b : Option ℕ) → ((x : ℕ) → a ≡ Some x → IsKnown c es x) → ((x : ℕ) → b ≡ Some x → IsKnown c es x) → least_of_two a b ≡ Some p → IsKnown c es p
-    both None b f g i = g p i
-    both (Some x) None f g i = subst (IsKnown c es) (let z : x ≡ p = cc in z) (f x refl)
-    both (Some x) (Some y) f g i = subst (IsKnown c es) (let z : min y x ≡ p = cc in z) (lesser y x (g y refl) (f x refl))
+    both a b f g i = grind arith
 
 pub loan_of_known : (c : Config) (es : List Entry) (q : Lists) (h : ℕ) → EachOf (λ w. IsKnown c es w.kept) q → (x : Loan) → loan_of h (least_of q) ≡ Some x → IsKnown c es x.prio
 loan_of_known c es q h k x e = least_known c es q x.prio k (sym (prio_loan_of h (least_of q)) ∙ ap prio_of e)

@@ -1,16 +1,15 @@
 -- One queue changes, of a lock or of a channel: what the laws of standing and of taking off have in common.
-use Rattle.std.proofs.Common.{◌≡◌, ℕ, ◌+◌, Bool, true, false, cond, List, Option, refl, sym, eq-eqb, ◌∙◌, subst}
-use Rattle.std.proofs.lemmas.Bool.{ne_eqb}
+use Rattle.std.proofs.Common.{◌≡◌, ℕ, ◌+◌, Bool, true, false, cond, List, Option, refl, subst}
 use Rattle.lock_model.specs.Config.{Config}
 use Rattle.lock_model.specs.Counts.{sum_below}
 use Rattle.lock_model.specs.Queues.{Lists, Mark, is_queue, stands}
 use Rattle.lock_model.specs.declared.plan.QueueName.{QueueName}
-use Rattle.lock_model.specs.declared.plan.QueueName.TheVariants.{Lock, Chan}
 use Rattle.lock_state.specs.State.{State, put_queue}
 use Rattle.lock_state.specs.Facts.{Lawful, OneTurnstileEach, OneSleepQueueEach, HeadsFitWaiters, ListsAscend, MutexWaitersAreExclusive, StandsOnce}
 use Rattle.lock_state.specs.Facts.Queues.{HeadFits}
 use Rattle.lock_state.specs.Facts.Waits.{at_queue, times_marked}
 use Rattle.lock_laws.proofs.Kit.{at_put_queue, is_queue_true}
+use Rattle.std.proofs.Common.{arith}
 
 -- what is said of all queues alike: where objects are, heads, orders, and who stands
 pub record QueuesKept (c : Config) (n : State) : Type 0 where
@@ -26,10 +25,7 @@ abbrev pub SameElsewhere : QueueName → (QueueName → Option ℕ) → (QueueNa
 SameElsewhere q f g = (r : QueueName) → is_queue q r ≡ false → f r ≡ g r
 
 pub other_queue : (q r : QueueName) → is_queue q r ≡ false → is_queue r q ≡ false
-other_queue (Lock l) (Lock k) e = ne_eqb k.0 l.0 (λ i. let z : true ≡ false = sym (eq-eqb l.0 k.0 (sym i)) ∙ e in cc)
-other_queue (Chan l) (Chan k) e = ne_eqb k.0 l.0 (λ i. let z : true ≡ false = sym (eq-eqb l.0 k.0 (sym i)) ∙ e in cc)
-other_queue (Lock l) (Chan d) e = refl
-other_queue (Chan d) (Lock l) e = refl
+other_queue q r e = grind arith
 
 module _ {c : Config} {s : State} (h : Lawful c s) (q : QueueName) (lists : Lists) where
   pub heads_put : (free : List ℕ) (head : Option ℕ) (owner : QueueName → Option ℕ)

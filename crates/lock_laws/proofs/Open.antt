@@ -1,14 +1,13 @@
 -- An open of a turnstile keeps each fact.
 use Rattle.std.proofs.Common.{◌≡◌, ℕ, Bool, true, false, [], Option, Some, None, refl, sym, ap, inl, inr, arith, ◌∙◌}
-use Rattle.std.proofs.lemmas.Bool.{cases_eq, ne_eqb}
+use Rattle.std.proofs.lemmas.Bool.{cases_eq}
 use Rattle.lock_model.specs.Config.{Config}
-use Rattle.lock_model.specs.Counts.{one, is_empty}
+use Rattle.lock_model.specs.Counts.{is_empty}
 use Rattle.lock_model.specs.Words.{Word, Free, is_turnstile, shows_waiters, side_woken}
 use Rattle.lock_model.specs.Queues.{Waiter, Lists, lock_queue, list_of, stands}
 use Rattle.lock_model.specs.declared.plan.Kind.{Kind}
 use Rattle.lock_model.specs.declared.plan.Mode.{Mode}
 use Rattle.lock_model.specs.declared.plan.QueueName.{QueueName}
-use Rattle.lock_model.specs.declared.plan.QueueName.TheVariants.{Lock, Chan}
 use Rattle.lock_model.specs.declared.plan.Kind.TheVariants.{Mtx}
 use Rattle.lock_state.specs.State.{State, Loan, put_at, put_queue}
 use Rattle.lock_state.specs.Steps.Turnstiles.{MayOpen, after_open}
@@ -33,9 +32,7 @@ pub side_shown : (kind : Kind) (w : Word) (q : Lists) → is_turnstile kind ≡ 
 side_shown kind w q turnstile i = lock_queues.side_shown kind w q i
 
 no_owner : (b : Bool) (h : Option ℕ) → owner_if b h Free ≡ None
-no_owner b None = refl
-no_owner true (Some x) = refl
-no_owner false (Some x) = refl
+no_owner b h = grind arith
 
 module _ (c : Config) (s : State) (t l : ℕ) (mode : Mode) (g : MayOpen c s t l mode) (h : Lawful c s) where
   abbrev n : State
@@ -102,12 +99,7 @@ module _ (c : Config) (s : State) (t l : ℕ) (mode : Mode) (g : MayOpen c s t l
   nowhere k i = let a = off (s.blocked_on t) refl in omega (arith, h.waits.stands_once t (lock_queue k))
     where
       off : (o : Option QueueName) → s.blocked_on t ≡ o → at_queue (lock_queue k) o ≡ 0
-      off None y = refl
-      off (Some (Chan d)) y = refl
-      off (Some (Lock j)) y = elim (cases_eq k j.0) [
-        | inl e ↦ absurd (let z = g.off_turnstiles j.0 y in let w = rw e at i in cc)
-        | inr e ↦ ap one (ne_eqb k j.0 e)
-      ]
+      off o y = grind arith
 
   kept : KeptIsEffective c n.walk n.effective n.lists
   unfolding after_open KeptIsEffective

@@ -3,12 +3,13 @@
 use Rattle.std.proofs.Common.{◌≡◌, ℕ, Bool, true, false, cond, eqb, Option, List, [], ◌∷◌, refl, ap}
 use Rattle.std.proofs.lemmas.Bool.{ne_eqb}
 use Rattle.lock_model.specs.Config.{Config}
-use Rattle.lock_model.specs.History.{Sections, sections_in, sections_by, entries_of, open_in}
+use Rattle.lock_model.specs.History.{sections_in, sections_by, entries_of, open_in}
 use Rattle.lock_model.specs.declared.event.Event.{Event}
-use Rattle.lock_model.specs.declared.event.Event.TheVariants.{Locked, Tried, Unlocked, Set, Added, Base, Sleeps, Woke, HaltedChan}
+use Rattle.lock_model.specs.declared.event.Event.TheVariants.{Set, Added, Base}
 use Rattle.lock_model.specs.declared.event.Entry.{Entry}
 use Rattle.lock_state.specs.State.{State, Loan}
 use Rattle.lock_state.specs.Steps.LockWords.{after_stamp, base_after, effective_after, table_after, changes_base, changes_table, changes_sections}
+use Rattle.std.proofs.Common.{arith}
 
 -- 1. Own entries
 
@@ -27,8 +28,7 @@ own_section c es t l = ap (λ x. x.now) (own_sections c es t l)
 -- 2. Classes of events
 
 same_base : (e : Event) (t : ℕ) (base : ℕ → ℕ) → changes_base e ≡ false → base_after e t base ≡ base
-same_base (Base p) t base x = absurd cc
-same_base other t base x = refl
+same_base e t base x = grind arith
 
 same_effective : (c : Config) (e : Event) (t : ℕ) (loan : ℕ → ℕ → Option Loan) (effective : ℕ → ℕ) → changes_base e ≡ false → effective_after c e t loan effective ≡ effective
 same_effective c (Base p) t loan effective x = absurd cc
@@ -38,15 +38,6 @@ same_table : (e : Event) (table : ℕ → ℕ → Option ℕ) → changes_table 
 same_table (Set l k v) table x = absurd cc
 same_table (Added l k n) table x = absurd cc
 same_table other table x = refl
-
-same_sections : (c : Config) (e : Event) (l : ℕ) (before : Sections) → changes_sections e ≡ false → sections_by c e l before ≡ before
-same_sections c (Locked k mode) l before x = absurd cc
-same_sections c (Tried k mode) l before x = absurd cc
-same_sections c (Unlocked k mode) l before x = absurd cc
-same_sections c (Sleeps d) l before x = absurd cc
-same_sections c (Woke d) l before x = absurd cc
-same_sections c (HaltedChan d) l before x = absurd cc
-same_sections c other l before x = refl
 
 module _ (c : Config) (s : State) (t : ℕ) (e : Event) where
   pub bases_stay : changes_base e ≡ false → (after_stamp c s t e).base ≡ s.base
@@ -63,11 +54,7 @@ module _ (c : Config) (s : State) (t : ℕ) (e : Event) where
 
   pub sections_stay : (u l : ℕ) → changes_sections e ≡ false → sections_in c (after_stamp c s t e).history u l ≡ sections_in c s.history u l
   unfolding after_stamp sections_in
-  sections_stay u l x = go (eqb t u)
-    where
-      go : (b : Bool) → cond b (sections_by c e l (sections_in c s.history u l)) (sections_in c s.history u l) ≡ sections_in c s.history u l
-      go true = same_sections c e l (sections_in c s.history u l) x
-      go false = refl
+  sections_stay u l x = grind arith
 
 -- 3. Sections of others
 

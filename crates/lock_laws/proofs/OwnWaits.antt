@@ -1,7 +1,7 @@
 -- The begin of a round, looks, and the steps on a thread's own wait word that put it on no queue, keep each fact.
 use Rattle.std.proofs.Common.{◌≡◌, ℕ, ◌<◌, Bool, false, Some, None, refl, sym, ap, inl, inr, arith, ◌∙◌}
 use Rattle.std.proofs.lemmas.Bool.{cases_eq}
-use Rattle.lock_state.specs.State.{State, Wait, Running, Queued, Woken, put}
+use Rattle.lock_state.specs.State.{State, Wait, Running, Queued, put}
 use Rattle.lock_model.specs.Config.{Config}
 use Rattle.lock_state.specs.Steps.LockWords.{is_woken, MaySeek, MayLook, MayReady, MayUnready, after_seek, after_look, after_ready, after_unready}
 use Rattle.lock_state.specs.Facts.{Lawful, StandingIsQueued, WokenWants, WokenIsUncalled, FreeWordHasCalled}
@@ -20,9 +20,7 @@ module _ (c : Config) (s : State) (t l : ℕ) (counts : Bool) (g : MayLook c s t
   look_lawful = assumption h
 
 calls_none : (k : ℕ) (w : Wait) → is_woken w ≡ false → calls_woken k w ≡ 0
-calls_none k Running e = refl
-calls_none k Queued e = refl
-calls_none k (Woken q cause) e = absurd cc
+calls_none k w e = grind arith
 
 -- a thread that isn't woken gets another wait word
 module _ (c : Config) (s : State) (t : ℕ) (v : Wait) (thread : t < c.threads) (was : is_woken (s.wait t) ≡ false) (is : is_woken v ≡ false) (stands : (q : QueueName) → s.blocked_on t ≡ Some q → v ≡ Queued) (h : Lawful c s) where

@@ -82,8 +82,7 @@ own_there s t x false true e i = absurd cc
 lent_object : (n x : ℕ) (head : Option ℕ) (free : List ℕ)
     → on_queue true n (head_with head x) (free_with head x free)
     ≡ one (eqb n x) + on_queue true n head free
-lent_object n x None free = omega arith
-lent_object n x (Some h) free = omega arith
+lent_object n x head free = grind arith
 
 pub lent_places : (c : Config) (s : State) (sort : Bool) (n t : ℕ) (q : QueueName) (x : ℕ)
     → t < c.threads → IsThere c q → (b : Bool) → is_sort sort (is_turnstile_queue c q) ≡ b

@@ -1,5 +1,5 @@
 -- Laws of the lists of a queue.
-use Rattle.std.proofs.Common.{◌≡◌, ℕ, ◌+◌, ◌≤◌, false, List, [], ◌∷◌, length, Option, Some, None, refl, arith, eq-eqb}
+use Rattle.std.proofs.Common.{◌≡◌, ℕ, ◌+◌, ◌≤◌, false, List, [], ◌∷◌, length, Option, Some, None, refl, arith}
 use Rattle.lock_model.specs.Counts.{some, is_empty}
 use Rattle.lock_model.specs.Queues.{Waiter, Lists, Ascends, is_queue, lock_queue, list_of, with_list, times_waiting, stands, waiting, dealt, free_after, head_after}
 use Rattle.lock_state.specs.Facts.Waits.{times_marked, calls_marked}
@@ -55,10 +55,7 @@ times_marked-elsewhere t q r e (w ∷ ws) (x ∷ xs) h = rw e (omega (arith, tim
 pub calls-dealt : (l : ℕ) (ws : List Waiter) (xs : List ℕ) (h : Option ℕ)
     → length ws ≤ length xs + some h → is_empty ws ≡ false
     → 1 ≤ calls_marked l (dealt (lock_queue l) ws xs h)
-calls-dealt l [] xs h p e = absurd cc
-calls-dealt l (w ∷ ws) [] None p e = absurd (omega arith)
-calls-dealt l (w ∷ ws) [] (Some h) p e = rw (eq-eqb l l refl) (omega arith)
-calls-dealt l (w ∷ ws) (x ∷ xs) h p e = rw (eq-eqb l l refl) (omega arith)
+calls-dealt l ws xs h p e = grind arith
 
 pub length-after : (ws : List Waiter) (xs : List ℕ) (h : Option ℕ) → length ws ≤ length xs + some h
     → length (free_after ws xs) + some (head_after ws xs h) + length ws ≡ length xs + some h

@@ -15,10 +15,7 @@ use Rattle.lock_laws.proofs.Kit.{columns, put_same, put_other, sum_below-put}
 
 -- a thread that its wait word calls for a lock is called by its share after the resume
 called_still : (k : ℕ) (q : QueueName) (cause : Cause) (o : Option ℕ) → o ≡ None → calls_woken k (Woken q cause) + at_option k o ≤ at_option k (called_after q cause o)
-called_still k (Lock l) BySignal o e = rw e (grind arith)
-called_still k (Lock l) ByAbort o e = rw e (grind arith)
-called_still k (Chan d) BySignal o e = rw e (grind arith)
-called_still k (Chan d) ByAbort o e = rw e (grind arith)
+called_still k q cause o e = grind arith
 
 module _ (c : Config) (s : State) (t : ℕ) (q : QueueName) (cause : Cause) (g : MayResume c s t q cause) (h : Lawful c s) where
   abbrev n : State

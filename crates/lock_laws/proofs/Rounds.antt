@@ -6,7 +6,6 @@ use Rattle.lock_model.specs.Config.{Config}
 use Rattle.lock_model.specs.Words.{is_turnstile}
 use Rattle.lock_model.specs.Queues.{Cause}
 use Rattle.lock_model.specs.declared.event.Event.{Event}
-use Rattle.lock_model.specs.declared.event.Event.TheVariants.{Busy}
 use Rattle.lock_model.specs.declared.plan.QueueName.{QueueName}
 use Rattle.lock_state.specs.State.{State, Round, Running, Queued, Woken, put, start_state}
 use Rattle.lock_state.specs.Facts.{Lawful}
@@ -30,18 +29,13 @@ abbrev lock_of : Option Round → ℕ
 lock_of None = 0
 lock_of (Some r) = r.lock
 
-abbrev is_try : Option Round → Bool
-is_try None = false
-is_try (Some r) = r.by_try
-
 abbrev took_chain : Option Round → Bool
 took_chain None = false
 took_chain (Some r) = r.in_chain
 
 -- a round that is bound once a chain was taken was of the lock before
 sought : (o : Option Round) (l : ℕ) (i : Item) → in_its_chain o ≡ Some (bound_to l) → (chains : ℕ) (c : Config) → IsOfRound chains c o i → is_chain i ≡ true → i ≡ chain_of chains c l
-sought None l i e chains c f x = absurd cc
-sought (Some r) l i e chains c f x = f x ∙ ap (chain_of chains c) (ap lock_of e)
+sought o l i e chains c f x = grind arith
 
 module _ (chains : ℕ) (c : Config) (s : State) (h : BoundHasChain chains c s.round (item_with s)) where
   -- a round that isn't bound asks nothing
@@ -81,11 +75,7 @@ module _ (chains : ℕ) (c : Config) (s : State) (h : BoundHasChain chains c s.r
       ]
 
   unbound : (t l : ℕ) → IsDoneWith s t (chain_of chains c l) → is_bound (s.round t) ≡ false
-  unbound t l d = go (is_turnstile (c.kind l)) d
-    where
-      go : (b : Bool) → IsDoneWith s t (cond b (TurnstileChain (l % chains)) (SleepChain (l % chains))) → is_bound (s.round t) ≡ false
-      go true d = d.0
-      go false d = d.0
+  unbound t l d = grind arith
 
   given : (t : ℕ) (i : Item) → MayGive c s t i → BoundHasChain chains c s.round (with_then s i None)
   unfolding BoundHasChain
@@ -117,15 +107,11 @@ no_bound_none : (l : ℕ) → ◌≡◌ {A = Option Round} None (Some (bound_to 
 no_bound_none l e = cc
 
 no_bound_resumed : (l : ℕ) (o : Option ℕ) → round_for o ≡ Some (bound_to l) → ⊥
-no_bound_resumed l None e = cc
-no_bound_resumed l (Some k) e = (let z = ap took_chain e in cc)
+no_bound_resumed l o e = grind arith
 
 -- no entry is made in a blocking call's round
 no_bound_noted : (o : Option Round) (e : Event) (l : ℕ) → NotesInRound o e → round_after e o ≡ Some (bound_to l) → ⊥
-no_bound_noted None (Busy k seen) l f e = cc
-no_bound_noted None other l f e = cc
-no_bound_noted (Some r) (Busy k seen) l f e = cc
-no_bound_noted (Some r) other l f e = f
+no_bound_noted o e l f g = grind arith
 
 chain_kept : (chains : ℕ) (c : Config) (s : State) (step : Step) → May c s step → HasOut chains c s step → HasSeen chains c s step → BoundHasChain chains c s.round (item_with s)
     → BoundHasChain chains c (after c s step).round (item_with (after c s step))
@@ -149,13 +135,10 @@ chain_kept chains c s other g o x h = h
 -- 2. Who is in a round acts
 
 in_chain_of : (b : Bool) (o : Option Round) (r : Round) → cond b (in_its_chain o) o ≡ Some r → (q : Round) × (o ≡ Some q)
-in_chain_of b (Some q) r e = (q, refl)
-in_chain_of true None r e = absurd cc
-in_chain_of false None r e = absurd cc
+in_chain_of b o r e = grind arith
 
 noted_of : (e : Event) (o : Option Round) (r : Round) → round_after e o ≡ Some r → (q : Round) × (o ≡ Some q)
-noted_of (Busy l seen) o r e = absurd cc
-noted_of other o r e = (r, e)
+noted_of e o r f = grind arith
 
 module _ (s : State) (h : RoundsAreActing s.round s.blocked_on s.wait) where
   -- a round that begins is that of a thread that acts
@@ -228,8 +211,7 @@ acting_kept chains c s (Marks t m ms) g x w h = acting_marked s h m.thread m.que
 acting_kept chains c s (Resumes t q cause) g x w h = acting_resumed s h t _ (nowhere (s.blocked_on t) (resume.unnamed c s t q cause g w))
   where
     nowhere : (o : Option QueueName) → ((r : QueueName) → o ≡ Some r → ⊥) → o ≡ None
-    nowhere None f = refl
-    nowhere (Some r) f = absurd (f r refl)
+    nowhere o f = grind arith
 acting_kept chains c s (Claims t l y by_try) g x w h = acting_put s h t None (λ r e. absurd cc)
 acting_kept chains c s other g x w h = h
 
@@ -255,17 +237,14 @@ left : (s : State) (u t l : ℕ) (o : Option Round) (E : Type 0) → IsBoundTo s
 left s u t l o E e f = elim (cases_eq u t) [ inl x ↦ inr (f x) | inr x ↦ inl (put_other s.round u o t x ∙ e) ]
 
 fits_bound : (o : Option Round) (l k : ℕ) (by_try : Bool) → o ≡ Some (bound_to l) → FitsRound o k by_try → k ≡ l
-fits_bound None l k by_try e f = absurd cc
-fits_bound (Some r) l k by_try e f = sym f.0 ∙ ap lock_of e
+fits_bound o l k by_try e f = grind arith
 
 taken_bound : (b : Bool) (o : Option Round) (l : ℕ) → o ≡ Some (bound_to l) → cond b (in_its_chain o) o ≡ Some (bound_to l)
 taken_bound true o l e = rw e refl
 taken_bound false o l e = e
 
 nothing_noted : (o : Option Round) (e : Event) (l : ℕ) → o ≡ Some (bound_to l) → NotesInRound o e → ⊥
-nothing_noted None e l x f = cc
-nothing_noted (Some r) (Busy k seen) l x f = (let y = f.1 in let z = ap is_try x in cc)
-nothing_noted (Some r) other l x f = f
+nothing_noted o e l x f = grind arith
 
 entered_bound : (o : Option Round) (l k : ℕ) → o ≡ Some (bound_to l) → o ≡ Some (bound_to k) → k ≡ l
 entered_bound None l k e f = absurd cc

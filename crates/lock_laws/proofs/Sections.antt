@@ -1,16 +1,15 @@
 -- Laws of sections: who has one open holds the lock, and no two that exclude each other are open.
-use Rattle.std.proofs.Common.{◌≡◌, ℕ, Bool, true, false, cond, refl, sym, ap, eq-eqb, arith, ◌∙◌}
+use Rattle.std.proofs.Common.{◌≡◌, ℕ, cond, refl, sym, ap, eq-eqb, arith, ◌∙◌}
 use Rattle.lock_model.specs.Words.{sharers}
 use Rattle.lock_model.specs.Config.{Config}
 use Rattle.lock_state.specs.State.{State}
 use Rattle.lock_model.specs.Holds.{Hold, NotHeld, Holds}
-use Rattle.lock_model.specs.History.{Sections, sections_in, sections_by, open_in, left_in, begun_by, ends, replaced, IsAlone, IsInSection, IsReplayed}
+use Rattle.lock_model.specs.History.{Sections, sections_in, sections_by, open_in, left_in, begun_by, IsAlone, IsInSection, IsReplayed}
 use Rattle.lock_state.specs.Steps.LockWords.{Asks, after_stamp}
 use Rattle.lock_state.specs.Facts.{Lawful, SectionsAreHeld, OnlyThreadsHold, TablesReplay}
 use Rattle.lock_model.specs.declared.plan.Mode.{Mode}
 use Rattle.lock_model.specs.declared.plan.Mode.TheVariants.{Excl, Shared}
 use Rattle.lock_model.specs.declared.event.Event.{Event}
-use Rattle.lock_model.specs.declared.event.Event.TheVariants.{Locked, Tried, Set, Added, Got, Woke, HaltedChan}
 use Rattle.lock_laws.proofs.Words.{owner_is, has_sharer}
 
 module _ (c : Config) (s : State) (h : Lawful c s) where
@@ -41,32 +40,19 @@ module _ (c : Config) (s : State) (h : Lawful c s) where
 
   -- what an event needs where it begins a section
   pub begins_held : (t : ℕ) (e : Event) → Asks c s t e → (l : ℕ) (mode : Mode) → begun_by c e (left_in c s.history t l) l ≡ Holds mode → (s.held t l ≡ Holds mode) × (open_in c s.history t l ≡ NotHeld)
-  begins_held t (Locked k m) a l mode e = grind (arith, a.0.held, a.0.closed)
-  begins_held t (Tried k m) a l mode e = grind (arith, a.0.held, a.0.closed)
-  begins_held t (Woke d) a l mode e = grind (arith, a.0.held, a.0.closed)
-  begins_held t (HaltedChan d) a l mode e = grind (arith, a.0.held, a.0.closed)
-  begins_held t other a l mode e = absurd (let z : NotHeld ≡ Holds mode = e in cc)
+  begins_held t e a l mode f = grind arith
 
   -- the section that is open after an event is of a lock that is held
   pub sections_held : (t : ℕ) (e : Event) → Asks c s t e → (l : ℕ) (mode : Mode) → (sections_by c e l (sections_in c s.history t l)).now ≡ Holds mode → s.held t l ≡ Holds mode
   unfolding SectionsAreHeld
-  sections_held t e a l mode x = go (begun_by c e (left_in c s.history t l) l) refl (ends c e l) x
-    where
-      go : (b : Hold) → begun_by c e (left_in c s.history t l) l ≡ b → (z : Bool) → replaced b (cond z NotHeld (open_in c s.history t l)) ≡ Holds mode → s.held t l ≡ Holds mode
-      go (Holds m) y z w = let r = begins_held t e a l m y in r.0 ∙ w
-      go NotHeld y true w = absurd cc
-      go NotHeld y false w = h.books.sections_are_held t l mode w
+  sections_held t e a l mode x = grind arith
 
   pub asks_section : (t : ℕ) (e : Event) → Asks c s t e → IsInSection c e s.history t
-  asks_section t (Set l k v) a = a
-  asks_section t (Added l k v) a = a
-  asks_section t (Got l k v) a = a.0
-  asks_section t other a = tt
+  asks_section t e a = grind arith
 
   pub asks_replayed : (t : ℕ) (e : Event) → Asks c s t e → IsReplayed e s.history
   unfolding TablesReplay
-  asks_replayed t (Got l k v) a = a.1 ∙ h.books.tables_replay_logs l.0 k
-  asks_replayed t other a = tt
+  asks_replayed t e a = grind arith
 
 -- its own sections behind an entry of a thread, and that which is open
 pub own_sections_by : (c : Config) (s : State) (t : ℕ) (e : Event) (l : ℕ)

@@ -54,9 +54,7 @@ gain kind w t Shared admitted mutex n e =
 
 -- a holder less
 less : (kind : Kind) (x : Holder) → IsUnshared kind x → IsUnshared kind (without_one x)
-less kind Free h mutex n e = cc
-less kind (HeldBy t) h mutex n e = cc
-less kind (SharedBy k) h mutex n e = h mutex k refl
+less kind x h mutex n e = grind arith
 
 -- a side's bit is none of the holder
 bit : (w : Word) (side : Side) (b : Bool) → (with_bit w side b).holder ≡ w.holder

@@ -1,11 +1,11 @@
 -- A hop of a walk at a thread, and the end of a walk, keep each fact.
-use Rattle.std.proofs.Common.{◌≡◌, ◌≢◌, ℕ, ◌+◌, ◌≤◌, Bool, true, false, eqb, List, Option, Some, None, refl, sym, ap, inl, inr, arith, ◌∙◌}
+use Rattle.std.proofs.Common.{◌≡◌, ◌≢◌, ℕ, ◌+◌, ◌≤◌, true, eqb, List, Option, Some, None, refl, sym, ap, inl, inr, arith, ◌∙◌}
 use Rattle.std.proofs.lemmas.Bool.{cases_eq, ne_eqb}
 use Rattle.lock_model.specs.Counts.{one, sum_below}
 use Rattle.lock_model.specs.Words.{is_turnstile}
 use Rattle.lock_state.specs.State.{State, Walk, NoWalk, AtLock, AtThread}
 use Rattle.lock_model.specs.Config.{Config}
-use Rattle.lock_model.specs.Queues.{Waiter, Lists, is_queue, lock_queue, stands, least_of, with_kept}
+use Rattle.lock_model.specs.Queues.{Waiter, Lists, lock_queue, stands, least_of, with_kept}
 use Rattle.lock_state.specs.Steps.LockWords.{prio_of}
 use Rattle.lock_state.specs.Steps.Lending.{MayShift, MayEndWalk, IsAtEnd, after_shift, after_end_walk}
 use Rattle.lock_state.specs.Steps.Turnstiles.{walk_up}
@@ -81,11 +81,7 @@ module _ (c : Config) (s : State) (t o l : ℕ) (g : MayShift c s t o l) (h : La
 
   once : stands o (s.lists q) ≤ 1
   unfolding StandsOnce
-  once = let a = ap (at_queue q) g.blocked_on in let b = one_le (is_queue q q) in omega (arith, h.waits.stands_once o q)
-    where
-      one_le : (b : Bool) → one b ≤ 1
-      one_le true = omega arith
-      one_le false = omega arith
+  once = grind arith
 
   elsewhere : (k : ℕ) → (l ≡ k → ⊥) → stands o (s.lists (lock_queue k)) ≡ 0
   unfolding StandsOnce

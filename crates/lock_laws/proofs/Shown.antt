@@ -2,10 +2,10 @@
 use Rattle.std.proofs.Common.{◌≡◌, ℕ, zero, suc, ◌<◌, Bool, true, false, cond, eqb, ◌&&◌, ◌||◌, List, [], ◌∷◌, Option, Some, None, refl, sym, ap, inl, inr, arith, eq-eqb, ◌∙◌, subst}
 use Rattle.std.proofs.lemmas.Bool.{cases_eq}
 use Rattle.lock_model.specs.Counts.{any_below}
-use Rattle.lock_model.specs.Words.{Holder, Free, HeldBy, SharedBy, is_turnstile, owner_of}
+use Rattle.lock_model.specs.Words.{Holder, is_turnstile, owner_of}
 use Rattle.lock_model.specs.Config.{Config}
 use Rattle.lock_state.specs.State.{State, Loan}
-use Rattle.lock_model.specs.Holds.{Hold, NotHeld, Holds, is_exclusive}
+use Rattle.lock_model.specs.Holds.{Hold, Holds, is_exclusive}
 use Rattle.lock_model.specs.History.{has_base, sets_base, base_in, base_by, open_in, owns_in, IsShown}
 use Rattle.lock_state.specs.Steps.LockWords.{Asks, prio_of}
 use Rattle.lock_model.specs.Queues.{lock_queue}
@@ -13,9 +13,9 @@ use Rattle.lock_state.specs.Facts.{Lawful, BasesReplay, EffectiveIsLeast, Effect
 use Rattle.lock_state.specs.Facts.Words.{owns}
 use Rattle.lock_state.specs.Facts.Loans.{owner_if, IsKnown}
 use Rattle.lock_model.specs.declared.plan.Mode.{Mode}
-use Rattle.lock_model.specs.declared.plan.Mode.TheVariants.{Excl, Shared}
+use Rattle.lock_model.specs.declared.plan.Mode.TheVariants.{Excl}
 use Rattle.lock_model.specs.declared.event.Event.{Event}
-use Rattle.lock_model.specs.declared.event.Event.TheVariants.{Base, Shown}
+use Rattle.lock_model.specs.declared.event.Event.TheVariants.{Shown}
 use Rattle.lock_model.specs.declared.event.Entry.{Entry}
 use Rattle.lock_laws.proofs.Lending.{by_least, least-le_base}
 
@@ -56,25 +56,18 @@ base_known c (e ∷ es) t lt =
     ]
   where
     go : IsKnown c es (base_in c es t) → (x : Event) → e.event ≡ x → IsKnown c (e ∷ es) (base_by x (base_in c es t))
-    go k (Base p) y = rw (y, eq-eqb p.0 p.0 refl) (or_right (any_below c.threads (λ u. eqb (c.declared_base u) p.0)) true refl)
-    go k other y = still_known c es e (base_in c es t) k
+    go k x y = grind arith
 
 -- 3. What a thread shows
 
 pub owner_from : (turnstile : Bool) (x : Option ℕ) (y : Holder) (t : ℕ) → owner_if turnstile x y ≡ Some t → (turnstile ≡ true) × (owner_of y ≡ Some t)
-owner_from turnstile None y t e = absurd cc
-owner_from true (Some x) y t e = (refl, e)
-owner_from false (Some x) y t e = absurd cc
+owner_from turnstile x y t e = grind arith
 
 pub exclusive_is : (x : Hold) → is_exclusive x ≡ true → x ≡ Holds Excl
-exclusive_is NotHeld e = absurd cc
-exclusive_is (Holds Excl) e = refl
-exclusive_is (Holds Shared) e = absurd cc
+exclusive_is x e = grind arith
 
 pub owner-owns : (t : ℕ) (x : Holder) → owner_of x ≡ Some t → owns t x ≡ true
-owner-owns t Free e = absurd cc
-owner-owns t (HeldBy u) e = eq-eqb t u (let y : u ≡ t = cc in sym y)
-owner-owns t (SharedBy n) e = absurd cc
+owner-owns t x e = grind arith
 
 module _ (c : Config) (s : State) (h : Lawful c s) where
   -- a thread with a loan holds the lock exclusively, and the lock is a mutex or an rw lock

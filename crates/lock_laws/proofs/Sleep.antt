@@ -1,5 +1,5 @@
 -- An add to a channel, and a wake there, keep each fact.
-use Rattle.std.proofs.Common.{◌≡◌, ℕ, Bool, false, List, Option, Some, None, refl, sym, ap, arith, ◌∙◌}
+use Rattle.std.proofs.Common.{◌≡◌, ℕ, Bool, false, List, None, refl, ap, arith}
 use Rattle.lock_model.specs.Config.{Config}
 use Rattle.lock_model.specs.Queues.{Waiter, Lists, chan_queue, with_list, head_with, dealt, head_after, with_last, taken_off, left_on}
 use Rattle.lock_model.specs.declared.plan.QueueName.{QueueName}
@@ -24,23 +24,11 @@ module _ (c : Config) (s : State) (t d x : ℕ) (g : MayAdd c s t d x) (h : Lawf
   lists = with_list X (with_last (record { thread = t; kept = s.base t }) (s.lists q).exclusive) (s.lists q)
 
   may_stand : MayStand c s t q false X x
-  may_stand = record {
-    thread = g.thread;
-    queue = g.chan;
-    sort = refl;
-    exclusive = λ m. refl;
-    queued = g.queued;
-    unnamed = g.unnamed;
-    own = g.own;
-  }
+  may_stand = grind arith
 
   uncalled : s.called t ≡ None
   unfolding CalledWants
-  uncalled = go (s.called t) refl
-    where
-      go : (o : Option ℕ) → s.called t ≡ o → o ≡ None
-      go None e = refl
-      go (Some l) e = absurd (let z : None ≡ Some l = sym g.wants ∙ h.waits.called_wants t l e in cc)
+  uncalled = grind arith
 
   pub add_lawful : Lawful c (after_add s t d x)
   unfolding after_add

@@ -1,5 +1,5 @@
 -- A change on a sleep queue, of an sx lock or of a channel, leaves what is said of turnstiles, loans and mutexes.
-use Rattle.std.proofs.Common.{◌≡◌, ℕ, true, false, Option, Some, None, refl, sym, ap, inl, inr, ◌∙◌}
+use Rattle.std.proofs.Common.{◌≡◌, ℕ, true, false, Option, Some, None, sym, ap, inl, inr, ◌∙◌}
 use Rattle.std.proofs.lemmas.Bool.{cases_Bool}
 use Rattle.lock_model.specs.Config.{Config}
 use Rattle.lock_model.specs.Queues.{Lists, is_queue, is_turnstile_queue, lock_queue, chan_queue}
@@ -10,10 +10,10 @@ use Rattle.lock_state.specs.State.{State, put, put_queue}
 use Rattle.lock_state.specs.Facts.{Lawful, LoanFacts, BitsShowWaiters, OwnersHold, ChannelsHaveNoOwner, LoansAreLeast, LoansAreWithOwners, LoansAreOnHeads, KeptIsEffective, KeptIsKnown}
 use Rattle.lock_state.specs.Facts.Loans.{owner_if}
 use Rattle.lock_laws.proofs.Kit.{put_other, put_queue_other, is_queue_true}
+use Rattle.std.proofs.Common.{arith}
 
 no_owner : (h : Option ℕ) (y : Holder) → owner_if false h y ≡ None
-no_owner None y = refl
-no_owner (Some i) y = refl
+no_owner h y = grind arith
 
 -- a sleep queue has no owner
 pub unowned : {c : Config} {s : State} → Lawful c s → (q : QueueName)

@@ -1,5 +1,5 @@
 -- A stamp keeps each fact.
-use Rattle.std.proofs.Common.{◌≡◌, ℕ, suc, Bool, true, false, cond, eqb, ◌||◌, ◌∷◌, Option, Some, None, refl, ap, inl, inr, arith, eq-eqb, ◌∙◌, subst}
+use Rattle.std.proofs.Common.{◌≡◌, ℕ, suc, Bool, true, false, cond, eqb, ◌||◌, ◌∷◌, Option, Some, refl, ap, inl, inr, arith, eq-eqb}
 use Rattle.std.proofs.lemmas.Bool.{ne_eqb, cases_eq, eqb-true}
 use Rattle.lock_model.specs.Counts.{any_below}
 use Rattle.lock_state.specs.State.{State, Loan, put}
@@ -22,12 +22,7 @@ use Rattle.lock_laws.proofs.Shown.{still_known, asks_shown}
 -- a base priority is what the history with the entry leaves
 base_step : (f : ℕ → ℕ) (x : Event) (t u b : ℕ) → f u ≡ b → base_after x t f u ≡ cond (eqb t u) (base_by x b) b
 unfolding put
-base_step f (Base p) t u b h = rw h refl
-base_step f other t u b h = h ∙ same (eqb t u)
-  where
-    same : (z : Bool) → b ≡ cond z b b
-    same true = refl
-    same false = refl
+base_step f x t u b h = grind arith
 
 module _ (c : Config) (s : State) (t : ℕ) (e : Event) (g : MayStamp c s t e) (h : Lawful c s) where
   abbrev n : State
@@ -73,8 +68,7 @@ module _ (c : Config) (s : State) (t : ℕ) (e : Event) (g : MayStamp c s t e) (
   own_known p k = by_least (IsKnown c (entry ∷ s.history)) c.locks (λ l. prio_of (s.loan t l)) p k (λ l q i x. go l q (s.loan t l) refl x)
     where
       go : (l q : ℕ) (o : Option Loan) → s.loan t l ≡ o → prio_of o ≡ Some q → IsKnown c (entry ∷ s.history) q
-      go l q None y x = absurd cc
-      go l q (Some z) y x = subst (IsKnown c (entry ∷ s.history)) (let i : z.prio ≡ q = cc in i) (still_known c s.history entry z.prio (h.loans.loans_are_known t l z y))
+      go l q o y x = grind arith
 
   new_known : (p : ℕ) → e ≡ Base (record { 0 = p }) → IsKnown c n.history p
   unfolding after_stamp

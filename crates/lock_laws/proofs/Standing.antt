@@ -24,8 +24,7 @@ times_named c s t u q h lt a =
     at_queue_one q (s.blocked_on t) (omega (arith, h.waits.stands_once t q))
 
 none_there : (o : Option ℕ) → some o ≡ 0 → o ≡ None
-none_there None z = refl
-none_there (Some x) z = absurd (omega arith)
+none_there o z = grind arith
 
 -- where the record names a turnstile, the thread's own is out
 pub named_out : (c : Config) (s : State) (t : ℕ) (q : QueueName) → Lawful c s → s.blocked_on t ≡ Some q

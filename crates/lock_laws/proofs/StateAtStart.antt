@@ -1,12 +1,11 @@
 -- The state at the start of a plan is lawful.
-use Rattle.std.proofs.Common.{◌≡◌, ℕ, zero, suc, ◌+◌, Bool, true, false, ◌&&◌, not, eqb, ltb, [], Some, None, refl, sym, arith, inl, inr, eq-eqb}
+use Rattle.std.proofs.Common.{◌≡◌, ℕ, zero, suc, ◌+◌, Bool, true, false, ◌&&◌, not, eqb, ltb, [], None, refl, sym, arith, inl, inr, eq-eqb}
 use Rattle.std.proofs.lemmas.Bool.{ne_eqb, cases_eq, cases_lt, lt-ltb, le-ltb}
 use Rattle.lock_model.specs.Counts.{sum_below, one, least}
 use Rattle.lock_model.specs.Words.{is_turnstile}
 use Rattle.lock_state.specs.State.{State, start_state}
 use Rattle.lock_model.specs.Config.{Config}
 use Rattle.lock_model.specs.History.{tables_of, value_at, sections_in}
-use Rattle.lock_state.specs.Steps.Items.{Item, TurnstileChain, SleepChain, RecordOf, CellOf, ClassGraph, item_with}
 use Rattle.lock_state.specs.Facts.{Lawful, OneTurnstileEach, OneSleepQueueEach, OneNodeEach, TurnstileIsLent, SleepQueueIsLent, HeadsFitWaiters, BitsShowWaiters, ListsAscend, MutexWaitersAreExclusive, StandsOnce, OnlyThreadsStand, StandingIsQueued, StandingWants, WokenWants, CalledWants, StandingIsUncalled, WokenIsUncalled, FreeWordHasCalled, FreeMutexShowsNone, WordsMatchHolders, OnlyThreadsHold, HeldAreListed, EffectiveIsLeast, OwnersHold, ChannelsHaveNoOwner, LoansAreLeast, LoansAreWithOwners, LoansAreOnHeads, KeptIsEffective, EffectiveIsKnown, LoansAreKnown, KeptIsKnown, NextIsNew, LogsAreParts, TablesReplay, BasesReplay, SectionsAreHeld, OutIsNarrow, TicketsRun, SectionsExclude, EditsInSections, ReadsReplay, ShownIsExplained}
 use Rattle.lock_state.specs.Facts.Queues.{only, turnstile_places, sleep_queue_places, loans_on}
 use Rattle.lock_state.specs.Facts.Waits.{callers}
@@ -70,14 +69,7 @@ module _ (c : Config) where
 
   narrow : OutIsNarrow s.turnstile_chain_with s.sleep_chain_with s.record_with s.cell_with s.graph_with
   unfolding start_state OutIsNarrow
-  narrow t i j e f = absurd (none i t e)
-    where
-      none : (i : Item) (t : ℕ) → item_with s i ≡ Some t → ⊥
-      none (TurnstileChain k) t e = cc
-      none (SleepChain k) t e = cc
-      none (RecordOf k) t e = cc
-      none (CellOf l k) t e = cc
-      none ClassGraph t e = cc
+  narrow t i j e f = grind arith
 
   pub lawful : Lawful c s
   unfolding start_state TurnstileIsLent SleepQueueIsLent HeadsFitWaiters BitsShowWaiters ListsAscend MutexWaitersAreExclusive StandsOnce OnlyThreadsStand StandingIsQueued StandingWants WokenWants CalledWants StandingIsUncalled WokenIsUncalled FreeWordHasCalled callers FreeMutexShowsNone WordsMatchHolders OnlyThreadsHold HeldAreListed EffectiveIsLeast OwnersHold ChannelsHaveNoOwner LoansAreLeast LoansAreWithOwners LoansAreOnHeads KeptIsEffective EffectiveIsKnown LoansAreKnown KeptIsKnown NextIsNew LogsAreParts TablesReplay value_at tables_of BasesReplay SectionsAreHeld sections_in TicketsRun SectionsExclude EditsInSections ReadsReplay ShownIsExplained

@@ -1,6 +1,6 @@
 -- Laws of lock words, and of the words and holders of one lock.
-use Rattle.std.proofs.Common.{◌≡◌, ◌≢◌, ℕ, ◌+◌, ◌<◌, ◌≤◌, Bool, true, false, eqb, refl, sym, ap, inl, inr, arith, ◌∙◌}
-use Rattle.std.proofs.lemmas.Bool.{ne_eqb, cases_eq, eqb-true, not-false}
+use Rattle.std.proofs.Common.{◌≡◌, ◌≢◌, ℕ, ◌+◌, ◌<◌, ◌≤◌, true, false, eqb, refl, sym, ap, inl, inr, arith, ◌∙◌}
+use Rattle.std.proofs.lemmas.Bool.{ne_eqb, cases_eq, not-false}
 use Rattle.lock_model.specs.Counts.{one, sum_below}
 use Rattle.lock_model.specs.Words.{Word, Holder, Free, HeldBy, SharedBy, word_of, bits_of, sharers, is_free, is_owned, shows_waiters, admits, is_plain, gained, claimed, entered, without_one}
 use Rattle.lock_model.specs.Holds.{is_exclusive, Hold, NotHeld, Holds}
@@ -20,9 +20,7 @@ use Rattle.lock_laws.proofs.Kit.{put_same, put_other, put_at_same, put_at_other,
 -- 1. Words
 
 pub free_is : (x : Holder) → is_free x ≡ true → x ≡ Free
-free_is Free e = refl
-free_is (HeldBy t) e = absurd cc
-free_is (SharedBy n) e = absurd cc
+free_is x e = grind arith
 
 -- a shared gain needs a word that nobody holds exclusively
 pub admits_unowned : (kind : Kind) (w : Word) → admits kind w Shared ≡ true → is_owned w.holder ≡ false
@@ -30,21 +28,12 @@ admits_unowned kind w e = grind arith
 
 -- a lock that refuses a thread is held, as a mutex is asked for exclusively
 pub refused_held : (kind : Kind) (w : Word) (mode : Mode) → (kind ≡ Mtx → mode ≡ Excl) → admits kind w mode ≡ false → is_free w.holder ≡ false
-refused_held kind w Excl m e = e
-refused_held Mtx w Shared m e = absurd (let z = m refl in cc)
-refused_held Rw w Shared m e = grind arith
-refused_held Sx w Shared m e = grind arith
+refused_held kind w mode m e = grind arith
 
 -- a free word shows no waiters, where it shows them only held
 pub free_shows_none : (w : Word) → one (shows_waiters w) ≤ busy w.holder → is_free w.holder ≡ true
     → shows_waiters w ≡ false
-free_shows_none w few free = go w.holder (shows_waiters w) few free
-  where
-    go : (x : Holder) (b : Bool) → one b ≤ busy x → is_free x ≡ true → b ≡ false
-    go Free true few free = absurd (omega arith)
-    go Free false few free = refl
-    go (HeldBy t) b few free = absurd cc
-    go (SharedBy n) b few free = absurd cc
+free_shows_none w few free = grind arith
 
 -- a gain that isn't plain is an exclusive one, of a free rw lock that shows waiters
 pub record IsClaim (kind : Kind) (w : Word) (mode : Mode) : Type 0 where
@@ -64,15 +53,10 @@ is_claim Mtx w Excl m e f = absurd (let z : true ≡ false = sym (not-false (sho
 
 -- the bits of a word that a lock can have say the word again
 pub word_again : (w : Word) → w.holder ≢ SharedBy 0 → word_of (bits_of w) ≡ w
-word_again w some = go w.holder w.exclusive_waiters w.shared_waiters some
-  where
-    go : (x : Holder) (a b : Bool) → x ≢ SharedBy 0 → word_of (bits_of (record { holder = x; exclusive_waiters = a; shared_waiters = b })) ≡ record { holder = x; exclusive_waiters = a; shared_waiters = b }
-    go x a b n = grind arith
+word_again w some = grind arith
 
 pub unowned_owns : (t : ℕ) (x : Holder) → is_owned x ≡ false → owns t x ≡ false
-unowned_owns t Free e = refl
-unowned_owns t (HeldBy u) e = absurd cc
-unowned_owns t (SharedBy n) e = refl
+unowned_owns t x e = grind arith
 
 -- 2. The word and the holders of a lock, after one thread's hold is changed
 
@@ -115,9 +99,7 @@ all_match-put c word held t l v b h here k =
 -- 3. What the words say of a lock that is held
 
 pub owns_is : (t : ℕ) (x : Holder) → owns t x ≡ true → x ≡ HeldBy t
-owns_is t Free e = absurd cc
-owns_is t (HeldBy u) e = ap HeldBy (sym (eqb-true t u e))
-owns_is t (SharedBy n) e = absurd cc
+owns_is t x e = grind arith
 
 module _ (c : Config) (s : State) (t l : ℕ) (h : Lawful c s) where
   -- a lock that is held exclusively shows its owner
@@ -183,8 +165,4 @@ entered_holder w X = refl
 entered_holder w S = refl
 
 pub matches_same : (c : Config) (w v : Word) (l : ℕ) (held : ℕ → ℕ → Hold) → v.holder ≡ w.holder → WordMatchesHolders c w l held → WordMatchesHolders c v l held
-matches_same c w v l held e m = record {
-  owner = λ t. m.owner t ∙ ap (owns t) (sym e);
-  sharers_are_counted = m.sharers_are_counted ∙ ap sharers (sym e);
-  some_sharer = λ x. m.some_sharer (sym e ∙ x);
-}
+matches_same c w v l held e m = grind arith

@@ -6,13 +6,13 @@ use Rattle.lock_model.specs.Words.{Holder, Free, HeldBy, SharedBy, IsPossible, s
 use Rattle.lock_model.specs.Config.{Config}
 use Rattle.lock_state.specs.State.{State, Loan}
 use Rattle.lock_model.specs.Queues.{Waiter, lock_queue, waiting}
-use Rattle.lock_model.specs.Holds.{Hold, NotHeld, Holds}
+use Rattle.lock_model.specs.Holds.{Hold, Holds}
 use Rattle.lock_state.specs.Facts.{Lawful, HeadsFitWaiters, BitsShowWaiters, MutexWaitersAreExclusive, WordsMatchHolders, OnlyThreadsHold, OwnersHold, LoansAreOnHeads}
 use Rattle.lock_state.specs.Facts.Words.{owns, shares}
 use Rattle.lock_state.specs.Facts.Loans.{owner_if}
 use Rattle.lock_state.specs.Steps.Turnstiles.{home_after}
 use Rattle.lock_model.specs.declared.plan.Kind.TheVariants.{Mtx}
-use Rattle.lock_model.specs.declared.plan.Mode.TheVariants.{Excl, Shared}
+use Rattle.lock_model.specs.declared.plan.Mode.TheVariants.{Excl}
 use Rattle.lock_model.specs.declared.plan.QueueName.{QueueName}
 use Rattle.lock_laws.proofs.HeadsAndNodes.{heads_apart, head_lock, loan_out, owned_home}
 use Rattle.lock_laws.proofs.Kit.{put_other}
@@ -23,9 +23,7 @@ use Rattle.lock_laws.proofs.Words.{owner_is}
 -- 1. Words
 
 pub shares_one : (h : Hold) → shares h ≤ 1
-shares_one NotHeld = omega arith
-shares_one (Holds Excl) = omega arith
-shares_one (Holds Shared) = omega arith
+shares_one h = grind arith
 
 module _ (c : Config) (s : State) (l : ℕ) (h : Lawful c s) where
   -- an owner is one of the plan's threads, and so is each of those that share
@@ -81,8 +79,7 @@ module _ (c : Config) (s : State) (l : ℕ) (h : Lawful c s) (k : c.kind l ≡ M
   none_shared = h.queues.mutex_waiters_are_exclusive l k
 
   some_wait : (a b : List Waiter) → (not (is_empty a) || not (is_empty b)) ≡ true → b ≡ [] → 1 ≤ length a
-  some_wait [] b x y = let z : (false || false) ≡ true = sym (ap (λ bs. false || not (is_empty bs)) y) ∙ x in absurd cc
-  some_wait (w ∷ a) b x y = omega arith
+  some_wait a b x y = grind arith
 
   one_waits : 1 ≤ length (s.lists q).exclusive
   unfolding BitsShowWaiters

@@ -13,20 +13,11 @@ use Rattle.lock_model.specs.Config.{Config}
 use Rattle.lock_model.specs.Orders.{Reaches, edge, then, HasNoCycle}
 use Rattle.lock_state.specs.State.{start_state}
 use Rattle.lock_state.specs.Facts.{Ordered, WantsAreOrdered, HoldsAreOrdered, SleepersAreOrdered, WokenAreOrdered, AbortedWant, HaltsAreOrdered, TakesAreInGraph}
+use Rattle.std.proofs.Common.{arith}
 
 pub no_path : {a b : ℕ} → Reaches [] a b → ⊥
-no_path (edge i) = cc
-no_path (then i r) = cc
+no_path e = grind arith
 
 pub begins : (c : Config) → Ordered c (start_state c)
 unfolding start_state HasNoCycle WantsAreOrdered HoldsAreOrdered SleepersAreOrdered WokenAreOrdered AbortedWant HaltsAreOrdered TakesAreInGraph
-begins c = record {
-  no_cycle = λ a r. no_path r;
-  wants_are_ordered = λ t l e. absurd cc;
-  holds_are_ordered = λ t. tt;
-  sleepers_are_ordered = λ t d e. absurd cc;
-  woken_are_ordered = λ t d cause e. absurd cc;
-  aborted_want = λ t l e. absurd cc;
-  halts_are_ordered = λ t l e. absurd cc;
-  takes_are_in_graph = tt;
-}
+begins c = grind arith

@@ -8,7 +8,7 @@ use Rattle.lock_model.specs.Counts.{one}
 use Rattle.lock_model.specs.Events.{of_sleep, is_falling}
 use Rattle.lock_model.specs.Halts.{ends_asleep, waits_for_another}
 use Rattle.lock_model.specs.History.{open_in, entries_of}
-use Rattle.lock_model.specs.Holds.{NotHeld, Holds, is_unheld}
+use Rattle.lock_model.specs.Holds.{Holds, is_unheld}
 use Rattle.lock_model.specs.Law.{is_named}
 use Rattle.lock_model.specs.declared.plan.Mode.{Mode}
 use Rattle.lock_model.specs.declared.plan.QueueName.{QueueName}
@@ -101,11 +101,7 @@ module _ {at_work : ℕ → Option ℕ} (c : Config) (s : State) (own : HaveOwnC
   -- a thread that holds a lock hasn't ended
   holder_alive : (t j : ℕ) (mode : Mode) → s.held t j ≡ Holds mode → s.has_ended t ≡ false
   unfolding EndedIsBare
-  holder_alive t j mode i = go (s.has_ended t) refl
-    where
-      go : (b : Bool) → s.has_ended t ≡ b → b ≡ false
-      go true y = absurd (let z : NotHeld ≡ Holds mode = sym ((h.ended_is_bare t y).0 j) ∙ i in cc)
-      go false y = refl
+  holder_alive t j mode i = grind arith
 
   -- who holds a lock waits for one declared behind it; so at last for none
   climb : (n t j : ℕ) (mode : Mode) → t < c.threads → s.held t j ≡ Holds mode → c.locks ≤ j + n → ⊥

@@ -26,6 +26,7 @@ use Rattle.lock_model.specs.declared.event.Entry.{Entry}
 use Rattle.lock_model.specs.declared.event.Held.{Held}
 use Rattle.lock_laws.proofs.HeldLists.{gain_passes, next_leads, held_are_locks, hold_in-push, hold_in-without}
 use Rattle.ordered_plan_laws.proofs.Edges.{lower_in}
+use Rattle.std.proofs.Common.{arith}
 
 -- 1. Sections behind entries that are all of one thread
 
@@ -116,20 +117,7 @@ module _ (kind : ℕ → Kind) (ops : List Op) where
 
   given_sleep : (held : List Held) (n : ℕ) (o : Op) (e : Event) (point : Point) → Gives kind held n o e point
       → slice_get ops n ≡ Some o → SleepsAt ops e
-  given_sleep held n _ _ _ (law.locks l mode) next = λ z. absurd cc
-  given_sleep held n _ _ _ (law.is_reversed l mode class) next = λ z. absurd cc
-  given_sleep held n _ _ _ (law.is_halted l mode sx) next = λ z. absurd cc
-  given_sleep held n _ _ _ (law.tries l mode past) next = λ z. absurd cc
-  given_sleep held n _ _ _ (law.finds_busy l mode past seen w f a) next = λ z. absurd cc
-  given_sleep held n _ _ _ (law.unlocks l mode h) next = λ z. absurd cc
-  given_sleep held n _ _ _ (law.sets l key value) next = λ z. absurd cc
-  given_sleep held n _ _ _ (law.adds l key amount) next = λ z. absurd cc
-  given_sleep held n _ _ _ (law.gets l key found) next = λ z. absurd cc
-  given_sleep held n _ _ _ (law.changes_base prio) next = λ z. absurd cc
-  given_sleep held n _ _ _ (law.shows base effective) next = λ z. absurd cc
-  given_sleep held n _ _ _ (law.sleeps d) next = λ z. record { n = n; chan = d; waits = next }
-  given_sleep held n _ _ _ (law.wakes_one d woken) next = λ z. absurd cc
-  given_sleep held n _ _ _ (law.wakes_all d woken) next = λ z. absurd cc
+  given_sleep held n o e point h next = grind arith
 
   no_sleep : (e v : Event) → e ≡ v → SleepsAt ops v → SleepsAt ops e
   no_sleep e v i x = subst (SleepsAt ops) (sym i) x

@@ -1,14 +1,13 @@
 -- Each step of a thread of an ordered plan keeps that takes go upward.
-use Rattle.std.proofs.Common.{◌≡◌, ℕ, Bool, true, false, Option, Some, None, refl}
+use Rattle.std.proofs.Common.{◌≡◌, ℕ, Bool, false, Option, Some, None, refl}
 use Rattle.std.proofs.lemmas.Bool.{or_from}
 use Rattle.lock_model.specs.Config.{Config}
 use Rattle.lock_model.specs.Events.{of_sleep, is_falling}
-use Rattle.lock_model.specs.Queues.{Cause, BySignal, ByAbort}
+use Rattle.lock_model.specs.Queues.{Cause}
 use Rattle.lock_model.specs.Takes.{is_reversal, has_reversal}
 use Rattle.lock_model.specs.declared.plan.QueueName.{QueueName}
-use Rattle.lock_model.specs.declared.plan.QueueName.TheVariants.{Lock, Chan}
 use Rattle.lock_model.specs.declared.event.Event.{Event}
-use Rattle.lock_model.specs.declared.event.Event.TheVariants.{Reversed, Sleeps}
+use Rattle.lock_model.specs.declared.event.Event.TheVariants.{Sleeps}
 use Rattle.lock_state.specs.State.{State, Note, OrderRefused, start_state, put}
 use Rattle.lock_state.specs.Facts.{Lawful}
 use Rattle.lock_state.specs.Steps.{Step, Stamps, Resumes, Admits, Refuses, May, after}
@@ -22,6 +21,7 @@ use Rattle.lock_state.specs.Steps.Counting.{after_count_out, after_count_in, aft
 use Rattle.lock_laws.proofs.Kit.{at_put}
 use Rattle.ordered_plan_laws.specs.Upward.{HaveOwnClasses, IsOfOrderedPlan, admits, refuses, IsUpward, EdgesGoUp, NothingIsRefused, has_sleep}
 use Rattle.ordered_plan_laws.proofs.Edges.{admits_up, none_refused}
+use Rattle.std.proofs.Common.{arith}
 
 module _ (c : Config) (s : State) (x : IsUpward c s) (t : ℕ) where
   -- a new note that is no refusal
@@ -35,16 +35,11 @@ module _ (c : Config) (s : State) (x : IsUpward c s) (t : ℕ) where
   resumed : (q : QueueName) (cause : Cause) (back : Bool) (j i : ℕ)
       → noted_after q cause back (s.noted t) ≡ Some (OrderRefused j i) → ⊥
   unfolding NothingIsRefused
-  resumed (Lock l) BySignal back j i e = x.nothing_is_refused t j i e
-  resumed (Lock l) ByAbort true j i e = x.nothing_is_refused t j i e
-  resumed (Lock l) ByAbort false j i e = cc
-  resumed (Chan d) BySignal back j i e = x.nothing_is_refused t j i e
-  resumed (Chan d) ByAbort back j i e = cc
+  resumed q cause back j i e = grind arith
 
   no_reversal : (e : Event) → MayStamp c s t e → is_reversal e ≡ false
   unfolding NothingIsRefused
-  no_reversal (Reversed l k) g = absurd (x.nothing_is_refused t l.0 k.0 g.asks)
-  no_reversal other g = refl
+  no_reversal e g = grind arith
 
   no_sleep : (e : Event) → IsOfOrderedPlan s (Stamps t e) → is_falling (of_sleep e) ≡ false
   no_sleep (Sleeps d) p = absurd (p.stays_awake t d refl)
@@ -85,9 +80,4 @@ keeps c s other own g p w x = record {
 
 pub begins : (c : Config) → IsUpward c (start_state c)
 unfolding start_state EdgesGoUp NothingIsRefused
-begins c = record {
-  edges_go_up = λ a b i. absurd cc;
-  nothing_is_refused = λ t l k e. cc;
-  unrefused = refl;
-  unslept = refl;
-}
+begins c = grind arith

@@ -74,11 +74,7 @@ own_parts p t (e ∷ es) r = elim (cases_lt e.ticket p) [
 
 -- an entry below the moment is no halt's
 early : (p : ℕ) (e : Entry) → (is_halt e.event ≡ true → p ≤ e.ticket) → e.ticket < p → is_halt e.event ≡ false
-early p e later old = go (is_halt e.event) refl
-  where
-    go : (b : Bool) → is_halt e.event ≡ b → b ≡ false
-    go false i = refl
-    go true i = absurd (let le = later i in omega (arith, le, old))
+early p e later old = grind arith
 
 -- so there nobody was cut, where no take was refused
 uncut_below : (c : Config) (p : ℕ) (es : List Entry) → has_reversal es ≡ false → HaltsComeSince c p es
@@ -140,8 +136,7 @@ no_operations plan t le =
 
 -- and so no entries
 none_of : {A : Type 0} (xs : List A) (n : ℕ) (x : A) → xs ≡ [] → slice_get xs n ≡ Some x → ⊥
-none_of [] n x i e = let z : None ≡ Some x = e in cc
-none_of (y ∷ ys) n x i e = cc
+none_of xs n x i e = grind arith
 
 starts : {kind : ℕ → Kind} (ops : List Op) (es : List Entry) (point : Point) → ops ≡ [] → LeadsTo kind ops es point
     → (point ≡ Before 0) × (es ≡ [])
@@ -158,8 +153,7 @@ nothing_done : {kind : ℕ → Kind} (ops : List Op) (es : List Entry) (point : 
 nothing_done ops es point i l = (starts ops es point i l).1
 
 first_empty : (xs ys : List Entry) → xs ++ ys ≡ [] → is_empty xs ≡ true
-first_empty [] ys e = refl
-first_empty (x ∷ xs) ys e = absurd cc
+first_empty xs ys e = grind arith
 
 -- before a take of a lock of which another thread has an open section
 pub record Awaits (plan : Plan) (past : List Entry) (t : ℕ) : Type 0 where

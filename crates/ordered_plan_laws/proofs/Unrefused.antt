@@ -18,7 +18,7 @@ use Rattle.lock_model.specs.declared.plan.Mode.{Mode}
 use Rattle.lock_model.specs.declared.plan.Op.{Op}
 use Rattle.lock_model.specs.declared.plan.Plan.{Plan}
 use Rattle.lock_model.specs.declared.event.Event.{Event}
-use Rattle.lock_model.specs.declared.event.Event.TheVariants.{Locked, HaltedLock, Reversed}
+use Rattle.lock_model.specs.declared.event.Event.TheVariants.{Reversed}
 use Rattle.lock_model.specs.declared.event.Entry.{Entry}
 use Rattle.lock_laws.proofs.Best.{any_below-true}
 use Rattle.order_laws.proofs.OrderFacts.Lists.{is_held}
@@ -26,13 +26,12 @@ use Rattle.order_laws.proofs.TakeFacts.Tests.{among_open}
 use Rattle.ordered_plan_laws.specs.Upward.{EdgesGoUp, goes_up}
 use Rattle.ordered_plan_laws.proofs.Edges.{up_says, not_forbidden}
 use Rattle.ordered_plan_laws.proofs.Following.{TakesAt, IsBeforeTake, lock_taken, Came, AllLead, own_came, all_led, lower_open, its_lock}
+use Rattle.std.proofs.Common.{arith}
 
 -- a take that came to its end is one
 ended_take : (ops : List Op) (point : Point) (e : Event) → TakesAt ops point (lock_taken (facets e).take)
     → TakesAt ops point (taken_by e)
-ended_take ops point (Locked l mode) x = x
-ended_take ops point (HaltedLock l) x = x
-ended_take ops point other x = tt
+ended_take ops point e x = grind arith
 
 module _ (plan : Plan) (p : IsProper plan) (o : IsOrdered plan) where
   abbrev c : Config

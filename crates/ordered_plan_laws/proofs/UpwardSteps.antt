@@ -1,7 +1,6 @@
 -- Worked steps and states, held against what is asked of a step of an ordered plan and what follows. There are three
 -- locks, whose classes don't ascend; a thread, p, holds the second.
-use Rattle.std.proofs.Common.{◌≡◌, ℕ, ◌<◌, Bool, true, false, cond, eqb, [], ◌∷◌, refl, arith}
-use Rattle.std.proofs.lemmas.Bool.{eqb-true}
+use Rattle.std.proofs.Common.{◌≡◌, ℕ, ◌<◌, true, false, cond, eqb, [], ◌∷◌, refl, arith}
 use Rattle.lock_model.specs.Config.{Config}
 use Rattle.lock_model.specs.Counts.{any_below}
 use Rattle.lock_model.specs.Holds.{NotHeld, Holds}
@@ -32,11 +31,7 @@ holding = record (start_state three) { held = put_at (λ t l. NotHeld) 0 1 (Hold
 
 below_third : HoldsBelow holding 0 2
 unfolding holding put_at
-below_third k mode e = go (eqb 1 k) refl e
-  where
-    go : (b : Bool) → eqb 1 k ≡ b → cond b (Holds Excl) NotHeld ≡ Holds mode → k < 2
-    go true i e = let same = eqb-true 1 k i in omega (arith, same)
-    go false i e = absurd cc
+below_third k mode e = grind arith
 
 takes_third : IsOfOrderedPlan holding (Admits 0 2)
 takes_third = record { upward = up; stays_awake = λ t d e. absurd cc }

@@ -1,6 +1,6 @@
 -- The actions of turns, one by one: each with what the thread is found at where it is the first that fits. What is
 -- proved of a turn is proved by these cases.
-use Rattle.std.proofs.Common.{◌≡◌, ◌≢◌, ◌⊎◌, ℕ, Bool, true, false, cond, ◌&&◌, ◌||◌, ltb, nat_le, List, [], ◌∷◌, length, slice_get, Option, Some, None, refl, sym, inl, inr, arith, ◌∙◌}
+use Rattle.std.proofs.Common.{◌≡◌, ◌≢◌, ◌⊎◌, ℕ, Bool, true, false, cond, ◌&&◌, ltb, List, [], ◌∷◌, length, slice_get, Option, Some, None, refl, sym, inl, inr, arith, ◌∙◌}
 use Rattle.std.specs.Prelude.{unwrap_or}
 use Rattle.std.proofs.lemmas.Bool.{lt-leb}
 use Rattle.std.proofs.lemmas.Option.{slice_get_within}
@@ -72,8 +72,7 @@ pub data GivingBack (plan : Plan) (r : Run) (t l : ℕ) (mode : Mode) : StepKind
 
 -- a hold that is one has that mode
 pub its_mode : (h : Hold) → h ≢ NotHeld → h ≡ Holds (mode_held h)
-its_mode NotHeld n = absurd (n refl)
-its_mode (Holds mode) n = refl
+its_mode h n = grind arith
 
 -- a wake of one sleeper, or of all: the operation and its entry
 pub data Waking (d : ChanNo) : Op → Bool → (ℕ → Event) → Type 0 where
@@ -292,11 +291,7 @@ module _ (plan : Plan) (r : Run) (t : ℕ) where
   -- a thread that owes something hasn't ended, nor has one at an operation
   owing : owes c s t ≡ true → has_ended plan r t ≡ false
   unfolding has_ended
-  owing e = rw e (go (nat_le (length (operations_of plan t)) (r.next_op t) || was_cut s t))
-    where
-      go : (a : Bool) → (a && false && holds_none c s t) ≡ false
-      go true = refl
-      go false = refl
+  owing e = grind arith
 
   pub left_going : (op : Op) → IsAtOperation plan r t (Some op) → has_ended plan r t ≡ false
   unfolding has_ended

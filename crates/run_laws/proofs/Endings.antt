@@ -3,11 +3,12 @@ use Rattle.std.proofs.Common.{◌≡◌, ◌↔◌, ℕ, zero, suc, Bool, true, 
 use Rattle.std.proofs.lemmas.Bool.{and_parts}
 use Rattle.lock_model.specs.Counts.{is_empty}
 use Rattle.lock_model.specs.Takes.{has_reversal}
-use Rattle.lock_model.specs.Text.{IsDone, IsStuck, IsReversed, IsTooLong}
+use Rattle.lock_model.specs.Text.{IsDone, IsStuck, IsReversed}
 use Rattle.lock_state.specs.Run.{Run, Course, turn_of, round_of, all_ended, with_turn, after_turn, go_on, is_idle, is_stuck, course_after, ending_of, is_cut_short}
 use Rattle.lock_model.specs.declared.plan.Plan.{Plan}
 use Rattle.run_laws.proofs.Idle.{changes_nothing, idle_is}
 use Rattle.run_laws.proofs.LegalRuns.{not_cut}
+use Rattle.std.proofs.Common.{arith}
 
 -- 1. A round begins only where not all threads have ended, and idle turns change nothing
 
@@ -41,13 +42,7 @@ some_left plan (suc n) = go_on_left plan (course_after plan n) (some_left plan n
 -- 2. The endings
 
 stuck_only : (plan : Plan) (k : Course) → ending_of plan k ≡ IsStuck → is_stuck k ≡ true
-stuck_only plan k e = go (all_ended plan k.run) (has_reversal k.run.state.history) (is_stuck k) e
-  where
-    go : (ended reversed stuck : Bool) → cond ended (cond reversed IsReversed IsDone) (cond stuck IsStuck IsTooLong) ≡ IsStuck → stuck ≡ true
-    go true true stuck f = absurd cc
-    go true false stuck f = absurd cc
-    go false reversed true f = refl
-    go false reversed false f = absurd cc
+stuck_only plan k e = grind arith
 
 pub stuck_exactly : (plan : Plan) (n : ℕ) → ending_of plan (course_after plan n) ≡ IsStuck ↔ is_stuck (course_after plan n) ≡ true
 stuck_exactly plan n = (stuck_only plan k, λ e. rw (some_left plan n (and_parts (is_empty k.coming) k.idle e).1, e) refl)

@@ -7,7 +7,7 @@ use Rattle.std.proofs.lemmas.Option.{none-some, slice_get_cases, slice_get_withi
 use Rattle.lock_model.specs.Counts.{any_below, is_empty, one}
 use Rattle.lock_model.specs.Config.{Config}
 use Rattle.lock_model.specs.Plans.{config_of, operations_of}
-use Rattle.lock_model.specs.Operations.{IsProper, hold_in, without_lock}
+use Rattle.lock_model.specs.Operations.{IsProper, hold_in}
 use Rattle.lock_model.specs.Holds.{Hold, NotHeld, is_unheld}
 use Rattle.lock_model.specs.Queues.{Mark, stands}
 use Rattle.lock_state.specs.State.{State, Queued, gained_order}
@@ -48,8 +48,7 @@ none_left : (plan : Plan) (r : Run) (t : ℕ) → slice_get (operations_of plan 
 none_left plan r t e = elim (slice_get_cases (operations_of plan t) (r.next_op t)).1 [ inl z ↦ absurd (none-some z.0 (sym e ∙ z.2)) | inr z ↦ z.0 ]
 
 without_none : (held : ℕ → Hold) (o : Option ℕ) → without_unheld held o [] ≡ []
-without_none held None = refl
-without_none held (Some l) = elim (is_unheld (held l)) as (λ b. cond b (without_lock l []) [] ≡ []) [ true ↦ refl | false ↦ refl ]
+without_none held o = grind arith
 
 no_operation_left : (plan : Plan) (r : Run) (t : ℕ) → IsProper plan → IsOnTrack plan r → IsAtOperation plan r t None → has_ended plan r t ≡ true
 no_operation_left plan r t p k i =
@@ -75,9 +74,7 @@ ended_unmarked plan r t e =
     go (r.state.marked t) (is_walking (r.state.walk t)) _ (and_parts over free first).1
   where
     go : (ms : List Mark) (w owed : Bool) → not (w || not (is_empty ms) || owed) ≡ true → ms ≡ []
-    go [] w owed i = refl
-    go (m ∷ ms) true owed i = absurd cc
-    go (m ∷ ms) false owed i = absurd cc
+    go ms w owed i = grind arith
 
 -- what an action answers: that the thread has ended; that it is idle, and then it sleeps in a proper plan's run on
 -- track; or what it did
@@ -125,18 +122,14 @@ module _ (plan : Plan) (r : Run) (t : ℕ) where
 
   where_idle : (action : Action) → Answers plan r t action → IsProper plan → IsOnTrack plan r → action.answer ≡ Idle
       → IsSleeping plan r t
-  where_idle action (ended f e) p k i = absurd (let z = ap (λ (x : Action). x.answer) (sym f) ∙ i in cc)
-  where_idle action (idles f sleeps) p k i = sleeps p k
-  where_idle action (acts kind e) p k i = absurd (let z = sym e ∙ i in cc)
+  where_idle action e p k i = grind arith
 
   sleeping : IsSleeping plan r t → (turn_of plan r t).answer ≡ Idle
   unfolding turn_of
   sleeping z = rw (z.going, z.free.no_walk, z.free.unmarked, z.free.released, z.queued) refl
 
   over : (action : Action) → Answers plan r t action → action.answer ≡ Ended → has_ended plan r t ≡ true
-  over action (ended f e) i = e
-  over action (idles f sleeps) i = absurd (let z = ap (λ (x : Action). x.answer) (sym f) ∙ i in cc)
-  over action (acts kind e) i = absurd (let z = sym e ∙ i in cc)
+  over action e i = grind arith
 
   over_answer : has_ended plan r t ≡ true → (turn_of plan r t).answer ≡ Ended
   unfolding turn_of
@@ -144,10 +137,7 @@ module _ (plan : Plan) (r : Run) (t : ℕ) where
 
   same_run : (action : Action) → Answers plan r t action → (action.answer ≡ Idle) ⊎ (action.answer ≡ Ended)
       → run_after plan r t action ≡ r
-  same_run action (ended f e) i = ap (run_after plan r t) f
-  same_run action (idles f sleeps) i = ap (run_after plan r t) f
-  same_run action (acts kind e) (inl i) = absurd (let z = sym e ∙ i in cc)
-  same_run action (acts kind e) (inr i) = absurd (let z = sym e ∙ i in cc)
+  same_run action e i = grind arith
 
 pub idle_exactly : (plan : Plan) (r : Run) (t : ℕ) → IsProper plan → IsOnTrack plan r → (turn_of plan r t).answer ≡ Idle ↔ IsSleeping plan r t
 idle_exactly plan r t p k = (where_idle plan r t (turn_of plan r t) (answer plan r t) p k, sleeping plan r t)
@@ -189,9 +179,7 @@ abbrev IsIdleSoFar : Plan → Course → Type 0
 IsIdleSoFar plan k = k.idle ≡ true → SleepsOrComes plan k.run k.coming
 
 pub idle_is : (a : Turn) → is_idle a ≡ true → a ≡ Idle
-idle_is Idle e = refl
-idle_is Ended e = absurd cc
-idle_is (Did kind) e = absurd cc
+idle_is a e = grind arith
 
 with_turn_idle : (plan : Plan) (r : Run) (ts : List ℕ) (idle : Bool) → IsProper plan → IsOnTrack plan r → (idle ≡ true → SleepsOrComes plan r ts) → IsIdleSoFar plan (with_turn plan r ts idle)
 with_turn_idle plan r [] idle p k h e = h e
@@ -249,8 +237,7 @@ stuck_sleeps plan n t p stuck lt going = (asleep t lt going, stands_there (confi
     parts = and_parts (is_empty k.coming) k.idle stuck
 
     none : (ts : List ℕ) (u : ℕ) → is_empty ts ≡ true → Comes ts u → ⊥
-    none [] u e i = i
-    none (x ∷ xs) u e i = absurd cc
+    none ts u e i = grind arith
 
     asleep : (u : ℕ) → u < length plan.threads → has_ended plan r u ≡ false → IsSleeping plan r u
     asleep u l e = elim (idle_so_far plan n p parts.1 u l e) [ inl i ↦ absurd (none k.coming u parts.0 i) | inr i ↦ i ]

@@ -20,7 +20,7 @@ use Rattle.lock_model.specs.declared.plan.Op.{Op}
 use Rattle.lock_model.specs.declared.plan.Op.TheVariants.{Take, Try, Release, Sleep}
 use Rattle.lock_model.specs.declared.plan.Plan.{Plan}
 use Rattle.lock_model.specs.declared.plan.QueueName.{QueueName}
-use Rattle.lock_model.specs.declared.plan.QueueName.TheVariants.{Lock, Chan}
+use Rattle.lock_model.specs.declared.plan.QueueName.TheVariants.{Chan}
 use Rattle.lock_model.specs.declared.numbers.LockNo.{LockNo}
 use Rattle.lock_model.specs.declared.numbers.ChanNo.{ChanNo}
 use Rattle.lock_model.specs.declared.turn.StepKind.{StepKind}
@@ -33,6 +33,7 @@ use Rattle.run_laws.proofs.TurnsOfOrders.{admitted_on_track, found_admitted}
 use Rattle.run_laws.proofs.TurnsOfSleeps.{gained_last}
 use Rattle.sleep_laws.proofs.SleepFacts.Entries.{slept_back}
 use Rattle.run_laws.proofs.Actions as actions
+use Rattle.std.proofs.Common.{arith}
 
 -- a thread that takes nothing takes no lock;
 none_taken : {P : Type 0} (r : Run) (t l : ℕ) → TakesNothing r.state t → r.state.taking t ≡ Some l → P
@@ -41,9 +42,7 @@ none_taken r t l none f = absurd (none-some l (sym none ∙ f))
 -- it gives one back, or first notes that
 gives_quietly : (plan : Plan) (r : Run) (t l : ℕ) (mode : Mode) {kind : StepKind} {step : Step} (s : State)
     → actions.GivingBack plan r t l mode kind step → TakesNothing s t → KeepToOrder (config_of plan) s (step ∷ [])
-gives_quietly plan r t l mode s (actions.drops e) none = (none, tt)
-gives_quietly plan r t l mode s (actions.opens e f) none = (none, tt)
-gives_quietly plan r t l mode s (actions.opens_sleep_queue e f) none = (none, tt)
+gives_quietly plan r t l mode s e none = grind arith
 
 gives_back : (plan : Plan) (r : Run) (t l : ℕ) (mode : Mode) (k : LockNo) (noted : Mode) {kind : StepKind} {step : Step}
     → actions.GivingBack plan r t l mode kind step → TakesNothing r.state t
@@ -57,16 +56,11 @@ gives_back plan r t l mode k noted back none = (
 -- an operation that only makes an entry is no take and no wait, nor is a wake
 is_quiet : (r : Run) (t : ℕ) (op : Op) (e : Event) → actions.Notes r t op e
     → (is_take op ≡ false) × (is_wait op ≡ false)
-is_quiet r t _ _ (actions.sets l key value) = (refl, refl)
-is_quiet r t _ _ (actions.adds l key amount) = (refl, refl)
-is_quiet r t _ _ (actions.gets l key) = (refl, refl)
-is_quiet r t _ _ (actions.changes_base prio) = (refl, refl)
-is_quiet r t _ _ actions.shows = (refl, refl)
+is_quiet r t op e g = grind arith
 
 wake_is_quiet : (d : ChanNo) {op : Op} {all : Bool} {noted : ℕ → Event} → actions.Waking d op all noted
     → (is_take op ≡ false) × (is_wait op ≡ false)
-wake_is_quiet d actions.of_one = (refl, refl)
-wake_is_quiet d actions.of_all = (refl, refl)
+wake_is_quiet d e = grind arith
 
 module _ (plan : Plan) (r : Run) (t : ℕ) (p : IsProper plan) (k : IsOnTrack plan r) where
   abbrev c : Config
@@ -130,8 +124,7 @@ module _ (plan : Plan) (r : Run) (t : ℕ) (p : IsProper plan) (k : IsOnTrack pl
   -- 3. A thread that runs again
 
   back_from : (q : QueueName) → ((d : ChanNo) → q ≡ Chan d → is_taking_back (s.log t) ≡ true) → IsBackFrom s t q
-  back_from (Lock l) h = tt
-  back_from (Chan d) h = h d refl
+  back_from q h = grind arith
 
 -- 4. Action by action
 

@@ -1,5 +1,5 @@
 -- Each run of a proper plan has a legal history, and a whole one where all threads have ended.
-use Rattle.std.proofs.Common.{◌≡◌, ℕ, zero, suc, ◌+◌, ◌<◌, ◌≤◌, Bool, true, false, cond, List, [], ◌∷◌, length, map, reverse, slice_get, All, Option, Some, None, refl, sym, ap, inl, inr, eq-eqb, arith, ◌∙◌, subst}
+use Rattle.std.proofs.Common.{◌≡◌, ℕ, zero, suc, ◌+◌, ◌<◌, ◌≤◌, Bool, true, false, List, [], ◌∷◌, length, map, reverse, slice_get, All, Option, Some, None, refl, sym, ap, inl, inr, eq-eqb, arith, ◌∙◌, subst}
 use Rattle.std.specs.Prelude.{not, ◌&&◌, ◌||◌, nat_le, unwrap_or}
 use Rattle.std.specs.List.{list_all, range_with_len}
 use Rattle.std.proofs.lemmas.Bool.{cases_eq, cases_lt, and_parts, or_cases, leb-true, true≢false}
@@ -8,14 +8,13 @@ use Rattle.std.proofs.lemmas.Option.{slice_get_past}
 use Rattle.lock_model.specs.Holds.{Hold, NotHeld, Holds, is_unheld}
 use Rattle.lock_model.specs.Operations.{IsProper, hold_in}
 use Rattle.lock_model.specs.Plans.{config_of, operations_of}
-use Rattle.lock_model.specs.Text.{IsStuck, IsTooLong}
 use Rattle.lock_model.specs.Law.{IsAtEnd, EntriesFollowOperations}
 use Rattle.lock_model.specs.Legal.{IsLegal}
 use Rattle.lock_model.specs.declared.plan.Plan.{Plan}
 use Rattle.lock_model.specs.declared.plan.ThreadDecl.{ThreadDecl}
 use Rattle.lock_model.specs.declared.event.Held.{Held}
 use Rattle.lock_state.specs.Facts.{OnlyThreadsHold, OnlyLocksAreHeld}
-use Rattle.lock_state.specs.Run.{Run, Course, was_cut, waits_on, has_ended, owes, holds_none, all_ended, after_turns, course_after, is_stuck, whole_ending, ending_of, is_cut_short, HasLegalHistory, scheduled_run, held_now}
+use Rattle.lock_state.specs.Run.{Run, Course, was_cut, waits_on, has_ended, owes, holds_none, all_ended, after_turns, course_after, ending_of, is_cut_short, HasLegalHistory, scheduled_run, held_now}
 use Rattle.run_laws.specs.OnTrack.{IsOnTrack, point_by, point_in}
 use Rattle.sleep_laws.specs.Sleepers.{nobody}
 use Rattle.sleep_laws.proofs.LegalSoFar.{legal_so_far}
@@ -123,12 +122,7 @@ runs_are_legal plan turns p a = legal_on_track plan (after_turns plan turns) tru
 
 -- a run that wasn't cut short has come to the end of all its threads
 pub not_cut : (plan : Plan) (k : Course) → is_cut_short (ending_of plan k) ≡ false → all_ended plan k.run ≡ true
-not_cut plan k e = go (all_ended plan k.run) (is_stuck k) e
-  where
-    go : (ended stuck : Bool) → is_cut_short (cond ended (whole_ending k.run.state.history) (cond stuck IsStuck IsTooLong)) ≡ false → ended ≡ true
-    go true stuck e = refl
-    go false true e = absurd cc
-    go false false e = absurd cc
+not_cut plan k e = grind arith
 
 pub courses_are_legal : (plan : Plan) (n : ℕ) → IsProper plan → IsLegal plan false (is_cut_short (ending_of plan (course_after plan n))) (course_after plan n).run.state.history
 courses_are_legal plan n p =

@@ -1,13 +1,13 @@
 -- What a turn leaves true of a run beside its lawful state, and what is known of a thread at its next operation.
-use Rattle.std.proofs.Common.{◌≡◌, ◌≢◌, ℕ, suc, ◌<◌, ◌≤◌, Bool, true, false, cond, eqb, ◌&&◌, List, [], ◌∷◌, length, take, slice_get, Option, Some, None, option_map, refl, sym, ap, eq-eqb, ◌∙◌, subst}
+use Rattle.std.proofs.Common.{◌≡◌, ◌≢◌, ℕ, suc, ◌<◌, ◌≤◌, Bool, true, false, cond, eqb, ◌&&◌, List, ◌∷◌, length, take, slice_get, Option, Some, None, option_map, refl, sym, ap, eq-eqb, ◌∙◌, subst}
 use Rattle.std.specs.Prelude.{is_some}
 use Rattle.std.proofs.lemmas.Option.{none-some, same_Some, slice_get_within}
 use Rattle.lock_model.specs.Plans.{config_of, operations_of}
 use Rattle.lock_model.specs.Operations.{of_locks, IsProper, hold_in, held_of, next_at}
 use Rattle.lock_model.specs.Config.{Config}
-use Rattle.lock_model.specs.Events.{OfSection, NoSection, BeginsIn, EndsFrom, LeftFor, TakenBack, facets}
+use Rattle.lock_model.specs.Events.{OfSection, facets}
 use Rattle.lock_model.specs.Holds.{Hold, NotHeld}
-use Rattle.lock_model.specs.Events.{OfSleep, NoSleep, FallsAsleep, WakesUp, IsHalted, IsHaltedAtLock, WakesOne, WakesAll, of_sleep, fell_asleep, is_falling}
+use Rattle.lock_model.specs.Events.{of_sleep, fell_asleep}
 use Rattle.lock_model.specs.History.{Sections, open_in, sections_in, entries_of}
 use Rattle.lock_model.specs.Law as law
 use Rattle.lock_model.specs.Law.{LeadsTo, Gives, Point, Before, Asleep, Cut, is_halt, HaltsOnlyWhenRunning}
@@ -29,7 +29,6 @@ use Rattle.lock_model.specs.declared.numbers.LockNo.{LockNo}
 use Rattle.lock_model.specs.declared.turn.StepKind.{StepKind}
 use Rattle.lock_model.specs.declared.turn.Turn.TheVariants.{Did}
 use Rattle.lock_model.specs.declared.event.Event.{Event}
-use Rattle.lock_model.specs.declared.event.Event.TheVariants as event
 use Rattle.lock_model.specs.declared.event.Entry.{Entry}
 use Rattle.lock_model.specs.declared.event.Held.{Held}
 use Rattle.run_laws.specs.OnTrack.{IsOnTrack, IsAtOperation, TakesLock, lock_of_take, point_by, point_in}
@@ -47,6 +46,7 @@ use Rattle.lock_laws.proofs.OwnEntries.{sections_stay}
 use Rattle.sleep_laws.proofs.SleepFacts.Steps.{all_stay}
 use Rattle.sleep_laws.proofs.SleepFacts.Turns.{turn_keeps, turn_ends}
 use Rattle.lock_laws.proofs.HeldLists.{AreLocks, Leads, next_leads, next_holds, next_within, held_are_locks}
+use Rattle.std.proofs.Common.{arith}
 
 -- 1. Columns and sections
 
@@ -58,11 +58,7 @@ put_at_own f i k v l = ap (λ b. cond (b && eqb k l) v (f i l)) (eq-eqb i i refl
 -- an entry that changes no section begins none
 begun_stays : (c : Config) (x : OfSection) (t : ℕ) (has_begun : ℕ → ℕ → Bool) → is_of_section x ≡ false
     → begun_with c x t has_begun ≡ has_begun
-begun_stays c NoSection t has_begun x = refl
-begun_stays c (BeginsIn l mode) t has_begun x = absurd cc
-begun_stays c (EndsFrom l mode) t has_begun x = refl
-begun_stays c (LeftFor d) t has_begun x = refl
-begun_stays c (TakenBack d) t has_begun x = absurd cc
+begun_stays c x t has_begun e = grind arith
 
 -- 2. Where a thread is, by its columns
 
@@ -133,21 +129,7 @@ pub record MayWant (plan : Plan) (r : Run) (t : ℕ) (wanted : Option ℕ) : Typ
 -- where it wants and takes something else
 pub there_wanting : (plan : Plan) (r : Run) (t : ℕ) (wanted taking : Option ℕ) → IsOnTrack plan r → taking ≡ wanted → MayWant plan r t wanted
     → IsWhere plan t (record (share_in plan r.state t (r.next_op t)) { wanted = wanted; taking = taking })
-there_wanting plan r t wanted taking k e w = record {
-  within = k.within t;
-  no_endtry = k.no_endtry t;
-  waiting = k.waiting t;
-  holds = k.holds t;
-  listed = k.listed t;
-  left = k.left t;
-  opened = k.sections t;
-  begun = k.begun t;
-  wants = w.takes;
-  wants_unheld = w.unheld;
-  cut_wants_nothing = w.uncut;
-  taking = e;
-  unnoted = k.unnoted t;
-}
+there_wanting plan r t wanted taking k e w = grind arith
 
 pub is_there : (plan : Plan) (r : Run) (t : ℕ) → IsOnTrack plan r → IsThere plan r t
 is_there plan r t k = there_wanting plan r t (r.state.wanted t) (r.state.taking t) k (k.taking t) (record { takes = k.wants t; unheld = k.wants_unheld t; uncut = k.cut_wants_nothing t })
@@ -182,18 +164,12 @@ point_at plan t x = point_by x.cut (holding plan t x) x.next x.waits
 -- no wake is left to note between two turns
 pub none_unnoted : (plan : Plan) (r : Run) (t : ℕ) → IsOnTrack plan r → r.state.unstamped t ≡ None
 unfolding UnnotedIsAtWork
-none_unnoted plan r t k = go (r.state.unstamped t) refl
-  where
-    go : (o : Option Wake) → r.state.unstamped t ≡ o → o ≡ None
-    go None e = refl
-    go (Some w) e = absurd (none-some t (k.sleepers.unnoted_is_at_work t w e))
+none_unnoted plan r t k = grind arith
 
 -- each thread's entries lead it to where it is
 pub is_led : (plan : Plan) (r : Run) (t : ℕ) → IsOnTrack plan r → IsLed plan r t
 unfolding LogsAreParts
-is_led plan r t k = subst
-    (λ (es : List Entry). LeadsTo (config_of plan).kind (operations_of plan t) es (point_in plan r t))
-    (sym (k.lawful.lawful.books.logs_are_parts t)) (k.follows t)
+is_led plan r t k = grind arith
 
 module _ (plan : Plan) (r : Run) (t : ℕ) (action : Action) (k : IsOnTrack plan r)
     (may : MayAll (config_of plan) r.state action.steps) (orders : KeepToOrder (config_of plan) r.state action.steps)
@@ -363,17 +339,11 @@ pub noted_behind : (plan : Plan) (r : Run) (t : ℕ) (e : Event) → IsOnTrack p
 noted_behind plan r t e k = put_same r.state.unstamped t _ ∙ none e (r.state.unstamped t) (none_unnoted plan r t k)
   where
     none : (x : Event) (w : Option Wake) → w ≡ None → unstamped_after x w ≡ None
-    none (event.WokeOne d woken) w i = refl
-    none (event.WokeAll d woken) w i = refl
-    none other w i = i
+    none x w i = grind arith
 
 -- and the lock that it takes, where it takes none
 pub none_taken : (e : Event) (o : Option ℕ) → o ≡ None → taking_after e o ≡ None
-none_taken (event.Locked l mode) o i = refl
-none_taken (event.HaltedLock l) o i = refl
-none_taken (event.Woke d) o i = refl
-none_taken (event.HaltedChan d) o i = refl
-none_taken other o i = i
+none_taken e o i = grind arith
 
 -- a thread that is made ready and put on a queue stands there
 pub now_stands : (wait : ℕ → Wait) (blocked_on : ℕ → Option QueueName) (t : ℕ) (q : QueueName) → QueuedStands wait blocked_on → QueuedStands (put wait t Queued) (put blocked_on t (Some q))
@@ -412,9 +382,7 @@ is_cut (Cut hs) = true
 
 cut_by : (kind : ℕ → Kind) (held : List Held) (n : ℕ) (op : Op) (e : Event) (p : Point) → Gives kind held n op e p
     → is_cut p ≡ true → fell_asleep (of_sleep e) ≡ None
-cut_by kind held n _ _ _ (law.is_reversed l mode class) f = refl
-cut_by kind held n _ _ _ (law.is_halted l mode x) f = refl
-cut_by kind held n op e p g f = absurd cc
+cut_by kind held n op e p g f = grind arith
 
 cut_awake : (kind : ℕ → Kind) (ops : List Op) (es : List Entry) (p : Point) → LeadsTo kind ops es p → is_cut p ≡ true
     → waits_on es ≡ None
@@ -436,19 +404,8 @@ behind plan r t = held_of (operations_of plan t) (suc (r.next_op t))
 abbrev pub Next : Plan → Run → ℕ → Op → Type 0
 Next plan r t op = slice_get (operations_of plan t) (r.next_op t) ≡ Some op
 
--- who waits is to take its lock back
-falling : (o : OfSleep) → is_falling o ≡ is_some (fell_asleep o)
-falling NoSleep = refl
-falling (FallsAsleep d) = refl
-falling (WakesUp d) = refl
-falling (IsHalted d) = refl
-falling (IsHaltedAtLock l) = refl
-falling (WakesOne d woken) = refl
-falling (WakesAll d woken) = refl
-
 pub waits_back : (es : List Entry) → is_taking_back es ≡ is_some (waits_on es)
-waits_back [] = refl
-waits_back (e ∷ es) = falling (of_sleep e.event)
+waits_back es = grind arith
 
 -- it was left to make
 pub left : (plan : Plan) (r : Run) (t : ℕ) (op : Op) → Next plan r t op → r.next_op t < length (operations_of plan t)
@@ -468,8 +425,7 @@ module _ (plan : Plan) (r : Run) (t : ℕ) (k : IsOnTrack plan r) where
   unnamed running = go (r.state.blocked_on t) refl
     where
       go : (o : Option QueueName) → r.state.blocked_on t ≡ o → o ≡ None
-      go None e = refl
-      go (Some q) e = absurd (let z = sym running ∙ k.lawful.lawful.waits.standing_is_queued t q e in cc)
+      go o e = grind arith
 
   -- also behind a step that leaves its wait word and its record
   pub acting_in : (s : State) → s.blocked_on t ≡ r.state.blocked_on t → s.wait t ≡ r.state.wait t → r.state.wait t ≡ Running → IsActing s t
@@ -480,11 +436,7 @@ module _ (plan : Plan) (r : Run) (t : ℕ) (k : IsOnTrack plan r) where
 
   -- at an operation other than a wait it doesn't wait, and is awake
   pub awake : (op : Op) → Next plan r t op → is_wait op ≡ false → waits_on (r.state.log t) ≡ None
-  awake op e f = go (waits_on (r.state.log t)) refl
-    where
-      go : (w : Option ℕ) → waits_on (r.state.log t) ≡ w → w ≡ None
-      go None i = refl
-      go (Some d) i = absurd (let z = sym f ∙ ap is_wait (same_Some op (Sleep (record { 0 = d })) (sym e ∙ k.waiting t d i)) in cc)
+  awake op e f = grind arith
 
   pub is_awake : (op : Op) → IsAtOperation plan r t (Some op) → is_wait op ≡ false → IsAwake r.state t
   is_awake op i f = record { no_wait = awake op i.next f; uncut = i.uncut }

@@ -1,6 +1,6 @@
 -- The run of an ordered plan: each edge of the class graph leads from the class of a lock to that of one declared
 -- behind it, so no take is refused. And no thread waits on a channel, so the run isn't stuck.
-use Rattle.std.proofs.Common.{◌≡◌, ◌≢◌, ℕ, zero, suc, ◌+◌, ◌<◌, Bool, true, false, ◌&&◌, cond, List, [], ◌∷◌, length, Option, Some, None, All, refl, sym, ap, inl, inr, arith, ◌∙◌, subst}
+use Rattle.std.proofs.Common.{◌≡◌, ◌≢◌, ℕ, zero, suc, ◌+◌, ◌<◌, Bool, true, false, ◌&&◌, cond, List, [], ◌∷◌, length, Some, None, All, refl, sym, ap, inl, inr, arith, ◌∙◌, subst}
 use Rattle.std.specs.List.{list_all, range_with_len}
 use Rattle.std.proofs.lemmas.Bool.{cases_eq, ne_eqb}
 use Rattle.std.proofs.lemmas.List.Elements.{All-head, All-tail}
@@ -100,11 +100,7 @@ module _ (plan : Plan) (o : IsOrdered plan) where
 
       -- it waits on nothing, so it holds what its operations so far lead to
       awake : waits_on (s.log t) ≡ None
-      awake = go (waits_on (s.log t)) refl
-        where
-          go : (w : Option ℕ) → waits_on (s.log t) ≡ w → w ≡ None
-          go None e = refl
-          go (Some d) e = absurd (let z = sym g.at.next ∙ k.waiting t d e in cc)
+      awake = grind arith
 
       holds_all : held_now plan r t ≡ held_before plan r t
       holds_all = rw (g.at.uncut, awake) refl
@@ -149,8 +145,7 @@ one_more e i u = record { up = u.up; unrefused = rw (i, u.unrefused) refl }
 -- as that of a wake is none
 no_refusal : (d : ChanNo) {op : Op} {all : Bool} {noted : ℕ → Event} (woken : ℕ) → actions.Waking d op all noted
     → is_reversal (noted woken) ≡ false
-no_refusal d woken actions.of_one = refl
-no_refusal d woken actions.of_all = refl
+no_refusal d woken e = grind arith
 
 acquired : (plan : Plan) (r : Run) (t : ℕ) (action : Action) → actions.Acquires plan r t action
     → IsUpward plan r.state.edges r.state.history → IsUpBehind plan r action

@@ -17,6 +17,7 @@ use Rattle.sleep_laws.specs.Sleepers.{HaltNobody}
 use Rattle.lock_model.specs.Events.{OfSection, NoSection, BeginsIn, EndsFrom, LeftFor, TakenBack, facets}
 use Rattle.lock_laws.proofs.Kit.{at_put, put_other, put_at_other, put_at_row}
 use Rattle.lock_laws.proofs.OwnEntries.{other_sections}
+use Rattle.std.proofs.Common.{arith}
 
 -- whether a step sets the halt word
 abbrev pub sets_halt : Step → Bool
@@ -129,19 +130,7 @@ module _ (c : Config) (u : ℕ) where
   leaves s other ne = assumption (same s)
 
   behind : {s m n : State} → SameShare c u s m → SameShare c u m n → SameShare c u s n
-  behind a b = record {
-    held = b.held ∙ a.held;
-    held_locks = b.held_locks ∙ a.held_locks;
-    log = b.log ∙ a.log;
-    sections = λ l. b.sections l ∙ a.sections l;
-    has_begun = b.has_begun ∙ a.has_begun;
-    wanted = b.wanted ∙ a.wanted;
-    taking = b.taking ∙ a.taking;
-    noted = b.noted ∙ a.noted;
-    walk = b.walk ∙ a.walk;
-    marked = b.marked ∙ a.marked;
-    running = λ e. a.running (b.running e);
-  }
+  behind a b = grind arith
 
   -- and a list of steps of another thread
   pub all_leave : (t : ℕ) (s : State) (steps : List Step) → (t ≡ u → ⊥) → AllBy t steps → SameShare c u s (after_all c s steps)

@@ -6,7 +6,7 @@ use Rattle.std.proofs.lemmas.Bool.{cases_Bool, and_parts, or_cases, leb-true, no
 use Rattle.std.proofs.lemmas.Option.{none-some, slice_get_past}
 use Rattle.lock_model.specs.Config.{Config}
 use Rattle.lock_model.specs.Counts.{sum_below, one, at_option}
-use Rattle.lock_model.specs.Holds.{Hold, NotHeld, Holds, is_unheld, is_exclusive}
+use Rattle.lock_model.specs.Holds.{Hold, Holds, is_unheld, is_exclusive}
 use Rattle.lock_model.specs.Operations.{IsProper}
 use Rattle.lock_model.specs.Orders.{IsEdge}
 use Rattle.lock_model.specs.Plans.{config_of, operations_of}
@@ -35,9 +35,7 @@ use Rattle.run_laws.proofs.Idle.{ended_unmarked, stuck_sleeps}
 
 -- one that shares
 sharing : (x : Hold) → 1 ≤ shares x → x ≡ Holds Shared
-sharing NotHeld l = absurd (omega arith)
-sharing (Holds Excl) l = absurd (omega arith)
-sharing (Holds Shared) l = refl
+sharing x l = grind arith
 
 -- a lock whose word has a holder is held by a thread
 holder_found : (c : Config) (s : State) (l : ℕ) → Lawful c s → 1 ≤ busy (s.word l).holder → (u : ℕ) × (mode : Mode) × (s.held u l ≡ Holds mode)
@@ -85,8 +83,7 @@ module _ (plan : Plan) (r : Run) (k : IsOnTrack plan r) where
       ]
     where
       go : (o : Option ℕ) → waits_on (s.log t) ≡ o → slice_get (operations_of plan t) (r.next_op t) ≡ None → TakesLock c l (waits_on (s.log t)) (slice_get (operations_of plan t) (r.next_op t)) → ⊥
-      go None i none takes = let z : TakesLock c l None None = rw (i, none) at takes in z
-      go (Some d) i none takes = none-some _ (sym none ∙ k.waiting t d i)
+      go o i none takes = grind arith
 
   -- nor has one that holds one
   holding : (t l : ℕ) (mode : Mode) → s.held t l ≡ Holds mode → has_ended plan r t ≡ true → ⊥

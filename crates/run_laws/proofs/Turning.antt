@@ -11,7 +11,6 @@ use Rattle.lock_model.specs.Law.{HaltsOnlyWhenRunning, begins as leads_nowhere}
 use Rattle.lock_state.specs.State.{State, start_state}
 use Rattle.lock_state.specs.Steps.{Admits, MayAll, IsReachable, begins}
 use Rattle.lock_state.specs.Steps.Orders.{MayAdmit}
-use Rattle.lock_state.specs.Steps.Items.{TurnstileChain, SleepChain, RecordOf, CellOf, ClassGraph}
 use Rattle.lock_state.specs.Facts.{NothingIsOut, QueuedStands}
 use Rattle.lock_state.specs.Run.{Run, Action, Course, start_run, nothing, turn_of, run_behind, after_turns, course_after, has_ended, round_of, threads_of, with_turn, after_turn, go_on, is_over}
 use Rattle.lock_model.specs.declared.plan.Plan.{Plan}
@@ -42,11 +41,7 @@ use Rattle.order_laws.proofs.TakeFacts.{begins as takes_begin}
 
 nothing_out : (c : Config) → NothingIsOut (start_state c).turnstile_chain_with (start_state c).sleep_chain_with (start_state c).record_with (start_state c).cell_with (start_state c).graph_with
 unfolding start_state NothingIsOut
-nothing_out c (TurnstileChain k) = refl
-nothing_out c (SleepChain k) = refl
-nothing_out c (RecordOf t) = refl
-nothing_out c (CellOf l k) = refl
-nothing_out c ClassGraph = refl
+nothing_out c e = grind arith
 
 pub begins_on_track : (plan : Plan) → IsProper plan → IsOnTrack plan (start_run (config_of plan))
 unfolding start_state sections_in QueuedStands HaltsOnlyWhenRunning
@@ -105,10 +100,7 @@ acquired plan r t _ p k lt (actions.enters by i a stands) =
 admitted_first : (plan : Plan) (r : Run) (t : ℕ) (l : LockNo) (action : Action)
     → MayAdmit (config_of plan) r.state t l.0 → IsMade plan (admitted plan r t l) t action
     → IsMade plan r t (record action { steps = Admits t l.0 ∷ action.steps })
-admitted_first plan r t l action may m = record {
-  may = (may, m.may);
-  keeps = record { asks = (tt, m.keeps.asks); out = m.keeps.out; stands = m.keeps.stands; noted = m.keeps.noted; no_halts = m.keeps.no_halts; there = m.keeps.there; back = m.keeps.back };
-}
+admitted_first plan r t l action may m = grind arith
 
 module _ (plan : Plan) (r : Run) (t : ℕ) (p : IsProper plan) (k : IsOnTrack plan r) (lt : t < length plan.threads) where
   abbrev c : Config

@@ -1,10 +1,9 @@
 -- The turns of a thread that takes or tries a lock, or takes one back after a wait: it gains or claims it, blocks, or
 -- finds it busy. Their steps may be made, and they leave the run on track.
-use Rattle.std.proofs.Common.{◌≡◌, ◌≢◌, ◌⊎◌, ℕ, suc, ◌<◌, Bool, true, false, cond, eqb, List, [], ◌∷◌, ◌++◌, length, Option, Some, None, option_map, refl, sym, ap, inl, inr, arith, eq-eqb, ◌∙◌, subst}
-use Rattle.std.specs.Prelude.{unwrap_or, is_some}
+use Rattle.std.proofs.Common.{◌≡◌, ◌≢◌, ◌⊎◌, ℕ, suc, ◌<◌, Bool, true, false, cond, eqb, List, [], ◌∷◌, ◌++◌, length, Option, Some, None, option_map, refl, sym, ap, inl, inr, arith, ◌∙◌, subst}
+use Rattle.std.specs.Prelude.{unwrap_or}
 use Rattle.std.proofs.lemmas.Bool.{eqb-true}
 use Rattle.std.proofs.lemmas.Option.{none-some}
-use Rattle.lock_model.specs.Events.{OfSleep, NoSleep, FallsAsleep, WakesUp, IsHalted, IsHaltedAtLock, WakesOne, WakesAll, of_sleep, fell_asleep, begins_sleep}
 use Rattle.lock_model.specs.Words.{is_plain, admits, bits_of}
 use Rattle.lock_model.specs.Plans.{config_of, lock_kind, operations_of}
 use Rattle.lock_model.specs.Operations.{IsProper, hold_in}
@@ -47,7 +46,7 @@ use Rattle.sleep_laws.proofs.SleepFacts.Entries.{one_channel}
 use Rattle.sleep_laws.proofs.SleepFacts.Known.{asleep}
 use Rattle.sleep_laws.proofs.SleepFacts.Off.{off_acting, unnoted_unhalted}
 use Rattle.lock_laws.proofs.Dealt.{signals_nowhere}
-use Rattle.run_laws.proofs.OnTrack.{KeepsTrack, EndsWell, LetsGoOn, lets_go_on, goes_on, IsWhere, share_in, is_there, now_stands, not_running, put_at_own, noted_behind, none_unnoted, unnamed, acting, acting_in, ends_quietly, IsAwake, awake, is_awake, waits_back, awake_behind, before, behind, left, fit, are_locks, holds_all, all_open, wants_none, wants_it}
+use Rattle.run_laws.proofs.OnTrack.{KeepsTrack, EndsWell, LetsGoOn, lets_go_on, goes_on, IsWhere, share_in, is_there, now_stands, not_running, put_at_own, noted_behind, none_unnoted, unnamed, acting, acting_in, ends_quietly, IsAwake, is_awake, awake_behind, before, behind, left, fit, are_locks, wants_none, wants_it}
 use Rattle.lock_laws.proofs.Sections.{own_section}
 use Rattle.run_laws.proofs.Actions.{Taking, anew, back, Gaining, by_taking, by_trying, Entering, on_turnstile, on_sleep_queue, lock_with, mode_left, its_mode}
 
@@ -58,17 +57,7 @@ gained_section false m x y e = e
 
 -- a log says that its thread waits where its newest entry is the Sleeps entry
 pub waits_slept : (es : List Entry) (d : ℕ) → waits_on es ≡ Some d → has_slept d es ≡ true
-waits_slept [] d e = absurd cc
-waits_slept (x ∷ es) d e = go (of_sleep x.event) e
-  where
-    go : (o : OfSleep) → fell_asleep o ≡ Some d → begins_sleep o d ≡ true
-    go NoSleep f = absurd (none-some d f)
-    go (FallsAsleep j) f = let same : j ≡ d = cc in eq-eqb j d same
-    go (WakesUp j) f = absurd (none-some d f)
-    go (IsHalted j) f = absurd (none-some d f)
-    go (IsHaltedAtLock l) f = absurd (none-some d f)
-    go (WakesOne j woken) f = absurd (none-some d f)
-    go (WakesAll j woken) f = absurd (none-some d f)
+waits_slept es d e = grind arith
 
 -- 1. What a gain finds: the lock may be gained, what is held and open then, and what its entry asks and says
 
@@ -103,20 +92,7 @@ module _ (plan : Plan) (r : Run) (t : ℕ) (p : IsProper plan) (k : IsOnTrack pl
       → ((f : ℕ → ℕ → Bool) → begun_after c e t f ≡ put_at f t l.0 true) → LetsGoOn e → taking_after e (s.taking t) ≡ None
       → ((n : State) → (n.held t l.0 ≡ Holds mode) → (open_in c n.history t l.0 ≡ NotHeld) → (others : List HeldLock) → n.held_locks t ≡ record { lock = l.0; by_try = by_try } ∷ others → Asks c n t e)
       → Finds plan r t l mode by_try e
-  anew_finds l mode by_try e up fits wants section begun lets taken asks = record {
-    lock = fits.lock;
-    mutex = fits.mutex;
-    unheld = holds_all plan r t k up l.0 ∙ fits.unheld;
-    wants = wants;
-    opened = all_open plan r t k up.no_wait;
-    adds = rw (up.uncut, up.no_wait) fits.behind;
-    section = λ j. section j (sections_in c s.history t j);
-    begun = begun;
-    lets = lets;
-    taken = taken;
-    asks = λ n same woken held listed.
-        asks n held (ap (λ es. open_in c es t l.0) same ∙ all_open plan r t k up.no_wait l.0 ∙ holds_all plan r t k up l.0 ∙ fits.unheld) (s.held_locks t) listed;
-  }
+  anew_finds l mode by_try e up fits wants section begun lets taken asks = grind arith
 
   -- 2. A wait that is over: the lock was released, and is taken back as it was held
 
@@ -166,11 +142,7 @@ module _ (plan : Plan) (r : Run) (t : ℕ) (p : IsProper plan) (k : IsOnTrack pl
     left_mode = its_mode (left_in c s.history t wait_lock) (λ z. wait_finds.held (sym left_so ∙ z))
 
     back_opened : (j : ℕ) → open_in c s.history t j ≡ s.held t j
-    back_opened j = k.sections t j ∙ rw its_lock (go (eqb wait_lock j) refl)
-      where
-        go : (b : Bool) → eqb wait_lock j ≡ b → cond b NotHeld (s.held t j) ≡ s.held t j
-        go true x = sym (subst (λ m. s.held t m ≡ NotHeld) (eqb-true wait_lock j x) released)
-        go false x = refl
+    back_opened j = grind arith
 
     back_section : (j : ℕ) → (sections_by c (event.Woke d) j (sections_in c s.history t j)).now ≡ replaced (cond (eqb wait_lock j) (Holds (mode_left plan r t d)) NotHeld) (open_in c s.history t j)
     back_section j = ap (λ x. replaced x (open_in c s.history t j)) (go (eqb wait_lock j) refl)
@@ -351,11 +323,7 @@ module _ (plan : Plan) (r : Run) (t : ℕ) (p : IsProper plan) (k : IsOnTrack pl
     -- it isn't on its way to a channel
     off : IsOnItsWay (after_ready s t) t → ⊥
     unfolding after_ready
-    off w = go g i
-      where
-        go : {x : LockNo} {m : Mode} {o : Op} {e : Event} → Taking plan r t x m o e → IsAtOperation plan r t (Some o) → ⊥
-        go (anew x m j e) at = let z = sym w.slept ∙ waits_back (s.log t) ∙ ap is_some (awake plan r t k (Take x m) at.next refl) in cc
-        go (back d e waits) at = none-some d.0 (sym w.unwoken ∙ was_woken d e waits at)
+    off w = grind arith
 
     -- it wants the lock before and behind
     there : IsWhere plan t (record (share_in plan s t (r.next_op t)) { wanted = put s.wanted t (Some l.0) t })

@@ -1,7 +1,7 @@
 -- The turns of a thread that gives a lock back, by an operation, after it went to sleep with it or after it was cut:
 -- their steps may be made, and they leave the run on track.
-use Rattle.std.proofs.Common.{◌≡◌, ◌≢◌, ℕ, suc, ◌<◌, Bool, true, false, not, cond, eqb, ◌||◌, List, [], ◌∷◌, length, take, slice_get, Option, Some, None, option_map, refl, sym, ap, eq-eqb, ◌∙◌, subst}
-use Rattle.std.proofs.lemmas.Option.{none-some, same_Some}
+use Rattle.std.proofs.Common.{◌≡◌, ◌≢◌, ℕ, suc, ◌<◌, Bool, true, false, cond, eqb, List, [], ◌∷◌, length, take, slice_get, Option, Some, None, option_map, refl, sym, ap, eq-eqb, ◌∙◌, subst}
+use Rattle.std.proofs.lemmas.Option.{none-some}
 use Rattle.lock_model.specs.Words.{Word, is_free, is_drop, is_turnstile, without_one, shows_waiters}
 use Rattle.lock_model.specs.Plans.{config_of, operations_of}
 use Rattle.lock_model.specs.Operations.{IsProper, hold_in, without_lock}
@@ -34,15 +34,11 @@ use Rattle.run_laws.proofs.OnTrack.{KeepsTrack, EndsWell, NoneOut, IsWhere, shar
 use Rattle.lock_laws.proofs.Sections.{own_section}
 use Rattle.run_laws.proofs.Actions.{GivingBack, its_mode}
 use Rattle.run_laws.proofs.Actions as actions
+use Rattle.std.proofs.Common.{arith}
 
 -- what a release that is no drop finds
 open_finds : (w : Word) → is_drop w ≡ false → (is_free (without_one w.holder) ≡ true) × (shows_waiters w ≡ true)
-open_finds w e = go (is_free (without_one w.holder)) (shows_waiters w) e
-  where
-    go : (a b : Bool) → (not a || not b) ≡ false → (a ≡ true) × (b ≡ true)
-    go true true i = (refl, refl)
-    go true false i = absurd cc
-    go false b i = absurd cc
+open_finds w e = grind arith
 
 -- the lock of a wait has no open section, before its release or behind it
 twice_unheld : (b : Bool) (x : Hold) → cond b NotHeld x ≡ cond b NotHeld (cond b NotHeld x)
@@ -216,12 +212,10 @@ module _ (plan : Plan) (r : Run) (t : ℕ) (p : IsProper plan) (k : IsOnTrack pl
     owes_it = go (lock_of_wait c s t) refl owed
       where
         held : (j : ℕ) (x : Hold) → s.held t j ≡ x → cond (is_unheld x) None (Some j) ≡ Some l → (Some j ≡ Some l) × (s.held t l ≢ NotHeld)
-        held j NotHeld e f = absurd (none-some l f)
-        held j (Holds mode) e f = (f, λ z. let a : s.held t l ≡ Holds mode = ap (s.held t) (sym (same_Some j l f)) ∙ e in let b : NotHeld ≡ Holds mode = sym z ∙ a in cc)
+        held j x e f = grind arith
 
         go : (o : Option ℕ) → lock_of_wait c s t ≡ o → to_release (s.held t) o ≡ Some l → (o ≡ Some l) × (s.held t l ≢ NotHeld)
-        go None e f = absurd (none-some l f)
-        go (Some j) e f = held j (s.held t j) refl f
+        go o e f = grind arith
 
     pub holds_it : s.held t l ≡ Holds held_so
     holds_it = its_mode (s.held t l) owes_it.1
@@ -248,8 +242,7 @@ module _ (plan : Plan) (r : Run) (t : ℕ) (p : IsProper plan) (k : IsOnTrack pl
         owes_it.1 (subst (λ m. s.held t m ≡ NotHeld) (its_lock (waits_on (s.log t)) owes_it.0 (k.wants t j wanted)) (k.wants_unheld t j wanted))
       where
         its_lock : (w : Option ℕ) → option_map c.chan_lock w ≡ Some l → TakesLock c j w (slice_get (operations_of plan t) (r.next_op t)) → j ≡ l
-        its_lock None f x = absurd (none-some l f)
-        its_lock (Some d) f x = sym x ∙ same_Some (c.chan_lock d) l f
+        its_lock w f x = grind arith
 
     pub may_give_up_all : {kind : StepKind} {step : Step} → GivingBack plan r t l held_so kind step → MayAll c s (step ∷ [])
     may_give_up_all g = (

@@ -1,9 +1,7 @@
 -- The turns of a thread with a marked list, and of a woken one: their steps may be made, and leave the run on track.
-use Rattle.std.proofs.Common.{◌≡◌, ◌≢◌, ℕ, ◌<◌, true, cond, List, [], ◌∷◌, length, Option, Some, None, refl, sym, ap, ◌∙◌, subst}
-use Rattle.std.proofs.lemmas.Bool.{eqb-true}
+use Rattle.std.proofs.Common.{◌≡◌, ◌≢◌, ℕ, ◌<◌, true, List, [], ◌∷◌, length, Option, Some, None, refl, sym, ap, ◌∙◌, subst}
 use Rattle.std.proofs.lemmas.Option.{same_Some}
-use Rattle.lock_model.specs.Holds.{Hold, NotHeld, Holds, is_unheld}
-use Rattle.lock_model.specs.Events.{sleeps_on, of_sleep, fell_asleep}
+use Rattle.lock_model.specs.Holds.{Hold, NotHeld}
 use Rattle.lock_model.specs.Plans.{config_of}
 use Rattle.lock_model.specs.Config.{Config}
 use Rattle.lock_model.specs.Queues.{Mark, Cause, BySignal, chan_queue}
@@ -15,8 +13,6 @@ use Rattle.lock_state.specs.Steps.Turnstiles.{MayMark, MayResume, HasReleased, w
 use Rattle.lock_state.specs.Facts.{QueuedStands, WokenWants}
 use Rattle.lock_state.specs.Facts.Sleeps.{WokenSlept, WokenBySignal}
 use Rattle.lock_state.specs.Run.{Run, waits_on, to_release, does}
-use Rattle.lock_model.specs.declared.event.Event.{Event}
-use Rattle.lock_model.specs.declared.event.Event.TheVariants.{Sleeps}
 use Rattle.lock_model.specs.declared.event.Entry.{Entry}
 use Rattle.lock_model.specs.declared.plan.Plan.{Plan}
 use Rattle.lock_model.specs.declared.plan.QueueName.{QueueName}
@@ -25,23 +21,15 @@ use Rattle.lock_model.specs.declared.turn.StepKind.TheVariants as kind
 use Rattle.run_laws.specs.OnTrack.{IsOnTrack, OwesNothing}
 use Rattle.lock_laws.proofs.Kit.{at_put, put_same, put_other, each_place}
 use Rattle.run_laws.proofs.OnTrack.{KeepsTrack, MayWant, none_unnoted, is_there, there_wanting, waits_uncut}
+use Rattle.std.proofs.Common.{arith}
 
 -- a thread whose newest entry is the Sleeps entry of a channel waits there
 pub slept_waits : (d : ℕ) (es : List Entry) → has_slept d es ≡ true → waits_on es ≡ Some d
-slept_waits d [] x = absurd cc
-slept_waits d (e ∷ es) x = by_event e.event x
-  where
-    by_event : (v : Event) → sleeps_on v d ≡ true → fell_asleep (of_sleep v) ≡ Some d
-    by_event (Sleeps k) x = ap Some (eqb-true k.0 d x)
-    by_event other x = absurd cc
+slept_waits d es x = grind arith
 
 -- a wait's lock that is not to be released isn't held
 pub given_up : (held : ℕ → Hold) (l : ℕ) → to_release held (Some l) ≡ None → held l ≡ NotHeld
-given_up held l e = go (held l) e
-  where
-    go : (h : Hold) → cond (is_unheld h) None (Some l) ≡ None → h ≡ NotHeld
-    go NotHeld i = refl
-    go (Holds mode) i = absurd cc
+given_up held l e = grind arith
 
 module _ (plan : Plan) (r : Run) (t : ℕ) (k : IsOnTrack plan r) (lt : t < length plan.threads) where
   abbrev c : Config
@@ -140,5 +128,4 @@ module _ (plan : Plan) (r : Run) (t : ℕ) (k : IsOnTrack plan r) (lt : t < leng
         still = put_same s.noted t _ ∙ rw signal (unchanged q)
           where
             unchanged : (x : QueueName) → noted_after x BySignal (is_taking_back (s.log t)) (s.noted t) ≡ s.noted t
-            unchanged (Lock j) = refl
-            unchanged (Chan d) = refl
+            unchanged x = grind arith

@@ -1,5 +1,5 @@
 -- The turns of a thread with a walk: their steps may be made, and they leave the run on track.
-use Rattle.std.proofs.Common.{◌≡◌, ◌⊎◌, ℕ, ◌<◌, true, false, ltb, [], ◌∷◌, length, Option, Some, None, refl, sym, inl, inr, arith, ◌∙◌, subst}
+use Rattle.std.proofs.Common.{◌≡◌, ◌⊎◌, ℕ, ◌<◌, true, false, ltb, [], ◌∷◌, length, Some, None, sym, arith, ◌∙◌, subst}
 use Rattle.std.proofs.lemmas.Bool.{ltb-true, ltb-false, and_parts}
 use Rattle.lock_model.specs.Words.{is_turnstile, owner_of}
 use Rattle.lock_model.specs.Plans.{config_of}
@@ -10,7 +10,6 @@ use Rattle.lock_state.specs.State.{State, Walk, AtLock, AtThread}
 use Rattle.lock_state.specs.Steps.{Lends, Shifts, EndsWalk}
 use Rattle.lock_state.specs.Steps.Lending.{MayLend, MayShift, MayEndWalk, IsAtEnd, after_lend, after_shift, after_end_walk}
 use Rattle.lock_state.specs.Facts.{OwnersHold}
-use Rattle.lock_state.specs.Facts.Loans.{owner_if}
 use Rattle.lock_state.specs.Run.{Run, does}
 use Rattle.lock_model.specs.declared.plan.Plan.{Plan}
 use Rattle.lock_model.specs.declared.plan.QueueName.TheVariants.{Lock}
@@ -50,11 +49,7 @@ module _ (plan : Plan) (r : Run) (t : ℕ) (p : IsProper plan) (k : IsOnTrack pl
 
   pub may_end_at_lock : (l : ℕ) → s.walk t ≡ AtLock l → (owner_of (s.word l).holder ≡ None) ⊎ (s.head (lock_queue l) ≡ None) → MayEndWalk c s t
   unfolding OwnersHold
-  may_end_at_lock l w e = may_end (AtLock l) w (k.lawful.lawful.loans.owners_hold l ∙ elim e [ inl f ↦ none f (s.head (lock_queue l)) | inr f ↦ rw f refl ])
-    where
-      none : owner_of (s.word l).holder ≡ None → (x : Option ℕ) → owner_if (is_turnstile (c.kind l)) x (s.word l).holder ≡ None
-      none f None = refl
-      none f (Some x) = rw (k.walks t l w) f
+  may_end_at_lock l w e = grind arith
 
   pub walk_ended : KeepsTrack plan r t (does kind.WalkEnd (EndsWalk t ∷ []))
   unfolding after_end_walk

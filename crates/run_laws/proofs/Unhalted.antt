@@ -1,10 +1,10 @@
 -- In a scheduled run nobody is halted, and no waking passes over a sleeper: that would be passed over to the end, since
 -- its next entry would tell of a halt, and nobody was aborted. So the end of the history is a moment from which its
 -- halts come.
-use Rattle.std.proofs.Common.{◌≡◌, ℕ, Bool, true, false, List, [], ◌∷◌, length, refl, sym, ap, inl, inr, eq-eqb, arith, ◌∙◌, subst}
+use Rattle.std.proofs.Common.{◌≡◌, ℕ, Bool, true, false, List, [], ◌∷◌, length, refl, sym, ap, inl, inr, eq-eqb, arith, subst}
 use Rattle.std.proofs.lemmas.Bool.{cases_eq, cases_Bool, ne_eqb}
 use Rattle.lock_model.specs.Config.{Config}
-use Rattle.lock_model.specs.Events.{OfSleep, IsHalted, of_sleep, is_waking_of, ends_by_halt, is_by_halt, sleeps_on}
+use Rattle.lock_model.specs.Events.{of_sleep, is_waking_of, sleeps_on}
 use Rattle.lock_model.specs.Halts.{HaltsAreHonest}
 use Rattle.lock_model.specs.History.{entries_of}
 use Rattle.lock_model.specs.Law.{LeadsTo, Gives, Point, Before, Asleep, Cut, WakingsNameSleepers, HaltsOnlyWhenRunning, is_asleep, is_passed_over, passes_over}
@@ -18,7 +18,7 @@ use Rattle.lock_model.specs.declared.plan.Plan.{Plan}
 use Rattle.lock_model.specs.declared.plan.QueueName.TheVariants.{Lock, Chan}
 use Rattle.lock_model.specs.declared.event.Entry.{Entry}
 use Rattle.lock_model.specs.declared.event.Event.{Event}
-use Rattle.lock_model.specs.declared.event.Event.TheVariants.{Woke, HaltedChan, Unlocked, WokeOne, WokeAll}
+use Rattle.lock_model.specs.declared.event.Event.TheVariants.{Woke, HaltedChan, Unlocked}
 use Rattle.lock_model.specs.declared.event.Held.{Held}
 use Rattle.lock_state.specs.Facts.Halts.{NobodyIsHalted}
 use Rattle.lock_state.specs.Facts.Sleeps.{AreSignals, aborts, is_aborted, is_chan_halt, aborted}
@@ -41,8 +41,7 @@ is_in_wait (Cut hs) = false
 
 slept_by : (kind : ℕ → Kind) (held : List Held) (n : ℕ) (op : Op) (e : Event) (p : Point) → Gives kind held n op e p
     → (d : ℕ) → sleeps_on e d ≡ true → is_in_wait p ≡ true
-slept_by kind held n _ _ _ (law.sleeps k) d f = refl
-slept_by kind held n op e p g d f = absurd cc
+slept_by kind held n op e p g d f = grind arith
 
 slept_waits : (kind : ℕ → Kind) (ops : List Op) (es : List Entry) (p : Point) → LeadsTo kind ops es p → (d : ℕ)
     → has_slept d es ≡ true → is_in_wait p ≡ true
@@ -71,22 +70,9 @@ wakes_nobody kind ops _ es _ (law.gives_back e h x) d f = ap (λ v. is_waking_of
 -- so no waking passes over its own thread
 own_passes : (c : Config) (es : List Entry) (t : ℕ) (e : Event)
     → ((d : ℕ) → is_asleep es d t ≡ true → is_waking_of (of_sleep e) ≡ false) → passes_over c es e t ≡ false
-own_passes c es t (WokeOne d woken) f = elim (cases_Bool (is_asleep es d.0 t)) [
-  | inl a ↦ absurd (let z = f d.0 a in cc)
-  | inr a ↦ rw a refl
-]
-own_passes c es t (WokeAll d woken) f = elim (cases_Bool (is_asleep es d.0 t)) [
-  | inl a ↦ absurd (let z = f d.0 a in cc)
-  | inr a ↦ rw a refl
-]
-own_passes c es t other f = refl
+own_passes c es t e f = grind arith
 
 -- 2. Where nobody is passed over at the end, nobody was before
-
--- an entry of a halted sleep on a channel is one of a halt
-chan_halts : (o : OfSleep) → ends_by_halt o ≡ true → is_by_halt o ≡ true
-chan_halts (IsHalted d) x = refl
-chan_halts other x = absurd cc
 
 -- entries that lead somewhere did so before the newest
 led_before : (kind : ℕ → Kind) (ops : List Op) (e : Entry) (es : List Entry) (p : Point)
@@ -133,16 +119,10 @@ module _ (c : Config) (kind : ℕ → Kind) (ops : ℕ → List Op) where
       ]
 
       own : is_passed_over c es e.thread.0 ≡ false
-      own = elim (cases_Bool (is_passed_over c es e.thread.0)) [
-        | inl a ↦ absurd (let z : true ≡ false = sym (chan_halts (of_sleep e.event) (w.1 a)) ∙ r.0 refl in cc)
-        | inr a ↦ a
-      ]
+      own = grind arith
 
       unpassed : (t : ℕ) → is_passed_over c es t ≡ false
-      unpassed t = elim (cases_eq e.thread.0 t) [
-        | inl i ↦ subst (λ u. is_passed_over c es u ≡ false) i own
-        | inr i ↦ grind (arith, n t)
-      ]
+      unpassed t = grind arith
 
 -- 3. A run on track
 

@@ -1,5 +1,5 @@
 -- A walk begins at a turnstile and goes on to turnstiles.
-use Rattle.std.proofs.Common.{◌≡◌, ℕ, Bool, true, false, List, [], ◌∷◌, Option, Some, None}
+use Rattle.std.proofs.Common.{◌≡◌, ℕ, Bool, true, false, List, [], ◌∷◌, Option}
 use Rattle.lock_model.specs.Config.{Config}
 use Rattle.lock_model.specs.Queues.{lock_queue}
 use Rattle.lock_model.specs.Words.{is_turnstile, owner_of}
@@ -14,6 +14,7 @@ use Rattle.lock_state.specs.Steps.Orders.{after_admit, after_refuse}
 use Rattle.lock_state.specs.Steps.Counting.{after_count_out, after_count_in, after_count_self_in, after_count_end, after_halt}
 use Rattle.run_laws.specs.OnTrack.{WalksAtTurnstiles}
 use Rattle.lock_laws.proofs.Kit.{at_put}
+use Rattle.std.proofs.Common.{arith}
 
 module _ (c : Config) (s : State) (h : WalksAtTurnstiles c s.walk) where
   -- one thread's walk goes on
@@ -21,8 +22,7 @@ module _ (c : Config) (s : State) (h : WalksAtTurnstiles c s.walk) where
   moved t w here u l = at_put (λ v x. x ≡ AtLock l → is_turnstile (c.kind l) ≡ true) s.walk t w (here l) (λ v ne. h v l) u
 
   up : (k : ℕ) (o : Option ℕ) → is_turnstile (c.kind k) ≡ true → (l : ℕ) → walk_up k o ≡ AtLock l → is_turnstile (c.kind l) ≡ true
-  up k None e l i = absurd cc
-  up k (Some o) e l i = let same : k ≡ l = cc in rw same at e
+  up k o e l i = grind arith
 
   to : (o : ℕ) (b : Bool) (l : ℕ) → walk_to o b ≡ AtLock l → is_turnstile (c.kind l) ≡ true
   to o true l i = absurd cc

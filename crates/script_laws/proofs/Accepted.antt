@@ -1,7 +1,7 @@
 -- An accepted script's plan is proper: it keeps the limits, its schedule names its threads, and the operations of
 -- each thread fit what the thread holds. Each line that has no fault keeps what is known sound.
 use Rattle.std.proofs.Common.{◌≡◌, ℕ, suc, ◌+◌, ◌<◌, ◌≤◌, max, Bool, true, false, not, ◌||◌, cond, List, [], ◌∷◌, ◌++◌, length, Option, Some, None, refl, sym, ap, subst, ◌∙◌, arith, length-append}
-use Rattle.std.specs.Prelude.{map, sum, codes, option_and_then, option_map, option_to_list, is_none, is_some, unwrap_or, if◌then◌else◌}
+use Rattle.std.specs.Prelude.{map, sum, codes, option_and_then, option_to_list, is_none, is_some, unwrap_or, if◌then◌else◌}
 use Rattle.std.specs.List.{All, list_any, prefix_len}
 use Rattle.std.specs.Option.{IfSome}
 use Rattle.std.specs.Map.{lookup}
@@ -16,10 +16,9 @@ use Rattle.lock_model.specs.Operations.{operation_tests, Fit, IsProper}
 use Rattle.lock_model.specs.Tests.{test, Passes, where_some, first_fault}
 use Rattle.lock_model.proofs.LeastCodes.{passed, passed_both}
 use Rattle.lock_model.specs.Script.{Reading, Reads, Faulty, told, plan_of, faulty_or, reading_from, reading_of_lines, reading_of, IsAccepted}
-use Rattle.lock_model.specs.Script.Lines.{lines_of, is_same, has_meaning, priority_of, number_of}
+use Rattle.lock_model.specs.Script.Lines.{lines_of, is_same, has_meaning}
 use Rattle.lock_model.specs.Script.Statements.{Statement, Declares, DeclaresChan, Begins, Ends, Schedules, IsDone, Operates, EndsTry, Operation, statement_of}
-use Rattle.lock_model.specs.Script.Statements as say
-use Rattle.lock_model.specs.Script.Learning.{Known, OpenThread, Block, nothing_known, learned, with_class, with_lock, with_chan, with_thread, with_end, with_operation, with_endtry, without_block, op_of, with_key, with_number, lock_of, lock_named, chan_named, thread_named, threads_named, thread_of, declared_as, class_number}
+use Rattle.lock_model.specs.Script.Learning.{Known, OpenThread, Block, nothing_known, learned, with_class, with_lock, with_chan, with_thread, with_end, with_operation, with_endtry, without_block, op_of, lock_of, lock_named, thread_named, threads_named, thread_of, declared_as, class_number}
 use Rattle.lock_model.specs.Script.Faults.{byte_tests, word_tests, place_tests, name_tests, statement_stages, line_fault, behind_line, learned_from, operation_words, tests_in_thread, endtry_tests, is_before_threads, is_in_block, has_room}
 use Rattle.lock_model.specs.declared.plan.Declared.{Declared}
 use Rattle.lock_model.specs.declared.plan.Declared.TheVariants.{Lock, Chan, Thread}
@@ -31,7 +30,7 @@ use Rattle.lock_model.specs.declared.numbers.LockNo.{LockNo}
 use Rattle.lock_model.specs.declared.numbers.ThreadNo.{ThreadNo}
 use Rattle.lock_model.specs.declared.plan.Plan.{Plan}
 use Rattle.lock_model.specs.declared.plan.Op.{Op}
-use Rattle.lock_model.specs.declared.plan.Op.TheVariants.{Take, Try, EndTry, Release, Set, Add, Get, Base, Sleep, WakeOne, WakeAll}
+use Rattle.lock_model.specs.declared.plan.Op.TheVariants.{EndTry}
 use Rattle.script_laws.proofs.AcceptedBlocks.{IsSoundOpen, IsNew, begin_sound, operation_push, endtry_sound, end_fits}
 use Rattle.script_laws.proofs.AcceptedLists.{none_is, empty_is, stages_pass, sum_push, read_all}
 
@@ -47,12 +46,7 @@ abbrev AreWithin : ℕ → ℕ → List (List ℕ × Declared) → Type 0
 AreWithin locks threads es = All (λ e. IsWithin locks threads e.1) es
 
 within_more : (l m n o : ℕ) → l ≤ m → n ≤ o → (es : List (List ℕ × Declared)) → AreWithin l n es → AreWithin m o es
-within_more l m n o locks threads es h = All-weaker (λ e. IsWithin l n e.1) (λ e. IsWithin m o e.1) (λ e. go e.1) es h
-  where
-    go : (d : Declared) → IsWithin l n d → IsWithin m o d
-    go (Lock a) h = omega arith
-    go (Chan c) h = tt
-    go (Thread t) h = omega arith
+within_more l m n o locks threads es h = grind arith
 
 found_within : (locks threads : ℕ) (p : List ℕ → Bool) (es : List (List ℕ × Declared)) (d : Declared) → AreWithin locks threads es → lookup p es ≡ Some d → IsWithin locks threads d
 found_within locks threads p [] d h e = absurd (none-some d e)
@@ -75,17 +69,13 @@ module _ (locks threads : ℕ) (k : Known) (name : List ℕ) (h : AreWithin lock
   lock_within l e = named_so lock_of (λ l. l.0 < locks) l its e
     where
       its : (d : Declared) → IsWithin locks threads d → lock_of d ≡ Some l → l.0 < locks
-      its (Lock a) w q = subst (λ (a : LockNo). a.0 < locks) (same_Some a l q) w
-      its (Chan c) w q = absurd (none-some l q)
-      its (Thread t) w q = absurd (none-some l q)
+      its d w q = grind arith
 
   thread_within : (t : ThreadNo) → thread_named k name ≡ Some t → t.0 < threads
   thread_within t e = named_so thread_of (λ t. t.0 < threads) t its e
     where
       its : (d : Declared) → IsWithin locks threads d → thread_of d ≡ Some t → t.0 < threads
-      its (Lock l) w q = absurd (none-some t q)
-      its (Chan c) w q = absurd (none-some t q)
-      its (Thread a) w q = subst (λ (a : ThreadNo). a.0 < threads) (same_Some a t q) w
+      its d w q = grind arith
 
 -- 2. What the lines so far make known is sound
 
@@ -122,21 +112,7 @@ pub record IsSound (k : Known) : Type 0 where
   schedule : All (λ t. t.0 < length k.threads) k.schedule
 
 pub nothing_sound : IsSound nothing_known
-nothing_sound = record {
-  names = All-nil _;
-  locks = omega arith;
-  chans = omega arith;
-  classes = omega arith;
-  lock_classes = All-nil _;
-  chan_locks = All-nil _;
-  threads = omega arith;
-  fits = All-nil _;
-  open_thread = tt;
-  operations = omega arith;
-  counted = omega arith;
-  scheduled = omega arith;
-  schedule = All-nil _;
-}
+nothing_sound = grind arith
 
 -- 3. Each statement keeps that
 
@@ -148,12 +124,10 @@ none_begun : (k : Known) → k.open_thread ≡ None → begun k ≡ length k.thr
 none_begun k none = let e = ap (λ o. length k.threads + opened o) none in omega arith
 
 pub not_inside : (o : Option OpenThread) → not (not (is_none o)) ≡ true → o ≡ None
-not_inside None e = refl
-not_inside (Some t) e = absurd cc
+not_inside o e = grind arith
 
 pub none_left : (bs : List Block) → not (not (is_empty bs)) ≡ true → bs ≡ []
-none_left [] e = refl
-none_left (b ∷ bs) e = absurd (false≢true e)
+none_left bs e = grind arith
 
 -- a class is known behind its line: its number is that of one of the classes, of which there are no fewer than before,
 -- and at most one more
@@ -275,8 +249,7 @@ threads_within locks threads k (name ∷ names) h = All-append (λ t. t.0 < thre
     go (Some t) e = All-cons (λ (t : ThreadNo). t.0 < threads) t [] (thread_within locks threads k name h t e) (All-nil (λ (t : ThreadNo). t.0 < threads))
 
 one_at_most : {A : Type 0} (o : Option A) → length (option_to_list o) ≤ 1
-one_at_most None = omega arith
-one_at_most (Some x) = omega arith
+one_at_most o = grind arith
 
 threads_few : (k : Known) (names : List (List ℕ)) → length (threads_named k names) ≤ length names
 threads_few k [] = omega arith
@@ -288,31 +261,8 @@ schedule_sound k names h none few =
     let schedule = All-append (λ t. t.0 < length k.threads) k.schedule (threads_named k names) h.schedule (threads_within (length k.locks) (length k.threads) k names (subst (λ m. AreWithin (length k.locks) m k.names) (none_begun k none) h.names)) in
     assumption (h, scheduled, schedule)
 
--- what words of an operation say is no endtry, and a try goes on nowhere yet
-mapped : {A : Type 0} (f : A → Op) (o : Option A) → ((x : A) → IsNew (f x)) → IfSome (option_map f o) IsNew
-mapped f None h = tt
-mapped f (Some x) h = h x
-
-keyed : (f : LockNo → ℕ → Op) (l : Option LockNo) (n : Option ℕ) → ((l : LockNo) (n : ℕ) → IsNew (f l n)) → IfSome (with_key f l n) IsNew
-keyed f (Some l) (Some n) h = h l n
-keyed f l n h = tt
-
-edits : (f : LockNo → ℕ → ℕ → Op) (l : Option LockNo) (n m : Option ℕ) → ((l : LockNo) (n m : ℕ) → IsNew (f l n m)) → IfSome (with_number f l n m) IsNew
-edits f l n (Some m) h = keyed (λ l n. f l n m) l n (λ l n. h l n m)
-edits f l n None h = tt
-
 said_new : (k : Known) (o : Operation) → IfSome (op_of k o) IsNew
-said_new k (say.Take kind mode name) = mapped (λ l. Take l mode) (lock_named k name) (λ l. tt)
-said_new k (say.Release kind mode name) = mapped (λ l. Release l) (lock_named k name) (λ l. tt)
-said_new k (say.Try kind mode name) = mapped (λ l. Try l mode 0) (lock_named k name) (λ l. refl)
-said_new k (say.Set name key value) = edits Set (lock_named k name) (number_of key) (number_of value) (λ l n m. tt)
-said_new k (say.Add name key amount) = edits Add (lock_named k name) (number_of key) (number_of amount) (λ l n m. tt)
-said_new k (say.Get name key) = keyed Get (lock_named k name) (number_of key) (λ l n. tt)
-said_new k (say.Prio prio) = mapped (λ p. Base (record { 0 = p })) (priority_of prio) (λ p. tt)
-said_new k say.Show = tt
-said_new k (say.Wait cond name) = mapped (λ c. Sleep c) (chan_named k name) (λ c. tt)
-said_new k (say.WakeOne cond name) = mapped (λ c. WakeOne c) (chan_named k name) (λ c. tt)
-said_new k (say.WakeAll cond name) = mapped (λ c. WakeAll c) (chan_named k name) (λ c. tt)
+said_new k o = grind arith
 
 -- the open thread has made one operation more
 operation_sound : (k : Known) (t made : OpenThread) → IsSound k → k.open_thread ≡ Some t → k.operations < most_operations → length made.ops ≡ length t.ops + 1 → IsSoundOpen k.locks k.chans made

@@ -5,8 +5,8 @@ use Rattle.std.proofs.Common.{◌≡◌, ◌≢◌, ℕ, zero, suc, ◌+◌, ◌
 use Rattle.std.specs.Prelude.{◌==◌}
 use Rattle.std.specs.List.{list_any}
 use Rattle.std.specs.Cmp.Lexicographic.{pointwise}
-use Rattle.std.proofs.lemmas.Option.{none-some, same_Some, slice_get_within, slice_get_past}
-use Rattle.std.proofs.lemmas.Bool.{cases_eq, eq-eqb, ne_eqb, true≢false, or_parts, or_left, or_from}
+use Rattle.std.proofs.lemmas.Option.{same_Some, slice_get_within, slice_get_past}
+use Rattle.std.proofs.lemmas.Bool.{cases_eq, eq-eqb, ne_eqb, true≢false, or_left, or_from}
 use Rattle.std.proofs.lemmas.List.{take_all, take-append-le, set-append_left, length-set}
 use Rattle.lock_model.specs.Operations.{held_behind, held_through, held_of, operation_tests, IsBlock, EndsBlock, AreNested, Fit}
 use Rattle.lock_model.specs.Tests.{Passes, least_code}
@@ -138,13 +138,7 @@ module _ (ops new : List Op) (at : ℕ) (op : Op) (d : Differ ops new at op) whe
       }
 
   ends_kept : (n : ℕ) → ((l : LockNo) (mode : Mode) → slice_get ops at ≢ Some (Try l mode (suc n))) → EndsBlock ops n → EndsBlock new n
-  ends_kept n no_try b = record {
-    tried = b.tried;
-    lock = b.lock;
-    mode = b.mode;
-    before = b.before;
-    its_try = d.other b.tried (λ e. no_try b.lock b.mode (rw (← e) b.its_try)) ∙ b.its_try;
-  }
+  ends_kept n no_try b = grind arith
 
   open_kept : (n m : ℕ) (bs : List Block) → n ≤ at → n ≤ m → AreOpen ops n bs → AreOpen new m bs
   open_kept n m [] l k h = tt
@@ -168,8 +162,7 @@ IsNew other = Unit {0}
 
 -- a block more may be open, that of the operation itself
 still_open : (t : OpenThread) (op : Op) (n : ℕ) → is_open n (blocks_behind t op) ≡ false → is_open n t.blocks ≡ false
-still_open t (Try l mode past) n h = (or_parts (length t.ops == n) (is_open n t.blocks) h).1
-still_open t op n h = h
+still_open t op n h = grind arith
 
 opens : (t : OpenThread) (l : LockNo) (mode : Mode) (past : ℕ) → is_open (length t.ops) (blocks_behind t (Try l mode past)) ≡ true
 opens t l mode past = or_left (length t.ops == length t.ops) (is_open (length t.ops) t.blocks) (eq-eqb (length t.ops) (length t.ops) refl)
@@ -361,15 +354,7 @@ module _ (locks : List LockDecl) (chans : List ChanDecl) (t : OpenThread) (b : B
 -- 6. From the thread's begin to its end
 
 pub begin_sound : (locks : List LockDecl) (chans : List ChanDecl) (name : List ℕ) (base : ℕ) → IsSoundOpen locks chans (record { name = name; base = base; ops = []; held = []; blocks = [] })
-begin_sound locks chans name base = record {
-  each = λ n op e. absurd (none-some op e);
-  tries = λ n op e. absurd (none-some op e);
-  endtries = λ n e. absurd (none-some EndTry e);
-  nested = λ n m l k outer inner past next e f i j. absurd (none-some _ e);
-  all = λ n l mode past e i. absurd (none-some _ e);
-  opened = tt;
-  held = refl;
-}
+begin_sound locks chans name base = grind arith
 
 pub end_fits : (locks : List LockDecl) (chans : List ChanDecl) (t : OpenThread) → IsSoundOpen locks chans t → t.blocks ≡ [] → t.held ≡ [] → Fit locks chans t.ops
 end_fits locks chans t h none released = record {

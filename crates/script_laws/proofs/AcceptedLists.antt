@@ -11,30 +11,23 @@ use Rattle.std.proofs.lemmas.List.Sums.{sum_by-append}
 use Rattle.std.proofs.lemmas.List.Elements.{All-head, All-tail}
 use Rattle.lock_model.specs.Counts.{is_empty}
 use Rattle.lock_model.specs.Operations.{held_behind, held_through}
-use Rattle.lock_model.specs.Tests.{Test, Passes, or_else, first_fault, least_code}
+use Rattle.lock_model.specs.Tests.{Test, Passes, first_fault}
 use Rattle.lock_model.specs.Script.Faults.{is_same_mode, is_same_held}
 use Rattle.lock_model.specs.declared.plan.Mode.{Mode}
-use Rattle.lock_model.specs.declared.plan.Mode.TheVariants.{Excl, Shared}
 use Rattle.lock_model.specs.declared.plan.Op.{Op}
 use Rattle.lock_model.specs.declared.event.Held.{Held}
 
 -- 1. Tests and lists
 
 pub none_is : {A : Type 0} (o : Option A) → is_none o ≡ true → o ≡ None
-none_is None e = refl
-none_is (Some x) e = absurd (cc)
+none_is o e = grind arith
 
 pub empty_is : {A : Type 0} (xs : List A) → is_empty xs ≡ true → xs ≡ []
-empty_is [] e = refl
-empty_is (x ∷ xs) e = absurd (cc)
+empty_is xs e = grind arith
 
 -- where no stage has a fault, the first has none, and no later one
 pub stages_pass : (stage : List Test) (stages : List (List Test)) → first_fault (stage ∷ stages) ≡ None → Passes stage × (first_fault stages ≡ None)
-stages_pass stage stages e = go (least_code stage) (first_fault stages) e
-  where
-    go : (first later : Option ℕ) → or_else first later ≡ None → (first ≡ None) × (later ≡ None)
-    go None later e = (refl, e)
-    go (Some code) later e = absurd (none-some code (sym e))
+stages_pass stage stages e = grind arith
 
 pub sum_push : {A : Type 0} (f : A → ℕ) (xs : List A) (x : A) → sum (map f (xs ++ x ∷ [])) ≡ sum (map f xs) + f x
 sum_push f xs x = rw map-append (omega (arith, sum_by-append (λ n. n) (map f xs) (f x ∷ [])))
@@ -73,10 +66,7 @@ get_set_other (y ∷ xs) (suc i) x (suc n) h = get_set_other xs i x n (λ e. h (
 
 -- what is held in the same way is the same
 same_mode : (g h : Mode) → is_same_mode g h ≡ true → g ≡ h
-same_mode Excl Excl e = refl
-same_mode Excl Shared e = absurd (false≢true e)
-same_mode Shared Excl e = absurd (false≢true e)
-same_mode Shared Shared e = refl
+same_mode g h e = grind arith
 
 same_way : (g h : Bool) → (if g then h else not h) ≡ true → g ≡ h
 same_way true h e = sym e

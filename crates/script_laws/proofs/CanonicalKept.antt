@@ -35,6 +35,7 @@ use Rattle.script_laws.proofs.AcceptedLists.{none_is, empty_is, stages_pass}
 use Rattle.script_laws.proofs.CanonicalNames.{name_in, AreNamed, named_more, more_locks, more_chans, more_threads}
 use Rattle.script_laws.proofs.CanonicalOperations.{IsReadable, behind}
 use Rattle.script_laws.proofs.CanonicalThreads.{IsReplayed, IsEnded, begin_replayed, operation_replayed, endtry_replayed}
+use Rattle.std.proofs.Common.{arith}
 
 -- 1. What is kept
 
@@ -82,12 +83,7 @@ pub record IsKept (k : Known) : Type 0 where
 
 -- where nothing is named
 pub none_named : AreNamed [] (name_in [] [] [])
-none_named = record { spelled = λ x n e. none x n e; stands = λ x n e. none x n e; named = λ x n e. absurd (none-some x e) }
-  where
-    none : {P : Type 0} (x : Declared) (n : List ℕ) → name_in [] [] [] x ≡ Some n → P
-    none (Lock l) n e = absurd (none-some n e)
-    none (Chan c) n e = absurd (none-some n e)
-    none (Thread t) n e = absurd (none-some n e)
+none_named = grind arith
 
 nothing_kept : IsKept nothing_known
 nothing_kept = record { named = none_named; classes = refl; threads = All-nil _; open_thread = tt }
@@ -177,8 +173,7 @@ begin_kept k name prio h place tests =
     }
   where
     small : (o : Option ℕ) → priority_of prio ≡ o → is_some o ≡ true → unwrap_or o 0 ≤ greatest_priority
-    small None e there = absurd (false≢true there)
-    small (Some n) e there = spelled_within greatest_priority prio n e
+    small o e there = grind arith
 
 end_kept : (k : Known) (t : OpenThread) → IsKept k → k.open_thread ≡ Some t → t.blocks ≡ [] → t.held ≡ [] → IsKept (with_end k (Some t))
 end_kept k t h o closed released =
@@ -199,14 +194,10 @@ module _ (k : Known) (t : OpenThread) where
   mapped f (Some x) op e h = subst (IsReadable t) (same_Some (f x) op e) (h x refl)
 
   keyed : (f : LockNo → ℕ → Op) (l : Option LockNo) (n : Option ℕ) (op : Op) → with_key f l n ≡ Some op → ((l : LockNo) (m : ℕ) → n ≡ Some m → IsReadable t (f l m)) → IsReadable t op
-  keyed f None None op e h = absurd (none-some op e)
-  keyed f None (Some n) op e h = absurd (none-some op e)
-  keyed f (Some l) None op e h = absurd (none-some op e)
-  keyed f (Some l) (Some n) op e h = subst (IsReadable t) (same_Some (f l n) op e) (h l n refl)
+  keyed f l n op e h = grind arith
 
   numbered : (f : LockNo → ℕ → ℕ → Op) (l : Option LockNo) (key n : Option ℕ) (op : Op) → with_number f l key n ≡ Some op → ((l : LockNo) (i m : ℕ) → key ≡ Some i → n ≡ Some m → IsReadable t (f l i m)) → IsReadable t op
-  numbered f l key None op e h = absurd (none-some op e)
-  numbered f l key (Some n) op e h = keyed (λ l i. f l i n) l key op e (λ l i q. h l i n q refl)
+  numbered f l key n op e h = grind arith
 
   within : (word : List ℕ) (n : ℕ) → number_of word ≡ Some n → n ≤ greatest_number
   within word n e = spelled_within greatest_number word n e

@@ -8,7 +8,7 @@ use Rattle.std.proofs.lemmas.Option.{slice_get-map, slice_get_within}
 use Rattle.std.proofs.lemmas.List.{length-map}
 use Rattle.std.proofs.lemmas.List.Elements.{All-head, All-tail}
 use Rattle.lock_model.specs.Limits.{most_open_tries, most_operations, greatest_number, greatest_priority}
-use Rattle.lock_model.specs.Holds.{Hold, NotHeld, Holds, is_unheld}
+use Rattle.lock_model.specs.Holds.{Hold, Holds, is_unheld}
 use Rattle.lock_model.specs.Names.{is_name}
 use Rattle.lock_model.specs.Operations.{hold_in, held_behind, is_of_kind, is_kind, may_be_held, operation_tests}
 use Rattle.lock_model.specs.Tests.{Test, test, Passes, least_code}
@@ -150,8 +150,7 @@ get_within (x ∷ xs) zero h = (x, refl)
 get_within (x ∷ xs) (suc i) h = get_within xs i (omega (arith, h))
 
 same_mode : (mode : Mode) → not (is_other mode (Holds mode)) ≡ true
-same_mode Excl = refl
-same_mode Shared = refl
+same_mode mode = grind arith
 
 same_truth : (b : Bool) → is_same_truth b b ≡ true
 same_truth true = refl
@@ -272,11 +271,7 @@ module _ (locks : List LockDecl) (chans : List ChanDecl) (classes : List (List �
 
   -- a lock that a test finds held
   found_held : (held : List Held) (l : LockNo) → not (is_unheld (hold_in held l.0)) ≡ true → (mode : Mode) × (hold_in held l.0 ≡ Holds mode)
-  found_held held l e = go (hold_in held l.0) refl e
-    where
-      go : (o : Hold) → hold_in held l.0 ≡ o → not (is_unheld o) ≡ true → (mode : Mode) × (hold_in held l.0 ≡ Holds mode)
-      go NotHeld q e = absurd (false≢true e)
-      go (Holds mode) q e = (mode, q)
+  found_held held l e = grind arith
 
   -- 5. Operations
 

@@ -5,7 +5,7 @@ use Rattle.std.specs.Prelude.{fold}
 use Rattle.std.specs.List.{list_all, list_any}
 use Rattle.std.specs.Str.Parse as parse
 use Rattle.std.specs.Char.{digit_value}
-use Rattle.std.proofs.lemmas.Bool.{cases_eq, and_parts, and_from, false≢true, le-leb, ne_eqb, leb-true, ltb-true}
+use Rattle.std.proofs.lemmas.Bool.{cases_eq, and_parts, and_from, false≢true, le-leb, ne_eqb, leb-true}
 use Rattle.std.proofs.lemmas.Bool.Decides.{nat_tests}
 use Rattle.std.proofs.lemmas.List.Folds.{list_all-append}
 use Rattle.std.proofs.lemmas.Str.{digit_value_digit}
@@ -87,8 +87,7 @@ none_empty [] h = refl
 none_empty (w ∷ ws) h = rw (h.0.some, none_empty ws h.1) refl
 
 begins : (first more : List ℕ) → has_meaning first ≡ true → (has_meaning (first ++ more) ≡ true) × (is_empty first ≡ false)
-begins [] more e = absurd (false≢true e)
-begins (b ∷ bs) more e = (e, refl)
+begins first more e = grind arith
 
 -- what reading a line needs to know of it
 module _ (first : List ℕ) (others : List (List ℕ)) (h : IsLine first others) where
@@ -111,8 +110,7 @@ module _ (first : List ℕ) (others : List (List ℕ)) (h : IsLine first others)
 -- 3. Names and numbers
 
 name_length : (n : List ℕ) → is_name n ≡ true → length n ≤ 16
-name_length [] e = absurd (false≢true e)
-name_length (b ∷ bs) e = let s = and_parts _ _ (and_parts _ _ e).0 in omega (arith, ltb-true (length bs) 16 s.0)
+name_length n e = grind arith
 
 letter_byte : (b : ℕ) → is_letter b ≡ true → is_word_byte b ≡ true
 letter_byte b e = grind (arith, nat_tests, e)
@@ -164,8 +162,7 @@ module _ (n : ℕ) (small : n < 2 ^ 64) where
   is_digits = (decimal_is_IsNumeral n small).0.1
 
   filled : (ds : List ℕ) → 0 < length ds → is_empty ds ≡ false
-  filled [] h = absurd (omega (arith, h))
-  filled (b ∷ bs) h = refl
+  filled ds h = grind arith
 
   pub decimal_word : IsWord (decimal n)
   decimal_word = record {

@@ -1,13 +1,14 @@
 -- Where waiting is ordered, no threads wait in a cycle: each wait leads on in the class graph, which has no cycle.
-use Rattle.std.proofs.Common.{◌≡◌, ◌≢◌, ◌⊎◌, ℕ, ◌<◌, List, [], ◌∷◌, ◌++◌, Some, refl, sym, inl, inr, subst, ◌∙◌}
+use Rattle.std.proofs.Common.{◌≡◌, ◌≢◌, ◌⊎◌, ℕ, ◌<◌, List, [], ◌∷◌, ◌++◌, Some, sym, inl, inr, subst, ◌∙◌}
 use Rattle.std.proofs.lemmas.Option.{same_Some}
 use Rattle.lock_model.specs.Config.{Config}
-use Rattle.lock_model.specs.Holds.{Hold, NotHeld, Holds}
+use Rattle.lock_model.specs.Holds.{NotHeld}
 use Rattle.lock_model.specs.Orders.{IsEdge, Reaches, edge, then, HasNoCycle}
 use Rattle.lock_state.specs.State.{State}
 use Rattle.lock_state.specs.Facts.{Lawful, Ordered, WantsAreOrdered}
 use Rattle.lock_state.specs.Best.{WaitsAlong, HasCycle, NobodyWalks, best_behind}
 use Rattle.lock_laws.proofs.Derived as derived
+use Rattle.std.proofs.Common.{arith}
 
 module _ (c : Config) (s : State) (h : Ordered c s) where
   wants_some : (t : ℕ) (us : List ℕ) (v : ℕ) → WaitsAlong s t (us ++ v ∷ []) → (l : ℕ) × (s.wanted t ≡ Some l)
@@ -17,11 +18,7 @@ module _ (c : Config) (s : State) (h : Ordered c s) where
   -- where u holds k and wants l, an edge leads from k to l
   held_leads : (u k l : ℕ) → s.held u k ≢ NotHeld → s.wanted u ≡ Some l → IsEdge s.edges (c.class k) (c.class l)
   unfolding WantsAreOrdered
-  held_leads u k l n e = go (s.held u k) refl
-    where
-      go : (x : Hold) → s.held u k ≡ x → IsEdge s.edges (c.class k) (c.class l)
-      go NotHeld f = absurd (n f)
-      go (Holds mode) f = h.wants_are_ordered u l e k mode f
+  held_leads u k l n e = grind arith
 
   -- a thread doesn't want what it holds
   pub unheld : (t l : ℕ) → s.held t l ≢ NotHeld → s.wanted t ≡ Some l → ⊥

@@ -4,7 +4,7 @@ use Rattle.std.specs.Prelude.{reverse, map}
 use Rattle.std.proofs.lemmas.Bool.{cases_eq, ne_eqb, or_right}
 use Rattle.std.proofs.lemmas.List.{reverse-append}
 use Rattle.lock_model.specs.Config.{Config}
-use Rattle.lock_model.specs.Holds.{Hold, NotHeld, Holds, is_unheld}
+use Rattle.lock_model.specs.Holds.{Hold, Holds, is_unheld}
 use Rattle.lock_model.specs.Orders.{IsEdge, edges_behind}
 use Rattle.lock_model.proofs.Orders.{IsAmong, Grows, new_stands}
 use Rattle.lock_state.specs.State.{HeldLock}
@@ -13,12 +13,12 @@ use Rattle.lock_state.specs.Steps.Orders.{held_classes}
 use Rattle.lock_state.specs.Facts.Words.{is_listed}
 use Rattle.lock_state.specs.Facts.Orders.{EachLeads, AreOrdered}
 use Rattle.lock_model.specs.declared.plan.Mode.{Mode}
+use Rattle.std.proofs.Common.{arith}
 
 -- 1. A lock that is held
 
 pub is_held : (x : Hold) → not (is_unheld x) ≡ true → (mode : Mode) × (x ≡ Holds mode)
-is_held NotHeld e = absurd cc
-is_held (Holds mode) e = (mode, refl)
+is_held x e = grind arith
 
 pub listed_held : (x : Hold) (mode : Mode) → x ≡ Holds mode → not (is_unheld x) ≡ true
 listed_held x mode e = ap (λ y. not (is_unheld y)) e

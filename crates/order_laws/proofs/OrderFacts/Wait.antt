@@ -20,6 +20,7 @@ use Rattle.lock_model.specs.declared.plan.QueueName.TheVariants.{Lock, Chan}
 use Rattle.lock_laws.proofs.Kit.{put_same, put_other}
 use Rattle.lock_laws.proofs.Mark as mark
 use Rattle.order_laws.proofs.OrderFacts.Lists.{listed_held, each_at}
+use Rattle.std.proofs.Common.{arith}
 
 -- 1. An enter of the wanted lock
 
@@ -59,12 +60,7 @@ module _ (c : Config) (s : State) (t l : ℕ) (e : s.wanted t ≡ Some l) (h : O
 -- 2. An add
 
 chan_number : (a b : ℕ) → ◌≡◌ {A = Option QueueName} (Some (chan_queue a)) (Some (chan_queue b)) → a ≡ b
-chan_number a b e = ap number e
-  where
-    number : Option QueueName → ℕ
-    number None = 0
-    number (Some (Lock k)) = 0
-    number (Some (Chan k)) = k.0
+chan_number a b e = grind arith
 
 module _ (c : Config) (s : State) (t d x : ℕ) (g : IsGainedLast s t (c.chan_lock d) false) (f : Lawful c s) (h : Ordered c s) where
   abbrev asleep : ℕ → Option QueueName
@@ -224,14 +220,7 @@ module _ (c : Config) (s : State) (t : ℕ) (q : QueueName) (cause : Cause) (g :
   by_note : (q : QueueName) (cause : Cause) → s.wait t ≡ Woken q cause → (k : ℕ)
       → noted_after q cause back (s.noted t) ≡ Some (SleepHalted (lock_queue k)) → LeadTo c s.edges (s.held t) k
   unfolding HaltsAreOrdered AbortedWant WantsAreOrdered halt_number
-  by_note (Lock l) BySignal w k e = h.halts_are_ordered t k e
-  by_note (Chan d) BySignal w k e = h.halts_are_ordered t k e
-  by_note (Chan d) ByAbort w k e = absurd cc
-  by_note (Lock l) ByAbort w k e = go back e
-    where
-      go : (b : Bool) → cond b (s.noted t) (Some (SleepHalted (Lock l))) ≡ Some (SleepHalted (lock_queue k)) → LeadTo c s.edges (s.held t) k
-      go true e = h.halts_are_ordered t k e
-      go false e = h.wants_are_ordered t k (h.aborted_want t l.0 w ∙ ap Some (ap (halt_number k) e))
+  by_note q cause w k e = grind arith
 
   resume_halts : HaltsAreOrdered c (put s.noted t notes_now) s.held s.edges
   unfolding HaltsAreOrdered

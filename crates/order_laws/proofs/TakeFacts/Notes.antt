@@ -7,16 +7,14 @@ use Rattle.lock_model.specs.Holds.{Holds, is_unheld}
 use Rattle.lock_model.specs.History.{open_in}
 use Rattle.lock_model.specs.Orders.{IsEdge}
 use Rattle.lock_model.specs.Takes.{taken_by, take_edges, has_open, ReversalHasCause}
-use Rattle.lock_model.specs.Queues.{Cause, BySignal, ByAbort}
+use Rattle.lock_model.specs.Queues.{Cause}
 use Rattle.lock_state.specs.State.{State, Note, OrderRefused, put}
 use Rattle.lock_state.specs.Steps.{EndsTake, IsBackFrom, IsTakenInOrder}
 use Rattle.lock_state.specs.Steps.LockWords.{MayStamp, is_taking_back, taking_from, taking_after, entry_of, after_seek, after_stamp}
 use Rattle.lock_state.specs.Steps.Turnstiles.{taking_by, noted_after, after_resume}
 use Rattle.lock_state.specs.Facts.{Lawful, Taken, HeldAreListed, EdgesAreOfTakes, TakersAreOpen, RefusalsHaveCause, ReversalsHaveCause}
 use Rattle.lock_model.specs.declared.plan.QueueName.{QueueName}
-use Rattle.lock_model.specs.declared.plan.QueueName.TheVariants.{Lock, Chan}
 use Rattle.lock_model.specs.declared.event.Event.{Event}
-use Rattle.lock_model.specs.declared.event.Event.TheVariants.{Locked, Woke, HaltedChan, HaltedLock, Reversed}
 use Rattle.lock_model.specs.declared.event.Entry.{Entry}
 use Rattle.lock_state.specs.Facts.Words.{is_listed}
 use Rattle.lock_model.specs.declared.plan.Mode.{Mode}
@@ -25,6 +23,7 @@ use Rattle.order_laws.proofs.OrderFacts.Lists.{listed_held}
 use Rattle.lock_laws.proofs.OwnEntries.{other_sections}
 use Rattle.order_laws.proofs.TakeFacts.Tests.{InProgress, take_stays, take_gives}
 use Rattle.order_laws.proofs.TakeFacts.Holds.{carried}
+use Rattle.std.proofs.Common.{arith}
 
 -- 1. The begin of a round. In order a blocking call seeks the lock that it wants, and so takes already; or its thread
 -- holds nothing, so that its take gives no edge
@@ -100,15 +99,10 @@ module _ (c : Config) (s : State) (t l : ℕ) (by_try : Bool) (k : IsTakenInOrde
 -- 2. A resume
 
 back_takes : (c : Config) (s : State) (t : ℕ) (q : QueueName) → IsBackFrom s t q → is_taking_back (s.log t) ≡ false → taking_by c q (s.taking t) ≡ s.taking t
-back_takes c s t (Lock l) k b = refl
-back_takes c s t (Chan d) k b = absurd (let z : true ≡ false = sym k ∙ b in cc)
+back_takes c s t q k b = grind arith
 
 refused_before : (q : QueueName) (cause : Cause) (back : Bool) (o : Option Note) (l k : ℕ) → noted_after q cause back o ≡ Some (OrderRefused l k) → o ≡ Some (OrderRefused l k)
-refused_before (Lock j) BySignal back o l k e = e
-refused_before (Chan d) BySignal back o l k e = e
-refused_before (Lock j) ByAbort true o l k e = e
-refused_before (Lock j) ByAbort false o l k e = absurd cc
-refused_before (Chan d) ByAbort back o l k e = absurd cc
+refused_before q cause back o l k e = grind arith
 
 module _ (c : Config) (s : State) (t : ℕ) (q : QueueName) (cause : Cause) (k : IsBackFrom s t q) (h : Taken c s) where
   abbrev resumed : ℕ → Option ℕ
@@ -144,27 +138,15 @@ module _ (c : Config) (s : State) (t : ℕ) (q : QueueName) (cause : Cause) (k :
 -- 3. An entry
 
 none_after : (e : Event) → taking_after e None ≡ None
-none_after (Locked l mode) = refl
-none_after (HaltedLock l) = refl
-none_after (Woke d) = refl
-none_after (HaltedChan d) = refl
-none_after other = refl
+none_after e = grind arith
 
 -- an entry that ends a take, or the wait of a thread in one, leaves nothing to take
 ended : (c : Config) (back : Bool) (e : Event) (l : ℕ) (o : Option ℕ) → EndsTake c back e l → taking_after e o ≡ None
-ended c back (Locked k mode) l o i = refl
-ended c back (HaltedLock k) l o i = refl
-ended c back (Woke d) l o i = refl
-ended c back (HaltedChan d) l o i = refl
-ended c back other l o i = absurd i
+ended c back e l o i = grind arith
 
 -- outside a wait it ends a take
 ends_take : (c : Config) (back : Bool) (e : Event) (l : ℕ) → EndsTake c back e l → back ≡ false → taken_by e ≡ Some l
-ends_take c back (Locked k mode) l i b = ap Some i.0
-ends_take c back (HaltedLock k) l i b = ap Some i.0
-ends_take c back (Woke d) l i b = absurd (let z : true ≡ false = sym i.1 ∙ b in cc)
-ends_take c back (HaltedChan d) l i b = absurd (let z : true ≡ false = sym i.1 ∙ b in cc)
-ends_take c back other l i b = absurd i
+ends_take c back e l i b = grind arith
 
 module _ (c : Config) (s : State) (t : ℕ) (e : Event) (g : MayStamp c s t e) (k : (l : ℕ) → s.taking t ≡ Some l → EndsTake c (is_taking_back (s.log t)) e l) (h : Taken c s) where
   abbrev new : Entry
@@ -222,8 +204,7 @@ module _ (c : Config) (s : State) (t : ℕ) (e : Event) (g : MayStamp c s t e) (
 
   reversal : (a : Event) → MayStamp c s t a → ReversalHasCause c s.edges a s.history t
   unfolding RefusalsHaveCause
-  reversal (Reversed l held) x = h.refusals_have_cause t l.0 held.0 x.asks
-  reversal other x = tt
+  reversal a x = grind arith
 
   stamp_reversals : ReversalsHaveCause c s.edges (new ∷ s.history)
   unfolding ReversalsHaveCause

@@ -4,7 +4,7 @@ use Rattle.std.proofs.Common.{◌≡◌, ℕ, zero, suc, ◌<◌, Bool, true, fa
 use Rattle.std.proofs.lemmas.Bool.{cases_eq, ne_eqb, eqb-true, or_cases, and_from, and_parts}
 use Rattle.lock_model.specs.Config.{Config}
 use Rattle.lock_model.specs.Counts.{any_below}
-use Rattle.lock_model.specs.Holds.{Hold, NotHeld, Holds, is_unheld}
+use Rattle.lock_model.specs.Holds.{Hold, Holds, is_unheld}
 use Rattle.lock_model.specs.History.{open_in}
 use Rattle.lock_model.specs.Orders.{IsEdge, forbids}
 use Rattle.lock_model.specs.Takes.{taken_by, classes_open, edges_by, take_edges, has_open}
@@ -123,8 +123,7 @@ module _ (c : Config) (es : List Entry) (t : ℕ) where
       go : (x : Hold) → open_in c es t n ≡ x → IsAmong a (cond (is_unheld x) (classes_open c es t n) (c.class n ∷ classes_open c es t n))
           → (IsAmong a (classes_open c es t n) → (l : ℕ) × ((mode : Mode) × (open_in c es t l ≡ Holds mode)) × (c.class l ≡ a))
           → (l : ℕ) × ((mode : Mode) × (open_in c es t l ≡ Holds mode)) × (c.class l ≡ a)
-      go NotHeld e i rest = rest i
-      go (Holds mode) e i rest = elim i [ inl x ↦ (n, (mode, e), x) | inr x ↦ rest x ]
+      go x e i rest = grind arith
 
 -- they stay behind an entry,
 pub take_stays : (c : Config) (e : Entry) (es : List Entry) → Grows (take_edges c es) (take_edges c (e ∷ es))

@@ -1,11 +1,10 @@
 -- Each step of a running floor that keeps to the order keeps that wants fit takes.
-use Rattle.std.proofs.Common.{◌≡◌, ◌≢◌, ℕ, Bool, true, false, cond, Option, Some, None, refl, sym, ap, inl, inr, arith, subst, ◌∙◌}
+use Rattle.std.proofs.Common.{◌≡◌, ◌≢◌, ℕ, Bool, false, Option, Some, None, refl, sym, ap, inl, inr, arith, subst, ◌∙◌}
 use Rattle.std.proofs.lemmas.Bool.{cases_eq}
 use Rattle.lock_model.specs.Config.{Config}
 use Rattle.lock_model.specs.Holds.{NotHeld, Holds}
-use Rattle.lock_model.specs.Queues.{Cause, BySignal, ByAbort, Mark, lock_queue, chan_queue}
+use Rattle.lock_model.specs.Queues.{Cause, Mark, lock_queue, chan_queue}
 use Rattle.lock_model.specs.declared.plan.QueueName.{QueueName}
-use Rattle.lock_model.specs.declared.plan.QueueName.TheVariants.{Lock, Chan}
 use Rattle.lock_model.specs.declared.event.Event.{Event}
 use Rattle.lock_model.specs.declared.event.Event.TheVariants.{Locked, HaltedLock, Woke, HaltedChan}
 use Rattle.lock_state.specs.State.{State, Wait, Running, Queued, Woken, OrderRefused, SleepHalted, put}
@@ -92,22 +91,10 @@ module _ (c : Config) (s : State) (x : WantsFitTakes s) (t : ℕ) where
 
   -- 4. The begin of a round, an admission and a refusal, and the own wait word
 
-  from_same : (by_try : Bool) (w : Option ℕ) (l : ℕ) (o : Option ℕ) (k : ℕ) → w ≡ Some k → taking_from by_try w l o ≡ o
-  from_same true w l o k e = refl
-  from_same false None l o k e = absurd cc
-  from_same false (Some j) l o k e = refl
-
   seek_taken : (by_try : Bool) (l : ℕ)
       → WantedIsTaken s.wanted (put s.taking t (taking_from by_try (s.wanted t) l (s.taking t)))
   unfolding WantedIsTaken
-  seek_taken by_try l u k w = elim (cases_eq t u) [
-    | inl i ↦
-        let new = taking_from by_try (s.wanted t) l (s.taking t) in
-        ap (put s.taking t new) (sym i) ∙ put_same s.taking t new
-        ∙ from_same by_try (s.wanted t) l (s.taking t) k (ap s.wanted i ∙ w) ∙ ap s.taking i
-        ∙ x.wanted_is_taken u k w
-    | inr i ↦ put_other s.taking t _ u i ∙ x.wanted_is_taken u k w
-  ]
+  seek_taken by_try l u k w = grind (arith, columns)
 
   admit_taken : (l : ℕ) → WantedIsTaken (put s.wanted t (Some l)) (put s.taking t (Some l))
   unfolding WantedIsTaken
@@ -172,64 +159,19 @@ module _ (c : Config) (s : State) (x : WantsFitTakes s) (t : ℕ) (q : QueueName
   abbrev taking : ℕ → Option ℕ
   taking = put s.taking t (taking_by c q (s.taking t))
 
-  nowhere : s.blocked_on t ≡ None
-  nowhere = go (s.blocked_on t) refl
-    where
-      go : (o : Option QueueName) → s.blocked_on t ≡ o → o ≡ None
-      go None i = refl
-      go (Some r) i = absurd (unnamed r i)
-
   takes : (q : QueueName) (cause : Cause) (k : ℕ) → wanted_after c q cause back (s.wanted t) ≡ Some k
       → taking_by c q (s.taking t) ≡ Some k
   unfolding WantedIsTaken
-  takes (Lock l) BySignal k e = x.wanted_is_taken t k e
-  takes (Chan d) BySignal k e = e
-  takes (Chan d) ByAbort k e = e
-  takes (Lock l) ByAbort k e = by_back back e
-    where
-      by_back : (b : Bool) → cond b (s.wanted t) None ≡ Some k → s.taking t ≡ Some k
-      by_back true i = x.wanted_is_taken t k i
-      by_back false i = absurd cc
+  takes q cause k e = grind arith
 
   resume_taken : WantedIsTaken wanted taking
   unfolding WantedIsTaken
-  resume_taken u k e = elim (cases_eq t u) [
-    | inl i ↦ ap taking (sym i) ∙ put_same s.taking t _
-        ∙ takes q cause k (sym (put_same s.wanted t _) ∙ ap wanted i ∙ e)
-    | inr i ↦ put_other s.taking t _ u i ∙ x.wanted_is_taken u k (sym (put_other s.wanted t _ u i) ∙ e)
-  ]
-
-  wants_none : (q : QueueName) (cause : Cause) (k : ℕ) → s.wait t ≡ Woken q cause
-      → noted_after q cause back (s.noted t) ≡ Some (SleepHalted (lock_queue k))
-      → wanted_after c q cause back (s.wanted t) ≡ None
-  unfolding HaltedWantNothing
-  wants_none (Lock l) BySignal k w e =
-      absurd (let z : true ≡ false = ap is_woken (sym w) ∙ (x.halted_want_nothing t k e).2 in cc)
-  wants_none (Chan d) BySignal k w e =
-      absurd (let z : true ≡ false = ap is_woken (sym w) ∙ (x.halted_want_nothing t k e).2 in cc)
-  wants_none (Chan d) ByAbort k w e = absurd cc
-  wants_none (Lock l) ByAbort k w e = by_back back e
-    where
-      by_back : (b : Bool) → cond b (s.noted t) (Some (SleepHalted (Lock l))) ≡ Some (SleepHalted (lock_queue k))
-          → cond b (s.wanted t) None ≡ None
-      by_back true i = absurd (let z : true ≡ false = ap is_woken (sym w) ∙ (x.halted_want_nothing t k i).2 in cc)
-      by_back false i = refl
+  resume_taken u k e = grind (arith, columns)
 
   resume_halted : HaltedWantNothing (put s.noted t (noted_after q cause back (s.noted t))) wanted s.blocked_on
       (put s.wait t Running)
   unfolding HaltedWantNothing
-  resume_halted u k e = elim (cases_eq t u) [
-    | inl i ↦ (
-      ap wanted (sym i) ∙ put_same s.wanted t _
-          ∙ wants_none q cause k g.woken
-          (sym (put_same s.noted t _) ∙ ap (put s.noted t (noted_after q cause back (s.noted t))) i ∙ e),
-      ap s.blocked_on (sym i) ∙ nowhere,
-      ap (λ v. is_woken (put s.wait t Running v)) (sym i) ∙ ap is_woken (put_same s.wait t Running),
-    )
-    | inr i ↦
-        let z = x.halted_want_nothing u k (sym (put_other s.noted t _ u i) ∙ e) in
-        (put_other s.wanted t _ u i ∙ z.0, z.1, ap is_woken (put_other s.wait t Running u i) ∙ z.2)
-  ]
+  resume_halted u k e = grind (arith, columns)
 
 -- 7. Each step
 

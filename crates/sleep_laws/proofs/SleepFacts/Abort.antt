@@ -45,9 +45,7 @@ no_aborts_of_lock v l (w ∷ ws) (x ∷ xs) h = omega (arith, no_aborts_of_lock 
 aborts-dealt : (v d : ℕ) (w : Waiter) (xs : List ℕ) (h : Option ℕ)
     → 1 ≤ times_marked w.thread (chan_queue d) (dealt (chan_queue d) (w ∷ []) xs h)
     → aborts v (by_abort (dealt (chan_queue d) (w ∷ []) xs h)) ≡ times_waiting v (w ∷ [])
-aborts-dealt v d w [] None i = absurd (omega (arith, i))
-aborts-dealt v d w [] (Some h) i = refl
-aborts-dealt v d w (x ∷ xs) h i = refl
+aborts-dealt v d w xs h i = grind arith
 
 -- 2. An abort
 
@@ -123,12 +121,10 @@ module _ {at_work : ℕ → Option ℕ} {c : Config} {s : State} (l : Lawful c s
 -- 4. Of a channel's sleeper, who stands on its exclusive side
 
 none_without : (u : ℕ) (vs : List Waiter) → vs ≡ [] → without u vs ≡ []
-none_without u [] e = refl
-none_without u (v ∷ vs) e = absurd cc
+none_without u vs e = grind arith
 
 no_sharer : (u : ℕ) (ws : List Waiter) → ws ≡ [] → 1 ≤ times_waiting u ws → ⊥
-no_sharer u [] e i = omega (arith, i)
-no_sharer u (w ∷ ws) e i = cc
+no_sharer u ws e i = grind arith
 
 module _ {at_work : ℕ → Option ℕ} {c : Config} {s : State} (l : Lawful c s) (h : SleepersFit at_work c s)
     (t d u : ℕ) (g : MayAbort c s t (chan_queue d) X u) where

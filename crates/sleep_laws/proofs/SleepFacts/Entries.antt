@@ -1,12 +1,9 @@
 -- What an entry changes of who sleeps behind a history, who was named, and whose sleep is longer.
-use Rattle.std.proofs.Common.{◌≡◌, ℕ, ◌≤◌, true, false, not, ◌&&◌, List, [], ◌∷◌, length, refl, sym, arith, ◌∙◌}
-use Rattle.std.proofs.lemmas.Bool.{eqb-true}
+use Rattle.std.proofs.Common.{◌≡◌, ℕ, ◌≤◌, true, false, not, ◌&&◌, List, [], ◌∷◌, length, refl, arith, ◌∙◌}
 use Rattle.lock_model.specs.History.{entries_of}
-use Rattle.lock_model.specs.Law.{is_asleep, is_named, entries_up_to, sleeps_on}
-use Rattle.lock_model.specs.declared.event.Event.{Event}
-use Rattle.lock_model.specs.declared.event.Event.TheVariants.{Sleeps}
+use Rattle.lock_model.specs.Law.{is_asleep, is_named, entries_up_to}
 use Rattle.lock_model.specs.declared.event.Entry.{Entry}
-use Rattle.lock_state.specs.Steps.LockWords.{is_sleep, is_taking_back}
+use Rattle.lock_state.specs.Steps.LockWords.{is_taking_back}
 use Rattle.lock_state.specs.Steps.SleepQueues.{has_slept}
 
 -- a thread sleeps where its newest entry is the Sleeps entry and no waking names it since
@@ -29,20 +26,10 @@ slept_asleep es d t a n = asleep_is es d t ∙ rw (a, n) refl
 
 -- a thread sleeps on one channel
 pub one_channel : (a b : ℕ) (es : List Entry) → has_slept a es ≡ true → has_slept b es ≡ true → a ≡ b
-one_channel a b [] x y = absurd cc
-one_channel a b (e ∷ es) x y = by_event e.event x y
-  where
-    by_event : (v : Event) → sleeps_on v a ≡ true → sleeps_on v b ≡ true → a ≡ b
-    by_event (Sleeps k) x y = sym (eqb-true k.0 a x) ∙ eqb-true k.0 b y
-    by_event other x y = absurd cc
+one_channel a b es x y = grind arith
 
 pub slept_back : (d : ℕ) (es : List Entry) → has_slept d es ≡ true → is_taking_back es ≡ true
-slept_back d [] x = absurd cc
-slept_back d (e ∷ es) x = by_event e.event x
-  where
-    by_event : (v : Event) → sleeps_on v d ≡ true → is_sleep v ≡ true
-    by_event (Sleeps k) x = refl
-    by_event other x = absurd cc
+slept_back d es x = grind arith
 
 pub up_to_most : (es : List Entry) (t : ℕ) → entries_up_to es t ≤ length es
 unfolding entries_up_to

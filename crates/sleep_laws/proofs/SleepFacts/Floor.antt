@@ -1,12 +1,11 @@
 -- On a running floor who has a channel's chain out is at work on it: each step of a thread of the floor asks of
 -- sleepers what it must, and only where a chain is taken or given back another is at work.
 use Rattle.std.proofs.Common.{◌≡◌, ◌⊎◌, ℕ, ◌%◌, ◌≤◌, Bool, true, false, Some, None, refl, sym, ap, inl, inr, arith, ◌∙◌, subst}
-use Rattle.std.proofs.lemmas.Bool.{eqb-true}
 use Rattle.lock_model.specs.Config.{Config}
 use Rattle.lock_model.specs.Counts.{one, some}
-use Rattle.lock_model.specs.Law.{sleeps_on, is_halted_chan}
+use Rattle.lock_model.specs.Law.{is_halted_chan}
 use Rattle.lock_model.specs.declared.event.Event.{Event}
-use Rattle.lock_model.specs.declared.event.Event.TheVariants.{Sleeps, Woke, HaltedChan}
+use Rattle.lock_model.specs.declared.event.Event.TheVariants.{Woke, HaltedChan}
 use Rattle.lock_state.specs.State.{State}
 use Rattle.lock_state.specs.Facts.{Lawful}
 use Rattle.lock_state.specs.Facts.Sleeps.{is_chan_halt, aborted}
@@ -17,7 +16,7 @@ use Rattle.lock_state.specs.Steps.Lending.{after_claim, after_lend, after_shift,
 use Rattle.lock_state.specs.Steps.Items.{Item, SleepChain, IsDoneWith, MayTake, MayGive, item_with, after_take, after_give}
 use Rattle.lock_state.specs.Steps.Orders.{after_admit, after_refuse}
 use Rattle.lock_state.specs.Steps.Counting.{after_count_out, after_count_in, after_count_self_in, after_count_end, after_halt}
-use Rattle.lock_state.specs.Steps.{Step, TakesItem, GivesItem, Stamps, Unreadies, Enters, EntersSleepQueue, Adds, Wakes, May, HasOut, HasOutForEntry, HasSeen, AsksOfThread, ends_sleep, after, IsFloorStep, AsksOfSleepers}
+use Rattle.lock_state.specs.Steps.{Step, TakesItem, GivesItem, Stamps, May, HasOut, HasSeen, AsksOfThread, ends_sleep, after, IsFloorStep, AsksOfSleepers}
 use Rattle.sleep_laws.specs.Sleepers.{SleepersFit, NamedAreWoken, AbortedSleep, AsleepAreOnTheirWay, by_chain, off}
 use Rattle.lock_laws.proofs.Items.{beside}
 use Rattle.sleep_laws.proofs.SleepFacts.Moves.{moves}
@@ -30,20 +29,9 @@ one_most false = omega arith
 module _ (chains : ℕ) (c : Config) (s : State) where
   -- 1. What a step asks
 
-  sleeps_in_chain : (t : ℕ) (e : Event) → HasOutForEntry chains s t e
-      → (d : ℕ) → sleeps_on e d ≡ true → by_chain chains s d ≡ Some t
-  sleeps_in_chain t (Sleeps k) o d x = ap (by_chain chains s) (sym (eqb-true k.0 d x)) ∙ o
-  sleeps_in_chain t other o d x = absurd cc
-
   asks : (step : Step) → HasOut chains c s step → HasSeen chains c s step → AsksOfThread s step
       → AsksOfSleepers (by_chain chains s) s step
-  asks (Stamps t e) o x a = sleeps_in_chain t e o
-  asks (Unreadies t q) o x a = a.owes.added
-  asks (Enters t l mode y) o x a = a.owes.added
-  asks (EntersSleepQueue t l mode y) o x a = a.owes.added
-  asks (Adds t d y) o x a = record { works = o.0; stamped = x.stamped; unnoted = x.unnoted }
-  asks (Wakes t d all) o x a = o
-  asks other o x a = tt
+  asks step o x a = grind arith
 
   -- the next entry of a thread that sleeps in its log ends that sleep, and of one that was aborted it tells of the halt
   module _ (h : SleepersFit (by_chain chains s) c s) (t : ℕ) (k : 1 ≤ is_chan_halt (s.noted t)) where

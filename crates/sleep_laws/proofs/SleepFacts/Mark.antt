@@ -1,9 +1,9 @@
 -- A mark keeps the facts of sleepers: who was taken off a channel and is woken was named by its waking.
-use Rattle.std.proofs.Common.{◌≡◌, ℕ, ◌+◌, ◌≤◌, true, false, List, ◌∷◌, Option, Some, None, refl, ap, arith, eq-eqb, subst}
+use Rattle.std.proofs.Common.{◌≡◌, ℕ, ◌+◌, ◌≤◌, true, false, List, ◌∷◌, Option, Some, None, ap, arith, subst}
 use Rattle.std.proofs.lemmas.Bool.Decides.{nat_tests}
 use Rattle.lock_model.specs.Config.{Config}
 use Rattle.lock_model.specs.Law.{is_asleep}
-use Rattle.lock_model.specs.Queues.{Cause, BySignal, ByAbort, Mark, chan_queue}
+use Rattle.lock_model.specs.Queues.{BySignal, Mark, chan_queue}
 use Rattle.lock_model.specs.declared.plan.QueueName.{QueueName}
 use Rattle.lock_state.specs.State.{State, Wait, Woken, put}
 use Rattle.lock_state.specs.Steps.Turnstiles.{MayMark, after_mark}
@@ -109,11 +109,7 @@ module _ {at_work : ℕ → Option ℕ} {c : Config} {s : State} (l : Lawful c s
   there = rw same (λ u d q. grind (arith, columns, h.asleep_stand_there u d q))
 
   in_the_list : (d : ℕ) → m.queue ≡ chan_queue d → 1 ≤ signals m.thread (m ∷ ms) + aborts m.thread (m ∷ ms)
-  in_the_list d q = go m.cause refl
-    where
-      go : (cause : Cause) → m.cause ≡ cause → 1 ≤ signals m.thread (m ∷ ms) + aborts m.thread (m ∷ ms)
-      go BySignal i = rw (q, i, eq-eqb m.thread m.thread refl) (omega arith)
-      go ByAbort i = rw (q, i, eq-eqb m.thread m.thread refl) (omega arith)
+  in_the_list d q = grind arith
 
   -- the marked thread doesn't sleep in the history any more, where it wasn't aborted
   awake : (d : ℕ) → is_asleep s.history d m.thread ≡ true → off c s m.thread ≡ 0 → ⊥

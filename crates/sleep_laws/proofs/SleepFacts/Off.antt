@@ -1,12 +1,11 @@
 -- How often threads were aborted off channels: what changes it, and whom it speaks of.
-use Rattle.std.proofs.Common.{◌≡◌, ℕ, ◌+◌, ◌<◌, ◌≤◌, Bool, true, false, eqb, not, ◌&&◌, List, [], ◌∷◌, Option, Some, None, refl, ap, arith}
+use Rattle.std.proofs.Common.{◌≡◌, ℕ, ◌+◌, ◌<◌, ◌≤◌, Bool, false, eqb, not, ◌&&◌, List, [], ◌∷◌, Option, Some, None, refl, ap, arith}
 use Rattle.std.proofs.lemmas.Bool.Decides.{nat_tests}
 use Rattle.lock_model.specs.Config.{Config}
 use Rattle.lock_model.specs.Counts.{one, sum_below}
 use Rattle.lock_model.specs.Queues.{Waiter, Mark, is_queue, chan_queue, dealt}
 use Rattle.lock_model.specs.declared.plan.QueueName.{QueueName}
-use Rattle.lock_model.specs.declared.plan.QueueName.TheVariants.{Lock, Chan}
-use Rattle.lock_state.specs.State.{State, Wait, Running, Queued, Woken, Note, OrderRefused, SleepHalted, put}
+use Rattle.lock_state.specs.State.{State, Wait, Note, put}
 use Rattle.lock_state.specs.Steps.LockWords.{is_woken}
 use Rattle.lock_state.specs.Facts.{Lawful, StandingIsQueued}
 use Rattle.lock_state.specs.Facts.Waits.{is_signal, times_marked}
@@ -35,9 +34,7 @@ marks_split u d (m ∷ ms) = go m.queue (is_signal m.cause) (marks_split u d ms)
         → one (is_queue (chan_queue d) q && eqb u m.thread) + times_marked u (chan_queue d) ms
         ≤ (one (is_chan q && (b && eqb u m.thread)) + signals u ms) +
         (one (is_chan q && (not b && eqb u m.thread)) + aborts u ms)
-    go (Lock l) b i = omega arith
-    go (Chan k) true i = grind (arith, nat_tests)
-    go (Chan k) false i = grind (arith, nat_tests)
+    go q b i = grind arith
 
 -- where each mark of a thread is from one queue, its signals and aborts are at most its marks from there
 wakes_at : (u : ℕ) (q : QueueName) (ms : List Mark) → ((r : QueueName) → 1 ≤ times_marked u r ms → r ≡ q)
@@ -64,19 +61,13 @@ module _ (c : Config) (s : State) (u : ℕ) (l : Lawful c s) where
 -- 2. Wait words and notes
 
 pub unwoken_unaborted : (w : Wait) → is_woken w ≡ false → is_aborted w ≡ 0
-unwoken_unaborted Running e = refl
-unwoken_unaborted Queued e = refl
-unwoken_unaborted (Woken q cause) e = absurd cc
+unwoken_unaborted w e = grind arith
 
 pub unnoted_unhalted : (o : Option Note) → o ≡ None → is_chan_halt o ≡ 0
-unnoted_unhalted None e = refl
-unnoted_unhalted (Some n) e = absurd cc
+unnoted_unhalted o e = grind arith
 
 pub halt_at_most : (o : Option Note) → is_chan_halt o ≤ 1
-halt_at_most None = omega arith
-halt_at_most (Some (OrderRefused l k)) = omega arith
-halt_at_most (Some (SleepHalted (Lock l))) = omega arith
-halt_at_most (Some (SleepHalted (Chan d))) = omega arith
+halt_at_most o = grind arith
 
 -- 3. Changes
 

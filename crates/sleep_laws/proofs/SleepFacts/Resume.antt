@@ -37,10 +37,7 @@ module _ {at_work : ℕ → Option ℕ} {c : Config} {s : State} (l : Lawful c s
       by_queue : (q : QueueName) (cause : Cause) → s.wait t ≡ Woken q cause
           → some (woken_from_by q cause (s.woken_from t))
           ≡ is_signalled (Woken q cause) + some (s.woken_from t)
-      by_queue (Lock k) BySignal e = omega arith
-      by_queue (Lock k) ByAbort e = omega arith
-      by_queue (Chan d) ByAbort e = omega arith
-      by_queue (Chan d) BySignal e = grind (arith, h.named_are_woken t, ap is_signalled e)
+      by_queue q cause e = grind arith
 
   unhalted : NoSleepIsHalted s.halted noted
   unfolding NoSleepIsHalted WokenBySignal

@@ -4,17 +4,17 @@ use Rattle.std.proofs.Common.{◌≡◌, ◌≢◌, ℕ, ◌+◌, ◌≤◌, Boo
 use Rattle.std.proofs.lemmas.Bool.{cases_eq, ne_eqb}
 use Rattle.std.proofs.lemmas.Bool.Decides.{nat_tests}
 use Rattle.lock_model.specs.Config.{Config}
-use Rattle.lock_model.specs.Counts.{one, times, has_bit, sum_below}
+use Rattle.lock_model.specs.Counts.{one, times, has_bit}
 use Rattle.lock_model.specs.Law.{is_asleep, is_named, is_passed_over, entries_up_to, goes_before, wakes, sleeps_on, is_halted_chan, WakingsNameSleepers}
 use Rattle.lock_model.specs.Queues.{Waiter, chan_queue, times_waiting}
 use Rattle.lock_model.specs.declared.event.Event.{Event}
-use Rattle.lock_model.specs.declared.event.Event.TheVariants.{Base, Sleeps, WokeOne, WokeAll}
+use Rattle.lock_model.specs.declared.event.Event.TheVariants.{Base, WokeOne, WokeAll}
 use Rattle.lock_model.specs.declared.event.Entry.{Entry}
 use Rattle.lock_state.specs.State.{State, Queued, Wake, put}
 use Rattle.lock_state.specs.Steps.LockWords.{MayStamp, is_taking_back, bits_of_threads, entry_of, base_after, unstamped_after, after_stamp}
 use Rattle.lock_state.specs.Steps.SleepQueues.{has_slept}
 use Rattle.lock_state.specs.Facts.{Lawful}
-use Rattle.lock_state.specs.Facts.Sleeps.{signals, signals_noted, LeavesNobodyBefore, aborts, is_aborted, is_chan_halt, aborted}
+use Rattle.lock_state.specs.Facts.Sleeps.{signals, signals_noted, LeavesNobodyBefore, is_chan_halt, aborted}
 use Rattle.sleep_laws.specs.Sleepers.{SleepersFit, NamedAreWoken, AbortedSleep, NoSleepIsHalted, SleepersSlept, WokenSlept, ResumedSlept, SleepersAreUnwoken, SleepersAreUnhalted, AsleepStandThere, AsleepAreOnTheirWay, SleepersInOrder, LatecomersAreLater, SleepersKeepBase, UnnotedAreMarked, UnnotedIsAtWork, UnnotedIsFair, PassedOverAreAborted, off}
 use Rattle.lock_laws.proofs.Kit.{columns, at_put, put_other, sum_below-zero}
 use Rattle.lock_laws.proofs.Lending.{each-map}
@@ -28,9 +28,7 @@ use Rattle.sleep_laws.proofs.SleepFacts.Off.{off_acting, off_signalled}
 
 -- a wake that is not noted behind an entry was not noted before
 still_unnoted : (e : Event) (o : Option Wake) (w : Wake) → unstamped_after e o ≡ Some w → o ≡ Some w
-still_unnoted (WokeOne d k) o w x = absurd cc
-still_unnoted (WokeAll d k) o w x = absurd cc
-still_unnoted other o w x = x
+still_unnoted e o w x = grind arith
 
 -- an entry leaves another thread's base priority
 others_base : (e : Event) (t : ℕ) (base : ℕ → ℕ) (u : ℕ) → t ≢ u → base_after e t base u ≡ base u
@@ -129,8 +127,7 @@ module _ {at_work : ℕ → Option ℕ} {c : Config} {s : State} (l : Lawful c s
 
   others_off : (u : ℕ) → t ≢ u → behind u ≡ off c s u
   unfolding aborted
-  others_off u ne = ap (λ x. sum_below c.threads (λ v. aborts u (s.marked v)) + is_aborted (s.wait u) + is_chan_halt x)
-      (put_other s.noted t None u ne)
+  others_off u ne = grind (arith, columns)
 
   own_off : off c s t ≡ is_chan_halt (s.noted t)
   own_off = off_acting c s t l g.acting.unnamed g.acting.unwoken
@@ -138,9 +135,6 @@ module _ {at_work : ℕ → Option ℕ} {c : Config} {s : State} (l : Lawful c s
   now_unaborted : behind t ≡ 0
   unfolding aborted
   now_unaborted = let a = own_off in grind (arith, columns)
-
-  none_off : (u : ℕ) → t ≡ u → behind u ≡ 0
-  none_off u x = subst (λ v. behind v ≡ 0) x now_unaborted
 
   -- whom a waking names was not aborted
   named_unaborted : (e : Event) → MayStamp c s t e → (u : ℕ) → wakes e u ≡ true → off c s u ≡ 0
@@ -220,8 +214,7 @@ module _ {at_work : ℕ → Option ℕ} {c : Config} {s : State} (l : Lawful c s
 
   goes : (e : Event) → MayStamp c s t e → (d : ℕ) → sleeps_on e d ≡ true
       → (s.wait t ≡ Queued) × (s.wanted t ≡ None)
-  goes (Sleeps k) g d x = (g.asks.queued, g.asks.wants)
-  goes other g d x = absurd cc
+  goes e g d x = grind arith
 
   way : ((d : ℕ) → sleeps_on e d ≡ true → at_work d ≡ Some t)
       → AsleepAreOnTheirWay history s.blocked_on behind s.wait s.wanted at_work

@@ -1,6 +1,6 @@
 -- Each step that asks of sleepers what it must keeps the facts of sleepers, and so does each list of such steps in
 -- which none sets the halt word.
-use Rattle.std.proofs.Common.{◌≡◌, ℕ, ◌≤◌, true, false, List, [], ◌∷◌, Option, Some, None, refl, arith, ◌∙◌}
+use Rattle.std.proofs.Common.{◌≡◌, ℕ, ◌≤◌, true, false, List, [], ◌∷◌, Option, refl, arith, ◌∙◌}
 use Rattle.std.specs.Prelude.{⊤}
 use Rattle.lock_model.specs.Config.{Config}
 use Rattle.lock_state.specs.State.{State, put_queue}
@@ -10,7 +10,7 @@ use Rattle.lock_state.specs.Steps.Lending.{after_lend, after_shift, after_end_wa
 use Rattle.lock_state.specs.Steps.Items.{after_take, after_give}
 use Rattle.lock_state.specs.Steps.{Step, Seeks, Looks, TakesItem, GivesItem, Gains, Drops, Stamps, Readies, Unreadies, Enters, Opens, EntersSleepQueue, OpensSleepQueue, Adds, Wakes, Marks, Resumes, Claims, Lends, Shifts, EndsWalk, Admits, Refuses, CountsOut, CountsIn, CountsSelfIn, CountsEnd, Halts, Aborts, May, MayAll, after, after_all, AsksOfSleepers}
 use Rattle.lock_model.specs.Law.{is_halted_chan}
-use Rattle.lock_state.specs.State.{Note, OrderRefused, SleepHalted}
+use Rattle.lock_state.specs.State.{Note}
 use Rattle.lock_state.specs.Steps.LockWords.{after_gain, after_stamp, after_ready, after_unready}
 use Rattle.lock_state.specs.Steps.Turnstiles.{after_enter, after_open, after_mark, after_resume}
 use Rattle.lock_state.specs.Steps.SleepQueues.{after_enter_sleep, after_open_sleep, after_add, after_wake, after_abort}
@@ -79,8 +79,7 @@ unfolding after_seek after_look after_gain after_drop after_stamp after_ready af
     after_mark after_resume after_enter_sleep after_open_sleep after_add after_wake after_claim after_lend after_shift
     after_end_walk after_admit after_refuse after_take after_give after_count_out after_count_in after_count_self_in
     after_count_end after_halt after_abort
-halted_stays c s (Halts t) n = absurd (n t refl)
-halted_stays c s other n = refl
+halted_stays c s step n = grind arith
 
 -- where it isn't set no halt is to be noted
 no_halt : (at_work : ℕ → Option ℕ) (c : Config) (s : State) (step : Step) → s.halted ≡ false → SleepersFit at_work c s
@@ -89,9 +88,7 @@ unfolding NoSleepIsHalted
 no_halt at_work c s (Stamps t e) x h = go (s.noted t) refl
   where
     go : (o : Option Note) → s.noted t ≡ o → 1 ≤ is_chan_halt o → is_halted_chan e ≡ true
-    go None i k = absurd (omega (arith, k))
-    go (Some (OrderRefused l j)) i k = absurd (omega (arith, k))
-    go (Some (SleepHalted q)) i k = absurd (h.no_sleep_is_halted x t q i)
+    go o i k = grind arith
 no_halt at_work c s other x h = tt
 
 pub all_keep : (at_work : ℕ → Option ℕ) (c : Config) (s : State) (steps : List Step)

@@ -1,5 +1,5 @@
 -- Each entry of a waking, and of a woken thread, fits the sleepers behind the history, and nobody is passed over.
-use Rattle.std.proofs.Common.{◌≡◌, ◌≢◌, ℕ, zero, suc, ◌+◌, ◌<◌, ◌≤◌, Bool, true, false, eqb, ◌&&◌, List, [], ◌∷◌, Option, Some, None, refl, sym, ap, inl, inr, arith, ◌∙◌, subst}
+use Rattle.std.proofs.Common.{◌≡◌, ◌≢◌, ℕ, zero, suc, ◌+◌, ◌<◌, ◌≤◌, Bool, true, false, eqb, ◌&&◌, List, [], ◌∷◌, Option, Some, refl, sym, ap, inl, inr, arith, ◌∙◌, subst}
 use Rattle.std.proofs.lemmas.Bool.{ne_eqb}
 use Rattle.std.proofs.lemmas.Bool.Decides.{nat_tests}
 use Rattle.lock_model.specs.Config.{Config}
@@ -31,8 +31,7 @@ only u x k = grind (arith, nat_tests)
 -- the wake that a waking notes
 pub the_wake : (o : Option Wake) (d woken : ℕ) (all : Bool) → IsTheWake o d all woken
     → (w : Wake) × (o ≡ Some w) × (w.chan ≡ d) × (w.all ≡ all) × (woken ≡ bits_of_threads w.taken)
-the_wake None d woken all a = absurd a
-the_wake (Some w) d woken all a = (w, refl, a.0, a.1, a.2)
+the_wake o d woken all a = grind arith
 
 module _ {at_work : ℕ → Option ℕ} {c : Config} {s : State} (l : Lawful c s)
     (h : SleepersFit at_work c s) (t : ℕ) (lt : t < c.threads) where
@@ -62,8 +61,7 @@ module _ {at_work : ℕ → Option ℕ} {c : Config} {s : State} (l : Lawful c s
       where
         go : (us : List ℕ) → LeavesNobodyBefore c s.history false us left → 1 ≤ times u us
             → 1 ≤ times v us → u ≡ v
-        go [] p i j = absurd (omega arith)
-        go (x ∷ us) p i j = only u x (rw p.0 at i) ∙ sym (only v x (rw p.0 at j))
+        go us p i j = grind arith
 
     -- 2. It passes over nobody
 
