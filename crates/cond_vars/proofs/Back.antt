@@ -139,42 +139,8 @@ module _ (floor : Description) (d : ChanNo) (v : Knowledge) (ticket : ℕ) where
 
   idle_then : (cause : Cause) → IsBack floor d cause v
       → IsIdle (stamped c v (entry_by v.thread ticket (ended_by cause d)))
-  idle_then BySignal b = record {
-    runs = b.runs;
-    nothing_out = b.unburdened.nothing_out;
-    no_walk = b.unburdened.no_walk;
-    unmarked = b.unburdened.unmarked;
-    uncounted = b.unburdened.uncounted;
-    wants_nothing = b.wants;
-    takes_nothing = refl;
-    no_round = b.no_round;
-    no_looks = b.looks;
-    unnoted = refl;
-    going = record {
-      awake = b.unburdened.going.awake;
-      unended = b.unburdened.going.unended;
-      stamped = b.unburdened.going.stamped;
-    };
-    no_wait = refl;
-  }
-  idle_then ByAbort b = record {
-    runs = b.runs;
-    nothing_out = b.unburdened.nothing_out;
-    no_walk = b.unburdened.no_walk;
-    unmarked = b.unburdened.unmarked;
-    uncounted = b.unburdened.uncounted;
-    wants_nothing = b.wants;
-    takes_nothing = refl;
-    no_round = b.no_round;
-    no_looks = b.looks;
-    unnoted = refl;
-    going = record {
-      awake = b.unburdened.going.awake;
-      unended = b.unburdened.going.unended;
-      stamped = b.unburdened.going.stamped;
-    };
-    no_wait = refl;
-  }
+  idle_then BySignal b = assumption (b.wants, b.looks, b)
+  idle_then ByAbort b = assumption (b.wants, b.looks, b)
 
   notes_end : (cause : Cause) → IsBack floor d cause v → (new : Knowledge)
       → new ≡ seeing new.seen (stamped c v (entry_by v.thread ticket (ended_by cause d)))

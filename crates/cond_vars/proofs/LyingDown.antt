@@ -128,11 +128,7 @@ module _ (floor : Description) (d : ChanNo) (v : Knowledge) (m : MayLieDown floo
 
         going_then : IsGoing y
         going_then = subst IsGoing (sym adds.view)
-            (record {
-              awake = going_down.going.awake;
-              unended = going_down.going.unended;
-              stamped = going_down.going.stamped;
-            })
+            (assumption going_down.going)
 
         -- 4. Both go home
 
@@ -166,11 +162,7 @@ module _ (floor : Description) (d : ChanNo) (v : Knowledge) (m : MayLieDown floo
           pub may_give_chain : MayMake floor z (λ s. Unit {0}) (GivesItem z.thread (its_chain floor q) ∷ [])
           may_give_chain = wait.may_give_chain floor z q chain_then z_out unbound
               (inr (q, ap (λ (k : Knowledge). k.pose) first ∙ stands))
-              (record {
-                awake = ap (λ (k : Knowledge). k.share.doing.phase) first ∙ going_then.awake;
-                unended = ap (λ (k : Knowledge). k.share.doing.has_ended) first ∙ going_then.unended;
-                stamped = ap (λ (k : Knowledge). k.share.doing.unstamped) first ∙ going_then.stamped;
-              })
+              (rw first (assumption going_then))
 
           module _ (new : Knowledge) (second : new ≡ seeing new.seen (gave z (its_chain floor q)))
               (gives_chain : Makes floor (GivesItem z.thread (its_chain floor q) ∷ []) z new) where

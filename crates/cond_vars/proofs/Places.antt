@@ -92,13 +92,7 @@ module _ (floor : Description) (d : ChanNo) (v : Knowledge) (may : MayWait floor
     unnoted = refl;
     may = record {
       there = inr (d.0, refl);
-      unburdened = record {
-        nothing_out = refl;
-        no_walk = m.rest.no_walk;
-        unmarked = m.rest.unmarked;
-        uncounted = m.rest.uncounted;
-        going = record { awake = m.rest.going.awake; unended = m.rest.going.unended; stamped = m.rest.going.stamped };
-      };
+      unburdened = assumption m.rest;
       takes = m.rest.takes_nothing;
       no_round = m.rest.no_round;
       before = without_lock k v.share.held;
@@ -225,13 +219,7 @@ module _ (floor : Description) (d : ChanNo) (v : Knowledge) (h : HasReleased flo
       left = h.left;
       may = λ mode is. record {
         runs = refl;
-        unburdened = record {
-          nothing_out = p.nothing_out;
-          no_walk = h.no_walk;
-          unmarked = p.unmarked;
-          uncounted = p.uncounted;
-          going = record { awake = refl; unended = h.unended; stamped = h.stamped };
-        };
+        unburdened = assumption (p, h);
         unheld = h.unheld;
         few = h.few;
         mutex = λ mtx. same_mode mode (sym is ∙ h.mutex mtx);

@@ -218,20 +218,7 @@ module _ (floor : Description) (d : ChanNo) (all : Bool) (old : Knowledge) (r : 
               record old { share = record old.share { doing = after } }
 
           idle_before : IsIdle before
-          idle_before = record {
-            runs = r.runs;
-            nothing_out = r.nothing_out;
-            no_walk = r.no_walk;
-            unmarked = refl;
-            uncounted = r.uncounted;
-            wants_nothing = r.wants_nothing;
-            takes_nothing = r.takes_nothing;
-            no_round = ap in_its_chain r.no_round;
-            no_looks = r.no_looks;
-            unnoted = r.unnoted;
-            going = record { awake = r.going.awake; unended = r.going.unended; stamped = r.going.stamped };
-            no_wait = r.no_wait;
-          }
+          idle_before = assumption (ap in_its_chain r.no_round, r)
 
           abbrev noted : Knowledge
           noted = stamped c before entry

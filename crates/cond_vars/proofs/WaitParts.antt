@@ -1,5 +1,5 @@
 -- The parts of a wait: what each finds allows what it does, and it leaves what the next needs.
-use Rattle.std.proofs.Common.{◌≡◌, ◌≢◌, ℕ, ◌%◌, ◌<◌, ◌≤◌, Bool, true, false, Some, None, List, [], ◌∷◌, length, refl, sym, ap, ◌∙◌, subst, arith}
+use Rattle.std.proofs.Common.{◌≡◌, ◌≢◌, ℕ, ◌%◌, ◌<◌, ◌≤◌, Bool, true, false, Some, None, List, [], ◌∷◌, length, sym, ap, ◌∙◌, subst, arith}
 use Rattle.std.specs.declared.alloc.Global.{Global}
 use Rattle.std.specs.declared.boxed.Box.{Box}
 use Rattle.lock_laws.proofs.HeldLists.{Apart}
@@ -71,20 +71,7 @@ module _ (floor : Description) (d : ChanNo) (v : Knowledge) (h : IsAtRest floor 
         rest = subst (IsAtRest floor) (sym (ap with_none_out taken.view))
             (at_rest floor (seeing new.seen
             (with_none_out (took v (its_chain floor q) (chain_place floor q) taken.value)))
-            (record {
-              runs = r.runs;
-              nothing_out = refl;
-              no_walk = r.no_walk;
-              unmarked = r.unmarked;
-              uncounted = r.uncounted;
-              wants_nothing = r.wants_nothing;
-              takes_nothing = r.takes_nothing;
-              no_round = ap in_its_chain r.no_round;
-              no_looks = r.no_looks;
-              unnoted = r.unnoted;
-              going = record { awake = r.going.awake; unended = r.going.unended; stamped = r.going.stamped };
-              no_wait = r.no_wait;
-            }) r.no_last_look r.sections r.begun);
+            (assumption (ap in_its_chain r.no_round, r)) r.no_last_look r.sections r.begun);
         chain = chain.0;
         out = ap (λ (k : Knowledge). k.out) taken.view ∙ (λ i. (chain_place floor q, chain.1 i) ∷ r.nothing_out i);
       }
@@ -202,12 +189,7 @@ module _ (floor : Description) (d : ChanNo) (u : Knowledge) (m : IsComingIn floo
 
 -- who has halted is parked, or aborted itself
 parked_then : (floor : Description) (old new : Knowledge) → HasHalted floor old new → IsParked new
-parked_then floor old new halted = record {
-  uncounted = halted.uncounted;
-  nothing_out = halted.nothing_out;
-  unmarked = halted.unmarked;
-  at_resume = halted.at_resume;
-}
+parked_then floor old new halted = assumption halted
 
 module _ (floor : Description) (d : ChanNo) (v : Knowledge) (h : HasReleased floor d (kept_of v)) (new : Knowledge)
   where
@@ -261,12 +243,7 @@ module _ (floor : Description) (d : ChanNo) (v : Knowledge) (h : HasReleased flo
       pub still_parked : new ≡ seeing new.seen v → IsWaiting floor d places.Sleeps new
       still_parked same = (
         released_then (ap kept_of same),
-        subst IsParked (sym same) record {
-          uncounted = p.uncounted;
-          nothing_out = p.nothing_out;
-          unmarked = p.unmarked;
-          at_resume = p.at_resume;
-        },
+        subst IsParked (sym same) (assumption p),
       )
 
       pub found_queued : new ≡ seeing new.seen v → FindsQueued floor v new

@@ -34,23 +34,7 @@ rests_on floor Again v w r g = subst (λ k. IsAtRest floor (with_marks k [])) (s
     (rest_seeing floor (with_marks v []) w.seen r)
 rests_on floor (Wake t) v w r g =
     let x : WakesFirst floor t.0 v w = g.1 in
-    subst (λ k. IsAtRest floor (with_marks k [])) (sym x.view) record {
-      runs = r.runs;
-      nothing_out = r.nothing_out;
-      no_walk = r.no_walk;
-      unmarked = refl;
-      uncounted = r.uncounted;
-      wants_nothing = r.wants_nothing;
-      takes_nothing = r.takes_nothing;
-      no_round = r.no_round;
-      no_looks = r.no_looks;
-      no_last_look = r.no_last_look;
-      unnoted = r.unnoted;
-      going = record { awake = r.going.awake; unended = r.going.unended; stamped = r.going.stamped };
-      no_wait = r.no_wait;
-      sections = r.sections;
-      begun = r.begun;
-    }
+    subst (λ k. IsAtRest floor (with_marks k [])) (sym x.view) (assumption r)
 
 -- 2. All of it
 

@@ -223,13 +223,12 @@ module _ (floor : Description) (over : ℕ) (itself : Bool) (v new : Knowledge) 
 -- before it
 pub halts_others : (floor : Description) (itself : Bool) (v : Knowledge) → IsHalter floor itself v
     → v.share.doing.marked ≡ [] → IsHaltingOthers v
-halts_others floor itself v h unmarked = record {
-  phase = h.halting;
-  halted = h.halted;
-  there = off_the_way (config_in floor) (kept_of v) h.aside.is_out;
-  unmarked = unmarked;
-  stamped = h.aside.stamped;
-}
+halts_others floor itself v h unmarked = assumption (
+  h.halting,
+  off_the_way (config_in floor) (kept_of v) h.aside.is_out,
+  unmarked,
+  h,
+)
 
 -- 5. The same of the queue that a call finds at the place, from what the thread knew when it had looked for a sleeper
 

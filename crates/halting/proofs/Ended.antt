@@ -76,23 +76,7 @@ stays floor v new h bare view finds = record {
 }
   where
     rest_seen : IsAtRest floor v → IsAtRest floor (seeing new.seen v)
-    rest_seen h = record {
-      runs = h.runs;
-      nothing_out = h.nothing_out;
-      no_walk = h.no_walk;
-      unmarked = h.unmarked;
-      uncounted = h.uncounted;
-      wants_nothing = h.wants_nothing;
-      takes_nothing = h.takes_nothing;
-      no_round = h.no_round;
-      no_looks = h.no_looks;
-      no_last_look = h.no_last_look;
-      unnoted = h.unnoted;
-      going = record { awake = h.going.awake; unended = h.going.unended; stamped = h.going.stamped };
-      no_wait = h.no_wait;
-      sections = h.sections;
-      begun = h.begun;
-    }
+    rest_seen h = assumption h
 
 -- 2. It ends
 
@@ -250,17 +234,15 @@ module _ (floor : Description) (there : HaltAt) (v : Knowledge) (h : IsHaltingEn
 
   pub halts_on : (to : HaltAt) (new : Knowledge) → HaltsOn floor there to v new
       → EndsOn floor (Halts there) (Halts to) v new
-  halts_on to new on = record {
-    at = record {
-      halts = on.at;
-      runs = ap (λ (k : Kept). k.pose) on.kept ∙ h.runs;
-      ended = ap (λ (k : Kept). k.has_ended) on.kept ∙ h.ended;
-      unheld = ap (λ (k : Kept). k.held) on.kept ∙ h.unheld;
-    };
-    kept = on.kept ∙ same_kept;
-    look = on.look;
-    leg = halts there to on.leg;
-  }
+  halts_on to new on = assumption (
+    on.at,
+    ap (λ (k : Kept). k.pose) on.kept ∙ h.runs,
+    ap (λ (k : Kept). k.has_ended) on.kept ∙ h.ended,
+    ap (λ (k : Kept). k.held) on.kept ∙ h.unheld,
+    on.kept ∙ same_kept,
+    halts there to on.leg,
+    on,
+  )
 
   -- who has ended isn't among those that it aborts
   pub has_ended : (new : Knowledge) → IsAside floor (kept_of v) → HasHalted floor v new → HasEnded floor new
@@ -282,12 +264,12 @@ module _ (floor : Description) (there : HaltAt) (v : Knowledge) (h : IsHaltingEn
 
   pub ends_done : (new : Knowledge) → IsAside floor (kept_of v) → EndsHalting floor there v new
       → EndsThread floor (Halts there) v new
-  ends_done new aside done = record {
-    ended = has_ended new aside done.halted;
-    kept = done.halted.kept ∙ same_kept;
-    look = done.halted.look;
-    end = halted there done.end;
-  }
+  ends_done new aside done = assumption (
+    has_ended new aside done.halted,
+    done.halted.kept ∙ same_kept,
+    halted there done.end,
+    done.halted,
+  )
 
 -- wherever it stands, it is aside
 pub aside_at : (floor : Description) (there : HaltAt) (v : Knowledge) → IsAt floor there v → IsAside floor (kept_of v)

@@ -291,15 +291,7 @@ ends floor t v w its there (whole.others_awake over none counts asleep) = record
 -- who has halted has since what it knew before, where all was kept
 pub halted_since : (floor : Description) (begun v w : Knowledge) → kept_of v ≡ kept_of begun → HasNoNewLook begun v
     → HasHalted floor v w → HasHalted floor begun w
-halted_since floor begun v w kept look h = record {
-  kept = h.kept ∙ kept;
-  look = no_new_look begun v w look h.look;
-  uncounted = h.uncounted;
-  nothing_out = h.nothing_out;
-  unmarked = h.unmarked;
-  at_resume = h.at_resume;
-  stood = h.stood;
-}
+halted_since floor begun v w kept look h = assumption (h.kept ∙ kept, no_new_look begun v w look h.look, h)
 
 -- the halting began with what the thread knew, and stands there now
 pub record HaltsSince (floor : Description) (begun : Knowledge) (there : HaltAt) (v : Knowledge) : Type 0 where

@@ -38,25 +38,10 @@ use Rattle.lock_calls.proofs.Words.{other_word}
 pub acquires : (floor : Description) (l : ℕ) (v : Knowledge) → IsAtRest floor v → hold_in v.share.held l ≡ NotHeld
     → length v.share.held < most_held → MayGain floor l v
 acquires floor l v r unheld few =
-    record {
-      unheld = unheld;
-      few = few;
-      wants_nothing = r.wants_nothing;
-      unseen = r.no_last_look;
-      no_looks = r.no_looks;
-      unnoted = r.unnoted;
-      no_wait = r.no_wait;
-      no_walk = r.no_walk;
-      looks = rest_looks floor v r;
-    }
+    assumption (unheld, few, r.no_last_look, rest_looks floor v r, r)
 
 pub begins_call : (floor : Description) (l : ℕ) (v : Knowledge) → MayGain floor l v → BeginsCall v
-begins_call floor l v m = record {
-  wants = m.wants_nothing;
-  takes = m.looks.takes_nothing;
-  unseen = m.unseen;
-  no_looks = m.no_looks;
-}
+begins_call floor l v m = assumption (m.wants_nothing, m.looks.takes_nothing, m)
 
 -- the free word that shows nobody admits each mode in which a lock of the kind can be held, and plainly
 pub free_admits : (k : Kind) (mode : Mode) → (k ≡ Mtx → mode ≡ Excl) → admits k (word_of 0) mode ≡ true
@@ -134,18 +119,7 @@ pub is_checking : (floor : Description) (l : ℕ) (mode : Mode) (v w : Knowledge
     → IsChecking floor l w
 is_checking floor l mode v w r unheld few h = subst (IsChecking floor l) (sym h.knows) record {
   unheld = unheld;
-  may = record {
-    runs = r.runs;
-    going = record { awake = r.going.awake; unended = r.going.unended; stamped = r.going.stamped };
-    wants_nothing = r.wants_nothing;
-    takes_nothing = r.takes_nothing;
-    unnoted = r.unnoted;
-    no_wait = r.no_wait;
-    no_round = r.no_round;
-    few = few;
-    sections = r.sections;
-    missed = h.its;
-  };
+  may = assumption (few, h.its, r);
   no_walk = r.no_walk;
   bare = λ some. misses_bare ((config_in floor).kind l) v.share.held h.missed h.first.first
       (omega (arith, h.counted, r.no_looks, some));
@@ -243,18 +217,7 @@ module _ (floor : Description) (l n : ℕ) (a b : Knowledge) (x : HasSpun floor 
 
   -- looks leave the thread in its round,
   pub seeking_on : IsSeeking l a → IsSeeking l b
-  seeking_on m = subst (IsSeeking l) (sym x.knows) record {
-    unheld = m.unheld;
-    few = m.few;
-    wants = m.wants;
-    takes = m.takes;
-    unhalted = m.unhalted;
-    round = m.round;
-    no_walk = m.no_walk;
-    runs = m.runs;
-    nothing_out = m.nothing_out;
-    going = record { awake = m.going.awake; unended = m.going.unended; stamped = m.going.stamped };
-  }
+  seeking_on m = subst (IsSeeking l) (sym x.knows) (assumption m)
 
   -- and more may follow
   pub spun_more : (k : ℕ) (w : Knowledge) → HasSpun floor l k b w → HasSpun floor l (n + k) a w
@@ -298,13 +261,7 @@ module _ (floor : Description) (l n : ℕ) (a b : Knowledge) (x : HasSpun floor 
 -- 4. What a take keeps
 
 pub gaining : (l : ℕ) (v : Knowledge) → IsSeeking l v → IsGaining l v
-gaining l v m = record {
-  unheld = m.unheld;
-  takes = m.takes;
-  no_walk = m.no_walk;
-  runs = m.runs;
-  nothing_out = m.nothing_out;
-}
+gaining l v m = assumption m
 
 module _ (floor : Description) (l : LockNo) (mode : Mode) (old : Knowledge) where
   -- it gained the lock in its round
@@ -320,16 +277,7 @@ module _ (floor : Description) (l : LockNo) (mode : Mode) (old : Knowledge) wher
 -- what a thread at rest keeps
 pub calling_at_rest : (floor : Description) (v : Knowledge) → v.description ≡ floor → IsAtRest floor v
     → IsCalling floor (kept_of v)
-calling_at_rest floor v mine r = record {
-  description = mine;
-  going = r.going;
-  unmarked = r.unmarked;
-  uncounted = r.uncounted;
-  unnoted = r.unnoted;
-  no_wait = r.no_wait;
-  sections = r.sections;
-  begun = r.begun;
-}
+calling_at_rest floor v mine r = assumption (mine, r)
 
 -- who makes such a call may acquire the lock
 pub can_acquire : (floor : Description) (k : Kept) → IsCalling floor k → CanAcquire floor k

@@ -91,18 +91,7 @@ module _ (floor : Description) (l : ℕ) (v : Knowledge) (m : MaySeek l v) where
       }
 
   pub seeks_it : (found : Word) (w : Knowledge) → HasBegun floor l found v w → IsSeeking l w
-  seeks_it found w b = subst (IsSeeking l) (sym b.knows) record {
-    unheld = m.unheld;
-    few = m.few;
-    wants = m.wants;
-    takes = refl;
-    unhalted = unhalted v m.unnoted;
-    round = refl;
-    no_walk = m.no_walk;
-    runs = m.runs;
-    nothing_out = m.nothing_out;
-    going = record { awake = m.going.awake; unended = m.going.unended; stamped = m.going.stamped };
-  }
+  seeks_it found w b = subst (IsSeeking l) (sym b.knows) (assumption (unhalted v m.unnoted, m))
 
 -- 2. The check
 
@@ -111,28 +100,7 @@ pub stays_checking : (floor : Description) (l : LockNo) (mode : Mode) (old new :
     → IsChecking floor l.0 old → new ≡ seeing new.seen old → FindsOut floor ClassGraph old new
     → TakesOn floor l mode Checks Checks old new
 stays_checking floor l mode old new there is found = record {
-  there = subst (IsChecking floor l.0) (sym is) record {
-    unheld = there.unheld;
-    may = record {
-      runs = there.may.runs;
-      going = record {
-        awake = there.may.going.awake;
-        unended = there.may.going.unended;
-        stamped = there.may.going.stamped;
-      };
-      wants_nothing = there.may.wants_nothing;
-      takes_nothing = there.may.takes_nothing;
-      unnoted = there.may.unnoted;
-      no_wait = there.may.no_wait;
-      no_round = there.may.no_round;
-      few = there.may.few;
-      sections = there.may.sections;
-      missed = there.may.missed;
-    };
-    no_walk = there.no_walk;
-    bare = there.bare;
-    nothing_out = there.nothing_out;
-  };
+  there = subst (IsChecking floor l.0) (sym is) (assumption there);
   kept = ap kept_of is;
   leg = finds_out Checks ClassGraph refl is found;
 }
@@ -147,23 +115,7 @@ module _ (floor : Description) (l : LockNo) (mode : Mode) (old mid : Knowledge) 
 
   -- a round of the lock may begin
   pub may_seek_on : MaySeek l.0 mid
-  may_seek_on = subst (MaySeek l.0) (sym checked.view) record {
-    unheld = there.unheld;
-    few = there.may.few;
-    wants = refl;
-    takes = refl;
-    unnoted = there.may.unnoted;
-    no_round = there.may.no_round;
-    missed = there.may.missed;
-    no_walk = there.no_walk;
-    runs = there.may.runs;
-    nothing_out = there.nothing_out;
-    going = record {
-      awake = there.may.going.awake;
-      unended = there.may.going.unended;
-      stamped = there.may.going.stamped;
-    };
-  }
+  may_seek_on = subst (MaySeek l.0) (sym checked.view) (assumption there)
 
   -- it begins and ends with the gain
   module _ (v : Knowledge) (g : GainsAtOnce floor (as_taken l mode) mid v) where
@@ -171,13 +123,7 @@ module _ (floor : Description) (l : LockNo) (mode : Mode) (old mid : Knowledge) 
     gained_checked = record {
       before = sought mid l.0 false;
       kept = same_kept;
-      gaining = record {
-        unheld = may_seek_on.unheld;
-        takes = takes_it floor l.0 mid may_seek_on;
-        no_walk = may_seek_on.no_walk;
-        runs = may_seek_on.runs;
-        nothing_out = may_seek_on.nothing_out;
-      };
+      gaining = assumption (takes_it floor l.0 mid may_seek_on, may_seek_on);
       view = g.view;
     }
 

@@ -40,11 +40,7 @@ module _ (floor : Description) (l : LockNo) (mode : Mode) (a b : Knowledge) (cal
   its_gained = ap (λ (k : Knowledge). k.thread) g.view
 
   gained_going : IsGoing b
-  gained_going = record {
-    awake = ap (λ (k : Knowledge). k.share.doing.phase) g.view ∙ calls.going.awake;
-    unended = ap (λ (k : Knowledge). k.share.doing.has_ended) g.view ∙ calls.going.unended;
-    stamped = ap (λ (k : Knowledge). k.share.doing.unstamped) g.view ∙ calls.going.stamped;
-  }
+  gained_going = rw g.view (assumption calls.going)
 
   pub may_run_on : MayMake floor b (λ s. Unit {0}) (Unreadies b.thread (lock_queue l.0) ∷ [])
   may_run_on =
@@ -69,24 +65,14 @@ module _ (floor : Description) (l : LockNo) (mode : Mode) (a b : Knowledge) (cal
     unbound_on = ap (λ (k : Knowledge). is_bound k.share.doing.round) ran_is
 
     pub going_on : IsGoing w
-    going_on = record {
-      awake = ap (λ (k : Knowledge). k.share.doing.phase) ran_is ∙ calls.going.awake;
-      unended = ap (λ (k : Knowledge). k.share.doing.has_ended) ran_is ∙ calls.going.unended;
-      stamped = ap (λ (k : Knowledge). k.share.doing.unstamped) ran_is ∙ calls.going.stamped;
-    }
+    going_on = rw ran_is (assumption calls.going)
 
     module _ (z : Knowledge) (given : z ≡ seeing z.seen (with_none_out w)) where
       pub gained_there : HasGained l mode a z
       gained_there = record {
         before = with_none_out (readied false a);
         kept = refl;
-        gaining = record {
-          unheld = there.unheld;
-          takes = there.takes;
-          no_walk = there.no_walk;
-          runs = refl;
-          nothing_out = refl;
-        };
+        gaining = assumption there;
         view = given ∙ ap (λ (k : Knowledge). seeing z.seen (with_none_out k)) ran_is;
       }
 
@@ -130,11 +116,7 @@ module _ (floor : Description) (l : LockNo) (mode : Mode) (covered : IsCovered f
   unbound_stands = ap (λ (k : Knowledge). is_bound k.share.doing.round) e.view
 
   pub going_stands : IsGoing b
-  going_stands = record {
-    awake = ap (λ (k : Knowledge). k.share.doing.phase) e.view ∙ calls.going.awake;
-    unended = ap (λ (k : Knowledge). k.share.doing.has_ended) e.view ∙ calls.going.unended;
-    stamped = ap (λ (k : Knowledge). k.share.doing.unstamped) e.view ∙ calls.going.stamped;
-  }
+  going_stands = rw e.view (assumption calls.going)
 
   module _ (w : Knowledge) (given : w ≡ seeing w.seen (with_none_out b)) where
     given_is : w ≡ seeing w.seen (with_none_out stands)
@@ -144,14 +126,7 @@ module _ (floor : Description) (l : LockNo) (mode : Mode) (covered : IsCovered f
     walk_there = ap (λ (k : Knowledge). k.share.doing.walk) given_is
 
     is_standing : IsStanding l.0 to w
-    is_standing = subst (IsStanding l.0 to) (sym given_is) record {
-      unheld = there.unheld;
-      few = there.few;
-      wants = refl;
-      takes = there.takes;
-      stands = refl;
-      walk_is = e.walk_is;
-    }
+    is_standing = subst (IsStanding l.0 to) (sym given_is) (assumption (there, e))
 
     can_walk : CanWalk floor w
     can_walk = record {
@@ -161,11 +136,7 @@ module _ (floor : Description) (l : LockNo) (mode : Mode) (covered : IsCovered f
           ∙ ready in cc;
       nothing_out = ap (λ (k : Knowledge). k.out) given_is;
       no_round = ap (λ (k : Knowledge). k.share.doing.round) given_is;
-      going = record {
-        awake = ap (λ (k : Knowledge). k.share.doing.phase) given_is ∙ calls.going.awake;
-        unended = ap (λ (k : Knowledge). k.share.doing.has_ended) given_is ∙ calls.going.unended;
-        stamped = ap (λ (k : Knowledge). k.share.doing.unstamped) given_is ∙ calls.going.stamped;
-      };
+      going = rw given_is (assumption calls.going);
     }
 
     pub enters_on : (seen : ℕ) → MakesEach floor (gives_both floor b.thread l.0) b w

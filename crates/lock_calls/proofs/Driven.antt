@@ -81,10 +81,7 @@ module _ (floor : Description) (l : LockNo) (mode : Mode) (begun : Knowledge) (p
   locked is =
       let d = subst (λ n. GoesOnTaking floor l mode s.0 n p q) is w in
       record {
-        taken = record {
-          rest = d.1.rest;
-          entry = entry_since floor l mode s.0 begun p.view q.view s.3 d.1.entry;
-        };
+        taken = assumption (entry_since floor l mode s.0 begun p.view q.view s.3 d.1.entry, d.1);
         locks = record {
           gained = d.2.gained;
           gains = ends floor l mode false begun p.view d.2.gained its s.0 s.4 d.2.gains;

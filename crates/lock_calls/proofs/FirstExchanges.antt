@@ -158,11 +158,7 @@ module _ (floor : Description) (l : ℕ) (mode : Mode) (v : Knowledge) (covered 
         no_round = m.looks.no_round;
         runs = m.looks.runs;
         nothing_out = m.looks.nothing_out;
-        going = record {
-          awake = m.looks.going.awake;
-          unended = m.looks.going.unended;
-          stamped = m.looks.going.stamped;
-        };
+        going = assumption m.looks.going;
       }
 
       pub may_gain_again : course kind (word_of found) mode ≡ Plainly
@@ -260,12 +256,9 @@ pub has_gained_first : (floor : Description) (l : LockNo) (mode : Mode) (old v :
 has_gained_first floor l mode old v m g = record {
   before = sought g.gains.between l.0 false;
   kept = ap kept_of g.saw;
-  gaining = subst (λ (k : Knowledge). IsGaining l.0 (sought k l.0 false)) (sym g.saw) record {
-    unheld = m.unheld;
-    takes = ap (λ w. taking_from false w l.0 old.share.doing.taking) m.wants_nothing;
-    no_walk = m.no_walk;
-    runs = m.looks.runs;
-    nothing_out = m.looks.nothing_out;
-  };
+  gaining = subst (λ (k : Knowledge). IsGaining l.0 (sought k l.0 false)) (sym g.saw) (assumption (
+    ap (λ w. taking_from false w l.0 old.share.doing.taking) m.wants_nothing,
+    m,
+  ));
   view = g.view;
 }

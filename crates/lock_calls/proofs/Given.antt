@@ -48,11 +48,7 @@ module _ (floor : Description) (l : ℕ) (v : Knowledge) (both : HasRecordAndCha
         wait.may_give_chain floor w (lock_queue l) both.chain chain_alone
         (ap (λ (k : Knowledge). is_bound k.share.doing.round) first ∙ unbound)
         (subst (λ (k : Knowledge). (k.pose ≡ Runs) ⊎ ((q : QueueName) × (k.pose ≡ StandsOn q))) (sym first) settled)
-        (record {
-          awake = ap (λ (k : Knowledge). k.share.doing.phase) first ∙ going.awake;
-          unended = ap (λ (k : Knowledge). k.share.doing.has_ended) first ∙ going.unended;
-          stamped = ap (λ (k : Knowledge). k.share.doing.unstamped) first ∙ going.stamped;
-        })
+        (rw first (assumption going))
 
     module _ (z : Knowledge) (second : z ≡ seeing z.seen (gave w (its_chain floor (lock_queue l)))) where
       pub given_both : z ≡ seeing z.seen (with_none_out v)

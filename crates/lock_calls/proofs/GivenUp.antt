@@ -49,18 +49,7 @@ module _ (floor : Description) (l : ℕ) (v : Knowledge) (r : MayRelease floor l
   is_held none = last_is_held r.before r.last l r.lock (ap (λ hs. hold_in hs l) (sym r.held) ∙ none)
 
   pub may_give_up : (mode : Mode) → hold_in v.share.held l ≡ Holds mode → MayPutDown floor l mode v
-  may_give_up mode held = record {
-    held = held;
-    closed = r.closed;
-    begun = r.begun;
-    unmarked = r.unburdened.unmarked;
-    uncounted = r.unburdened.uncounted;
-    there = r.there;
-    nothing_out = r.unburdened.nothing_out;
-    takes_nothing = r.takes;
-    no_round = r.no_round;
-    going = r.unburdened.going;
-  }
+  may_give_up mode held = assumption (held, r.takes, r)
 
 module _ (floor : Description) (l : LockNo) (mode : Mode) (v w : Knowledge) (m : MayPutDown floor l.0 mode v) (seen : ℕ)
     (formed : IsWellFormed (word_of seen)) (view : w ≡ seeing w.seen (looked v l.0 (word_of seen)))
@@ -131,11 +120,10 @@ module _ (floor : Description) (l : LockNo) (mode : Mode) (begun : Knowledge) wh
 
   module _ (now : Knowledge) where
     pub given_first : (at : ReleaseAt) → BeginsGivingUp floor l mode at begun now → GivesUpSince floor l mode begun at now
-    given_first at b = record {
-      there = b.there;
-      kept = b.kept;
-      is_at = subst (λ a. let_go.IsAt floor l mode 2 t hs begun a now) (sym b.by_it) (go (is_drop (word_of b.seen)));
-    }
+    given_first at b = assumption (
+      subst (λ a. let_go.IsAt floor l mode 2 t hs begun a now) (sym b.by_it) (go (is_drop (word_of b.seen))),
+      b,
+    )
       where
         first : let_go.HasMissed floor l mode 2 t begun now
         first = record { k = 1; some = omega arith; few = λ e. omega arith; each = (now, b.look, refl) }
@@ -161,11 +149,11 @@ module _ (floor : Description) (l : LockNo) (mode : Mode) (begun : Knowledge) wh
     its = ap (λ (k : Knowledge). k.thread) s.kept
 
     pub given_on : (to : ReleaseAt) → ReleasesOn floor l mode at to now new → GivesUpSince floor l mode begun to new
-    given_on to on = record {
-      there = on.there;
-      kept = on.kept ∙ s.kept;
-      is_at = let_go.goes_on floor l mode 2 t hs begun now new its at to s.is_at on.leg;
-    }
+    given_on to on = assumption (
+      on.kept ∙ s.kept,
+      let_go.goes_on floor l mode 2 t hs begun now new its at to s.is_at on.leg,
+      on,
+    )
 
     pub given_waking : (u : ℕ) → HasWokenOne floor l.0 at u now new → GivesUpSince floor l mode begun Wakes new
     given_waking u x = record {
@@ -189,13 +177,11 @@ module _ (floor : Description) (l : LockNo) (mode : Mode) (begun : Knowledge) wh
             noted = ap (λ (k : Knowledge). k.share.doing.noted) kept;
             woken_from = ap (λ (k : Knowledge). k.share.doing.woken_from) kept;
           };
-          unburdened = record {
-            nothing_out = d.down.may.nothing_out;
-            no_walk = ap (λ (k : Knowledge). k.share.doing.walk) kept ∙ r.unburdened.no_walk;
-            unmarked = d.nobody;
-            uncounted = d.down.may.uncounted;
-            going = d.down.may.going;
-          };
+          unburdened = assumption (
+            ap (λ (k : Knowledge). k.share.doing.walk) kept ∙ r.unburdened.no_walk,
+            d.nobody,
+            d.down.may,
+          );
           held = ap (λ (k : Knowledge). k.share.held) kept;
           begun = ap (λ (k : Knowledge). k.share.begun) kept;
           pose = ap (λ (k : Knowledge). k.pose) kept;

@@ -116,20 +116,11 @@ module _ (floor : Description) (l : LockNo) (z : Knowledge) (m : IsParked l.0 z)
 
   rests : (ticket : ℕ) → IsAtRest floor (stamped c (aborted_in false) (entry_by z.thread ticket e))
   rests ticket =
-      rest_noted floor forgotten ticket e refl (record {
-        runs = refl;
-        nothing_out = m.nothing_out;
-        no_walk = sym m.standing.walk_is;
-        unmarked = calls.unmarked;
-        uncounted = calls.uncounted;
-        wants_nothing = refl;
-        takes_nothing = refl;
-        no_round = refl;
-        no_looks = refl;
-        unnoted = refl;
-        going = record { awake = refl; unended = calls.going.unended; stamped = calls.going.stamped };
-        no_wait = calls.no_wait;
-      }) calls.sections calls.begun
+      rest_noted floor forgotten ticket e refl (assumption (
+        sym m.standing.walk_is,
+        m,
+        calls,
+      )) calls.sections calls.begun
 
   pub is_halted : 1 ≤ z.spare → (new : Knowledge) (ticket : ℕ)
       → new ≡ seeing new.seen (stamped c w (entry_by w.thread ticket e))

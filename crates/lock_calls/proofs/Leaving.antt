@@ -45,32 +45,10 @@ use Rattle.lock_calls.proofs.Sections.{chain_out, both_out}
 
 module _ (floor : Description) (l : ℕ) (mode : Mode) (v : Knowledge) (m : MayPutDown floor l mode v) where
   leaving_seeing : (steps : List Step) → MayPutDown floor l mode (seeing steps v)
-  leaving_seeing steps = record {
-    held = m.held;
-    closed = m.closed;
-    begun = m.begun;
-    unmarked = m.unmarked;
-    uncounted = m.uncounted;
-    there = m.there;
-    nothing_out = m.nothing_out;
-    takes_nothing = m.takes_nothing;
-    no_round = m.no_round;
-    going = record { awake = m.going.awake; unended = m.going.unended; stamped = m.going.stamped };
-  }
+  leaving_seeing steps = assumption m
 
   pub leaving_looked : (all : ℕ) (last seen : Option Look) → MayPutDown floor l mode (with_looks v all last seen)
-  leaving_looked all last seen = record {
-    held = m.held;
-    closed = m.closed;
-    begun = m.begun;
-    unmarked = m.unmarked;
-    uncounted = m.uncounted;
-    there = m.there;
-    nothing_out = m.nothing_out;
-    takes_nothing = m.takes_nothing;
-    no_round = m.no_round;
-    going = record { awake = m.going.awake; unended = m.going.unended; stamped = m.going.stamped };
-  }
+  leaving_looked all last seen = assumption m
 
 pub leaving_still : (floor : Description) (l : ℕ) (mode : Mode) (v w : Knowledge) → w ≡ seeing w.seen v
     → MayPutDown floor l mode v → MayPutDown floor l mode w
@@ -118,17 +96,7 @@ stands_outside floor l Shared found v m own = go (is_drop (word_of found)) refl
 -- with both out it may let go
 pub may_let : (floor : Description) (l : ℕ) (mode : Mode) (v : Knowledge) → MayPutDown floor l mode (with_none_out v)
     → HasRecordAndChain floor l v → MayLetGo floor l mode v
-may_let floor l mode v m both = record {
-  held = m.held;
-  closed = m.closed;
-  begun = m.begun;
-  unmarked = m.unmarked;
-  there = m.there;
-  takes_nothing = m.takes_nothing;
-  no_round = m.no_round;
-  going = record { awake = m.going.awake; unended = m.going.unended; stamped = m.going.stamped };
-  both = both;
-}
+may_let floor l mode v m both = assumption (both, m)
 
 -- 2. The chain
 
@@ -297,22 +265,14 @@ module _ (floor : Description) (l : LockNo) (mode : Mode) (seen : ℕ) (v w : Kn
     unbound_freed = ap (λ (k : Knowledge). is_bound k.share.doing.round) g.view ∙ ap is_bound m.may.no_round
 
     pub going_freed : IsGoing w
-    going_freed = record {
-      awake = ap (λ (k : Knowledge). k.share.doing.phase) g.view ∙ m.may.going.awake;
-      unended = ap (λ (k : Knowledge). k.share.doing.has_ended) g.view ∙ m.may.going.unended;
-      stamped = ap (λ (k : Knowledge). k.share.doing.unstamped) g.view ∙ m.may.going.stamped;
-    }
+    going_freed = rw g.view (assumption m.may.going)
 
     module _ (y : Knowledge) (given : y ≡ seeing y.seen (with_none_out w)) where
       freed : y ≡ seeing y.seen (with_none_out (opened_up v l.0 g.marks g.out))
       freed = given ∙ ap (λ (k : Knowledge). seeing y.seen (with_none_out k)) g.view
 
       going_on : IsGoing y
-      going_on = record {
-        awake = ap (λ (k : Knowledge). k.share.doing.phase) freed ∙ m.may.going.awake;
-        unended = ap (λ (k : Knowledge). k.share.doing.has_ended) freed ∙ m.may.going.unended;
-        stamped = ap (λ (k : Knowledge). k.share.doing.unstamped) freed ∙ m.may.going.stamped;
-      }
+      going_on = rw freed (assumption m.may.going)
 
       -- it may wake those whom it took off: they stood on the lock's queue
       marks_on : MayGiveUp (with_none_out v) → CanMark y
@@ -342,17 +302,7 @@ module _ (floor : Description) (l : LockNo) (mode : Mode) (seen : ℕ) (v w : Kn
 
 module _ (l : ℕ) (v w : Knowledge) (h : HasPutDown l v) where
   pub down_still : w ≡ seeing w.seen v → HasPutDown l w
-  down_still view = subst (HasPutDown l) (sym view) record {
-    unheld = h.unheld;
-    unseen = h.unseen;
-    may = record {
-      settled = h.may.settled;
-      elsewhere = h.may.elsewhere;
-      nothing_out = h.may.nothing_out;
-      going = record { awake = h.may.going.awake; unended = h.may.going.unended; stamped = h.may.going.stamped };
-      uncounted = h.may.uncounted;
-    };
-  }
+  down_still view = subst (HasPutDown l) (sym view) (assumption h)
 
   pub down_woken : (floor : Description) (t : ℕ) → WakesFirst floor t v w → HasPutDown l w
   down_woken floor t x = subst (HasPutDown l) (sym x.view) record {
@@ -373,23 +323,7 @@ module _ (l : ℕ) (v w : Knowledge) (h : HasPutDown l v) where
 -- where nobody is left and nothing is out a thread is at rest, that is so once the release is done
 pub rests : (floor : Description) (l : ℕ) (v : Knowledge) → IsAtRest floor (once_released l Wakes v) → HasPutDown l v
     → v.share.doing.marked ≡ [] → IsAtRest floor v
-rests floor l v r h nobody = record {
-  runs = r.runs;
-  nothing_out = h.may.nothing_out;
-  no_walk = r.no_walk;
-  unmarked = nobody;
-  uncounted = r.uncounted;
-  wants_nothing = r.wants_nothing;
-  takes_nothing = r.takes_nothing;
-  no_round = r.no_round;
-  no_looks = r.no_looks;
-  no_last_look = h.unseen;
-  unnoted = r.unnoted;
-  going = record { awake = r.going.awake; unended = r.going.unended; stamped = r.going.stamped };
-  no_wait = r.no_wait;
-  sections = r.sections;
-  begun = r.begun;
-}
+rests floor l v r h nobody = assumption (nobody, h.unseen, r, h.may)
 
 module _ (floor : Description) (l : LockNo) (mode : Mode) (at : ReleaseAt) (v w : Knowledge)
     (u : IsUnderRelease floor l mode at v) where
@@ -405,8 +339,8 @@ module _ (floor : Description) (l : LockNo) (mode : Mode) (at : ReleaseAt) (v w 
   rests_then d = rests floor l.0 w (rest_kept Wakes d.kept d.down.unheld) d.down d.nobody
 
   pub under_woken : (t : ℕ) → HasWokenOne floor l.0 at t v w → IsUnderRelease floor l mode Wakes w
-  under_woken t x = record {
-    covered = u.covered;
-    there = x.down;
-    rest_then = rest_kept Wakes (subst (λ a. once_released l.0 Wakes w ≡ once_released l.0 a v) (sym x.at_end) x.kept);
-  }
+  under_woken t x = assumption (
+    x.down,
+    rest_kept Wakes (subst (λ a. once_released l.0 Wakes w ≡ once_released l.0 a v) (sym x.at_end) x.kept),
+    u,
+  )

@@ -109,13 +109,7 @@ still_no_round floor l n u v no_round x = ap (λ (k : Knowledge). k.share.doing.
 pub looks_still : (v : Knowledge) (all : ℕ) (last seen : Option Look) (steps : List Step) → CanLook v
     → CanLook (seeing steps (with_looks v all last seen))
 looks_still v all last seen steps k =
-    record {
-      runs = k.runs;
-      nothing_out = k.nothing_out;
-      takes_nothing = k.takes_nothing;
-      no_round = k.no_round;
-      going = k.going;
-    }
+    assumption k
 
 pub can_look_on : (floor : Description) (l n : ℕ) (u v : Knowledge) → CanLook u → HasLooked floor l n u v → CanLook v
 can_look_on floor l n u v k x = subst CanLook (sym x.knows) (looks_still u x.all x.last x.seen v.seen k)
@@ -132,10 +126,4 @@ look_again floor l u v w word quiet x view step = (
 
 pub rest_looks : (floor : Description) (v : Knowledge) → IsAtRest floor v → CanLook v
 rest_looks floor v r =
-    record {
-      runs = r.runs;
-      nothing_out = r.nothing_out;
-      takes_nothing = r.takes_nothing;
-      no_round = r.no_round;
-      going = r.going;
-    }
+    assumption r

@@ -42,18 +42,7 @@ module _ (floor : Description) (l : LockNo) (mode : Mode) (old v : Knowledge) (k
   calling : floor_calling.IsCalling floor u
   calling =
       let there : IsCalling floor (kept_of u) = subst (IsCalling floor) (sym g.kept) k in
-      record {
-        runs = g.gaining.runs;
-        nothing_out = g.gaining.nothing_out;
-        no_walk = g.gaining.no_walk;
-        unmarked = there.unmarked;
-        uncounted = there.uncounted;
-        unnoted = there.unnoted;
-        going = there.going;
-        no_wait = there.no_wait;
-        sections = there.sections;
-        begun = there.begun;
-      }
+      assumption (g.gaining, there)
 
   pub its_thread : v.thread ≡ old.thread
   its_thread = ap (λ (x : Knowledge). x.thread) g.view ∙ ap (λ (x : Kept). x.thread) g.kept

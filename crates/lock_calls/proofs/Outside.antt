@@ -37,11 +37,7 @@ module _ (floor : Description) (l : ℕ) (mode : Mode) (v w : Knowledge) (m : Ma
   none_to_wake = ap (λ (k : Knowledge). k.share.doing.marked) down ∙ m.unmarked
 
   going_on : IsGoing w
-  going_on = record {
-    awake = ap (λ (k : Knowledge). k.share.doing.phase) down ∙ m.going.awake;
-    unended = ap (λ (k : Knowledge). k.share.doing.has_ended) down ∙ m.going.unended;
-    stamped = ap (λ (k : Knowledge). k.share.doing.unstamped) down ∙ m.going.stamped;
-  }
+  going_on = rw down (assumption m.going)
 
   marks_on : MayGiveUp v → CanMark w
   marks_on (inl runs) =

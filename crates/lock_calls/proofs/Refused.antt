@@ -77,27 +77,7 @@ none_counts (suc n) none = absurd (none (omega arith))
 rests : (floor : Description) (l : ℕ) (v : Knowledge) → IsCalling floor (kept_of v) → IsChecking floor l v
     → v.share.doing.looks ≡ 0 → IsAtRest floor (forgets v)
 unfolding forgets
-rests floor l v k there no_looks = record {
-  runs = there.may.runs;
-  nothing_out = there.nothing_out;
-  no_walk = there.no_walk;
-  unmarked = k.unmarked;
-  uncounted = k.uncounted;
-  wants_nothing = there.may.wants_nothing;
-  takes_nothing = there.may.takes_nothing;
-  no_round = there.may.no_round;
-  no_looks = no_looks;
-  no_last_look = refl;
-  unnoted = k.unnoted;
-  going = record {
-    awake = there.may.going.awake;
-    unended = there.may.going.unended;
-    stamped = there.may.going.stamped;
-  };
-  no_wait = k.no_wait;
-  sections = k.sections;
-  begun = k.begun;
-}
+rests floor l v k there no_looks = assumption (no_looks, there, k)
 
 module _ (floor : Description) (l : LockNo) (r : Reversal) (old v : Knowledge) (k : IsCalling floor (kept_of old))
     (there : IsChecking floor l.0 old) (checked : ChecksOrder floor l.0 (Some r.held.0) old v) where
@@ -119,11 +99,7 @@ module _ (floor : Description) (l : LockNo) (r : Reversal) (old v : Knowledge) (
       (may_stamp floor w e asks (subst (λ o. NotesInRound o e) (sym there.may.no_round) tt)
       (λ q. absurd (let z : false ≡ true = sym k.no_wait ∙ q in cc))
       there.may.runs
-      (record {
-        awake = there.may.going.awake;
-        unended = there.may.going.unended;
-        stamped = there.may.going.stamped;
-      })
+      (assumption there.may.going)
       there.may.takes_nothing)
 
   pub room_for_refusal : 1 ≤ old.spare → 1 ≤ v.spare

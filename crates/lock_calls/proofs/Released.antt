@@ -124,23 +124,7 @@ module _ (floor : Description) (l : LockNo) (mode : Mode) (ticket : ℕ) (old v 
     pub rest_once : hold_in (without_lock l.0 v.share.held) l.0 ≡ NotHeld → IsAtRest floor (once_released l.0 ComesTo v)
     rest_once unheld =
         let k : IsAtRest floor (put_down v l.0) = rest_then unheld in
-        record {
-          runs = k.runs;
-          nothing_out = refl;
-          no_walk = k.no_walk;
-          unmarked = refl;
-          uncounted = k.uncounted;
-          wants_nothing = k.wants_nothing;
-          takes_nothing = k.takes_nothing;
-          no_round = k.no_round;
-          no_looks = k.no_looks;
-          no_last_look = refl;
-          unnoted = k.unnoted;
-          going = record { awake = k.going.awake; unended = k.going.unended; stamped = k.going.stamped };
-          no_wait = k.no_wait;
-          sections = k.sections;
-          begun = k.begun;
-        }
+        assumption k
 
     -- it put the lock down
     pub at_once : Makes floor (Stamps old.thread e ∷ []) old v → new ≡ seeing new.seen (put_down v l.0)
@@ -218,19 +202,11 @@ begins floor l mode ticket old v r held room p u q may is says step found formed
     subst (λ k. BeginsRelease floor l mode (record p { view = k }) q) (sym is) record {
       found = found;
       call = call_noted u q (calls.Release l mode (outside mode found)) noted;
-      there = record {
-        covered = may.covered;
-        there = subst (IsReleasing floor l.0 mode (outside mode found)) same
-            (stands_outside floor l.0 mode found u.view
-            (leaving_behind floor l.0 mode v u.view (word_of found) view leaving)
-            (subst (λ t. IsOwn t mode found) (sym (ap (λ (k : Knowledge). k.thread) view))
-            (saw_own floor l.0 mode found (counts v l.0) v u.view leaving.held formed view look)));
-        rest_then = subst (λ k. hold_in (held_once l.0 (outside mode found) k.share.held) l.0 ≡ NotHeld
-            → IsAtRest floor (once_released l.0 (outside mode found) k)) same
-            (λ unheld. subst (IsAtRest floor) (sym kept)
-            (rest_once floor l mode ticket old v u.view r held room says
-            (sym (ap (λ (k : Knowledge). hold_in k.share.held l.0) kept) ∙ unheld)));
-      };
+      there = assumption (
+        subst (IsReleasing floor l.0 mode (outside mode found)) same (stands_outside floor l.0 mode found u.view (leaving_behind floor l.0 mode v u.view (word_of found) view leaving) (subst (λ t. IsOwn t mode found) (sym (ap (λ (k : Knowledge). k.thread) view)) (saw_own floor l.0 mode found (counts v l.0) v u.view leaving.held formed view look))),
+        subst (λ k. hold_in (held_once l.0 (outside mode found) k.share.held) l.0 ≡ NotHeld → IsAtRest floor (once_released l.0 (outside mode found) k)) same (λ unheld. subst (IsAtRest floor) (sym kept) (rest_once floor l mode ticket old v u.view r held room says (sym (ap (λ (k : Knowledge). hold_in k.share.held l.0) kept) ∙ unheld))),
+        may,
+      );
       saw = ap (λ (k : Knowledge). k.share.doing.last_look) (sym same ∙ view);
       other = other;
       entry = subst (λ k. MakesEntry floor (Unlocked l mode) old.share.held old k) same

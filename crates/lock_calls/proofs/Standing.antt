@@ -42,32 +42,16 @@ use Rattle.lock_calls.specs.Waiting.{Kept, kept_of, CanAcquire}
 
 pub standing_still : (l : ℕ) (there : run_time.Walk) (v w : Knowledge) → w ≡ seeing w.seen v → IsStanding l there v
     → IsStanding l there w
-standing_still l there v w view m = subst (IsStanding l there) (sym view) record {
-  unheld = m.unheld;
-  few = m.few;
-  wants = m.wants;
-  takes = m.takes;
-  stands = m.stands;
-  walk_is = m.walk_is;
-}
+standing_still l there v w view m = subst (IsStanding l there) (sym view) (assumption m)
 
 parked_still : (l : ℕ) (v w : Knowledge) → w ≡ seeing w.seen v → IsParked l v → IsParked l w
-parked_still l v w view m = subst (IsParked l) (sym view) record {
-  standing = standing_still l walk.None v (seeing w.seen v) refl m.standing;
-  nothing_out = m.nothing_out;
-  unmarked = m.unmarked;
-  at_resume = m.at_resume;
-}
+parked_still l v w view m = subst (IsParked l) (sym view) (assumption (
+  standing_still l walk.None v (seeing w.seen v) refl m.standing,
+  m,
+))
 
 pub walk_still : (floor : Description) (v w : Knowledge) → w ≡ seeing w.seen v → CanWalk floor v → CanWalk floor w
-walk_still floor v w view m = subst (CanWalk floor) (sym view) record {
-  one_chain = m.one_chain;
-  on_floor = m.on_floor;
-  settled = m.settled;
-  nothing_out = m.nothing_out;
-  no_round = m.no_round;
-  going = record { awake = m.going.awake; unended = m.going.unended; stamped = m.going.stamped };
-}
+walk_still floor v w view m = subst (CanWalk floor) (sym view) (assumption m)
 
 turnstiles_still : (floor : Description) (v w : Knowledge) → w ≡ seeing w.seen v → HasTurnstilesOut floor v
     → HasTurnstilesOut floor w
@@ -96,14 +80,7 @@ module _ (floor : Description) (l : LockNo) (mode : Mode) (there : run_time.Walk
       → HasTurnstilesOut floor new → TakesOn floor l mode (Walks there) (Hops there) old new
   begins_hop ne taken has = record {
     there = (
-      subst (IsStanding l.0 there) (sym taken.view) record {
-        unheld = m.unheld;
-        few = m.few;
-        wants = m.wants;
-        takes = m.takes;
-        stands = m.stands;
-        walk_is = m.walk_is;
-      },
+      subst (IsStanding l.0 there) (sym taken.view) (assumption m),
       has,
       under_way there ne,
     );
@@ -123,22 +100,8 @@ module _ (floor : Description) (l : LockNo) (mode : Mode) (there : run_time.Walk
       → TakesOn floor l mode (Hops there) (Walks to) old new
   goes_hopping to has h = record {
     there = (
-      subst (IsStanding l.0 to) (sym h.view) record {
-        unheld = m.unheld;
-        few = m.few;
-        wants = m.wants;
-        takes = m.takes;
-        stands = m.stands;
-        walk_is = refl;
-      },
-      subst (CanWalk floor) (sym h.view) record {
-        one_chain = has.one_chain;
-        on_floor = h.on_floor;
-        settled = has.settled;
-        nothing_out = refl;
-        no_round = has.no_round;
-        going = record { awake = has.going.awake; unended = has.going.unended; stamped = has.going.stamped };
-      },
+      subst (IsStanding l.0 to) (sym h.view) (assumption m),
+      subst (CanWalk floor) (sym h.view) (assumption (has, h)),
     );
     kept = ap kept_of h.view;
     leg = hops there to h;
@@ -178,26 +141,14 @@ module _ (floor : Description) (l : LockNo) (mode : Mode) (z : Knowledge) (m : I
   module _ (new : Knowledge) (found : ℕ) (view : new ≡ seeing new.seen (counted Out found z))
       (step : Makes floor (CountsOut z.thread ∷ []) z new) where
     stands_out : IsStanding l.0 walk.None new
-    stands_out = subst (IsStanding l.0 walk.None) (sym view) record {
-      unheld = m.unheld;
-      few = m.few;
-      wants = m.wants;
-      takes = m.takes;
-      stands = m.stands;
-      walk_is = m.walk_is;
-    }
+    stands_out = subst (IsStanding l.0 walk.None) (sym view) (assumption m)
 
     -- others are awake
     pub goes_to_sleep : (found ≡ 1 → ⊥) → TakesOn floor l mode (Walks walk.None) Sleeps z new
     goes_to_sleep others =
         let out = is_counted_out floor found z new counts_itself view others in
         record {
-          there = record {
-            standing = stands_out;
-            nothing_out = out.0.nothing_out;
-            unmarked = out.0.unmarked;
-            at_resume = out.0.at_resume;
-          };
+          there = assumption (stands_out, out.0);
           kept = ap (kept_at Sleeps) view ∙ (λ i. record (kept_of z) { phase = sym calls.going.awake i });
           leg = counts_out step out.1;
         }
@@ -276,12 +227,7 @@ module _ (floor : Description) (l : LockNo) (mode : Mode) (at : HaltAt) (z new :
 
   pub is_done_halting : EndsHalting floor at z new → TakesOn floor l mode (Halts at) Sleeps z new
   is_done_halting e = record {
-    there = record {
-      standing = stands_halting e.halted.kept e.halted.uncounted;
-      nothing_out = e.halted.nothing_out;
-      unmarked = e.halted.unmarked;
-      at_resume = e.halted.at_resume;
-    };
+    there = assumption (stands_halting e.halted.kept e.halted.uncounted, e.halted);
     kept = (λ i. record (kept_at Sleeps new) { marked = e.halted.unmarked i })
         ∙ keeps_halting e.halted.kept e.halted.uncounted at;
     leg = has_halted at e;
@@ -362,11 +308,7 @@ module _ (floor : Description) (l : LockNo) (mode : Mode) (z : Knowledge) (p : I
           no_walk = ap (λ (k : Knowledge). k.share.doing.walk) is ∙ sym m.walk_is;
           runs = ap (λ (k : Knowledge). k.pose) is;
           nothing_out = ap (λ (k : Knowledge). k.out) is ∙ p.nothing_out;
-          going = record {
-            awake = ap (λ (k : Knowledge). k.share.doing.phase) is;
-            unended = ap (λ (k : Knowledge). k.share.doing.has_ended) is ∙ calls.going.unended;
-            stamped = ap (λ (k : Knowledge). k.share.doing.unstamped) is ∙ calls.going.stamped;
-          };
+          going = rw is (assumption calls.going);
         },
         omega (arith, few, no_looks),
       );

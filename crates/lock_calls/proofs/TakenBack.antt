@@ -47,18 +47,7 @@ module _ (floor : Description) (l : LockNo) (mode : Mode) (v : Knowledge) (mine 
       awake = λ back. not_on_its_way v r.ended;
     };
     there = (
-      record {
-        unheld = r.unheld;
-        few = r.few;
-        wants = r.wants;
-        takes = r.takes;
-        unhalted = no_lock_halted v r.ended;
-        round = r.round;
-        no_walk = r.unburdened.no_walk;
-        runs = r.runs;
-        nothing_out = r.unburdened.nothing_out;
-        going = r.unburdened.going;
-      },
+      assumption (no_lock_halted v r.ended, r),
       omega (arith, r.looks),
     );
   }
@@ -120,17 +109,14 @@ module _ (floor : Description) (l : LockNo) (mode : Mode) (begun : Knowledge) (r
     is_back = ap (λ (k : Kept). is_taking_back k.log) s.kept ∙ r.back
 
     pub retakes_on : (to : TakeAt) → TakesOn floor l mode at to now new → RetakesSince floor l mode begun to new
-    retakes_on to on = record {
-      off = off_checks floor l mode at to now new on.leg s.off;
-      under = record {
-        covered = s.under.covered;
-        calling = subst (CanAcquire floor) (sym on.kept) s.under.calling;
-        there = on.there;
-      };
-      kept = on.kept ∙ s.kept;
-      is_at = goes_on floor l mode true begun now new its (ap (λ (k : Kept). k.thread) on.kept ∙ its) at to is_back
-          s.under.there s.is_at on.leg;
-    }
+    retakes_on to on = assumption (
+      off_checks floor l mode at to now new on.leg s.off,
+      subst (CanAcquire floor) (sym on.kept) s.under.calling,
+      on.kept ∙ s.kept,
+      goes_on floor l mode true begun now new its (ap (λ (k : Kept). k.thread) on.kept ∙ its) at to is_back s.under.there s.is_at on.leg,
+      s.under,
+      on,
+    )
 
     -- 3. Its end
 
@@ -148,22 +134,14 @@ module _ (floor : Description) (l : LockNo) (mode : Mode) (begun : Knowledge) (r
           noted = ap (λ (k : Knowledge). k.share.doing.noted) g.view ∙ ap (λ (k : Kept). k.noted) all;
           woken_from = ap (λ (k : Knowledge). k.share.doing.woken_from) g.view ∙ ap (λ (k : Kept). k.woken_from) all;
         };
-        unburdened = record {
-          nothing_out = ap (λ (k : Knowledge). k.out) g.view ∙ g.gaining.nothing_out;
-          no_walk = ap (λ (k : Knowledge). k.share.doing.walk) g.view ∙ g.gaining.no_walk;
-          unmarked = ap (λ (k : Knowledge). k.share.doing.marked) g.view ∙ ap (λ (k : Kept). k.marked) all
-              ∙ r.unburdened.unmarked;
-          uncounted = ap (λ (k : Knowledge). k.share.doing.counting) g.view ∙ ap (λ (k : Kept). k.counting) all
-              ∙ r.unburdened.uncounted;
-          going = record {
-            awake = ap (λ (k : Knowledge). k.share.doing.phase) g.view ∙ ap (λ (k : Kept). k.phase) all
-                ∙ r.unburdened.going.awake;
-            unended = ap (λ (k : Knowledge). k.share.doing.has_ended) g.view ∙ ap (λ (k : Kept). k.has_ended) all
-                ∙ r.unburdened.going.unended;
-            stamped = ap (λ (k : Knowledge). k.share.doing.unstamped) g.view ∙ ap (λ (k : Kept). k.unstamped) all
-                ∙ r.unburdened.going.stamped;
-          };
-        };
+        unburdened = rw g.view (assumption (
+          ap (λ (k : Kept). k.marked) all ∙ r.unburdened.unmarked,
+          ap (λ (k : Kept). k.counting) all ∙ r.unburdened.uncounted,
+          ap (λ (k : Kept). k.phase) all ∙ r.unburdened.going.awake,
+          ap (λ (k : Kept). k.has_ended) all ∙ r.unburdened.going.unended,
+          ap (λ (k : Kept). k.unstamped) all ∙ r.unburdened.going.stamped,
+          g.gaining,
+        ));
         held = ap (λ (k : Knowledge). k.share.held) g.view ∙ ap (λ (k : Kept). k.held ++ as_taken l mode ∷ []) all;
         begun = λ k other. ap (λ (x : Knowledge). is_among k x.share.begun) g.view
             ∙ among_stays l.0 k g.before.share.begun (λ e. other (sym e)) ∙ ap (λ (x : Kept). is_among k x.begun) all;

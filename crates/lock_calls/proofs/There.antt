@@ -56,18 +56,7 @@ use Rattle.lock_calls.proofs.Sections.{HasItsObjects, chain_out, record_out, as_
 
 -- the thread is so at each place of a take, whatever others did
 pub seeking_still : (l : ℕ) (v w : Knowledge) → w ≡ seeing w.seen v → IsSeeking l v → IsSeeking l w
-seeking_still l v w view m = subst (IsSeeking l) (sym view) record {
-  unheld = m.unheld;
-  few = m.few;
-  wants = m.wants;
-  takes = m.takes;
-  unhalted = m.unhalted;
-  round = m.round;
-  no_walk = m.no_walk;
-  runs = m.runs;
-  nothing_out = m.nothing_out;
-  going = record { awake = m.going.awake; unended = m.going.unended; stamped = m.going.stamped };
-}
+seeking_still l v w view m = subst (IsSeeking l) (sym view) (assumption m)
 
 pub chain_still : (floor : Description) (l : ℕ) (v w : Knowledge) → w ≡ seeing w.seen v → HasChainOut floor l v
     → HasChainOut floor l w
@@ -132,11 +121,7 @@ module _ (floor : Description) (l : ℕ) (a : Knowledge) (m : HasChainOut floor 
     may_ready_there =
         wait.may_ready floor b (lock_queue l) (Record out_now.0.box) out_now.0.chain out_now.0.out
         (ap (λ (k : Knowledge). k.pose) own.view ∙ m.runs)
-        (record {
-          awake = ap (λ (k : Knowledge). k.share.doing.phase) own.view ∙ going.awake;
-          unended = ap (λ (k : Knowledge). k.share.doing.has_ended) own.view ∙ going.unended;
-          stamped = ap (λ (k : Knowledge). k.share.doing.unstamped) own.view ∙ going.stamped;
-        })
+        (rw own.view (assumption going))
 
     module _ (w : Knowledge) (view : w ≡ seeing w.seen (readied true b)) where
       ready_is : w ≡ seeing w.seen (readied true (took a (RecordOf a.thread) a.thread own.value))

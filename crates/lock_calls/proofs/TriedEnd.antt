@@ -44,23 +44,14 @@ settled v =
 
 settled_rests : (floor : Description) (u : Knowledge) → IsCalling floor (kept_of u) → about_of u ≡ nothing_else
     → u.out ≡ [] → IsAtRest floor (settled u)
-settled_rests floor u k about empty = record {
-  runs = ap (λ (x : About). x.pose) about;
-  nothing_out = empty;
-  no_walk = ap (λ (x : About). x.walk) about;
-  unmarked = k.unmarked;
-  uncounted = k.uncounted;
-  wants_nothing = ap (λ (x : About). x.wanted) about;
-  takes_nothing = ap (λ (x : About). x.taking) about;
-  no_round = refl;
-  no_looks = refl;
-  no_last_look = refl;
-  unnoted = k.unnoted;
-  going = record { awake = k.going.awake; unended = k.going.unended; stamped = k.going.stamped };
-  no_wait = k.no_wait;
-  sections = k.sections;
-  begun = k.begun;
-}
+settled_rests floor u k about empty = assumption (
+  ap (λ (x : About). x.pose) about,
+  empty,
+  ap (λ (x : About). x.walk) about,
+  ap (λ (x : About). x.wanted) about,
+  ap (λ (x : About). x.taking) about,
+  k,
+)
 
 -- 2. It gained the lock
 
@@ -297,13 +288,12 @@ module _ (floor : Description) (l : LockNo) (mode : Mode) (seen : ℕ) (old v : 
   asks_busy s f = (
     (
       mode,
-      record {
-        unheld = sym (ap (λ (x : ShareColumns). x.held l.0) f.share.columns)
-            ∙ ap (λ (x : Kept). hold_in x.held l.0) h.kept ∙ unheld;
-        looked = sym (ap (λ (x : ShareColumns). x.doing.last_look) f.share.columns) ∙ h.saw;
-        refused = word.refused;
-        mutex = covered.mutex;
-      },
+      assumption (
+        sym (ap (λ (x : ShareColumns). x.held l.0) f.share.columns) ∙ ap (λ (x : Kept). hold_in x.held l.0) h.kept ∙ unheld,
+        sym (ap (λ (x : ShareColumns). x.doing.last_look) f.share.columns) ∙ h.saw,
+        word,
+        covered,
+      ),
     ),
     tt,
   )
@@ -312,11 +302,7 @@ module _ (floor : Description) (l : LockNo) (mode : Mode) (seen : ℕ) (old v : 
   may_note_busy =
       may_stamp floor v note asks_busy (subst (λ o. NotesInRound o note) (sym h.its_round) h.of_try)
       (λ q. absurd (let z : false ≡ true = sym calling_busy.no_wait ∙ q in cc)) (ap (λ (x : About). x.pose) h.about)
-      (record {
-        awake = calling_busy.going.awake;
-        unended = calling_busy.going.unended;
-        stamped = calling_busy.going.stamped;
-      })
+      (assumption calling_busy.going)
       (ap (λ (x : About). x.taking) h.about)
 
   pub room_to_note_busy : 1 ≤ v.spare

@@ -77,13 +77,7 @@ module _ (floor : Description) (l : ℕ) (mode : Mode) (v : Knowledge) (covered 
     one_look = ap (λ (k : Knowledge). k.share.doing.looks) view ∙ ap (λ b. cond b 1 0) first_counts
 
     pub seeks_it : length v.share.held < most_held → SeeksByTry l w
-    seeks_it few = subst (SeeksByTry l) (sym view) record {
-      unheld = unheld;
-      few = few;
-      about = about_nothing floor v r;
-      round = refl;
-      nothing_out = r.nothing_out;
-    }
+    seeks_it few = subst (SeeksByTry l) (sym view) (assumption (unheld, few, about_nothing floor v r, r))
 
     pub first_kept : kept_of w ≡ kept_of v
     first_kept = ap kept_of view
@@ -185,13 +179,7 @@ has_chain_by_try floor l v a m one =
 module _ (floor : Description) (l n : ℕ) (a b : Knowledge) (x : HasSpun floor l n a b) where
   -- looks leave the thread in its round,
   pub seeks_on : SeeksByTry l a → SeeksByTry l b
-  seeks_on m = subst (SeeksByTry l) (sym x.knows) record {
-    unheld = m.unheld;
-    few = m.few;
-    about = m.about;
-    round = m.round;
-    nothing_out = m.nothing_out;
-  }
+  seeks_on m = subst (SeeksByTry l) (sym x.knows) (assumption m)
 
   -- with what stays through its call,
   pub calling_on : IsCalling floor (kept_of a) → IsCalling floor (kept_of b)
@@ -211,13 +199,7 @@ module _ (floor : Description) (l n : ℕ) (a b : Knowledge) (x : HasSpun floor 
 
 -- it is so at each place, whatever others did
 pub seeks_still : (l : ℕ) (v w : Knowledge) → w ≡ seeing w.seen v → SeeksByTry l v → SeeksByTry l w
-seeks_still l v w view m = subst (SeeksByTry l) (sym view) record {
-  unheld = m.unheld;
-  few = m.few;
-  about = m.about;
-  round = m.round;
-  nothing_out = m.nothing_out;
-}
+seeks_still l v w view m = subst (SeeksByTry l) (sym view) (assumption m)
 
 pub chain_still_by_try : (floor : Description) (l : ℕ) (v w : Knowledge) → w ≡ seeing w.seen v
     → HasChainInTry floor l v → HasChainInTry floor l w

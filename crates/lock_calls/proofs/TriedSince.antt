@@ -349,25 +349,20 @@ module _ (floor : Description) (l : LockNo) (mode : Mode) (begun : Knowledge) (p
   pub gained : came ≡ next.Gained → HasGained floor l mode begun q.view
   gained is =
       let d = subst (λ n. GoesOnTrying floor l mode s.at n p q) is w in
-      record {
-        tried = record {
-          rest = d.1.rest;
-          entry = entry_since floor (Event.Tried l mode) (p.view.share.held ++ as_tried l mode ∷ [])
-              (begun.share.held ++ as_tried l mode ∷ []) begun p.view q.view s.kept
-              (ap (λ (k : Kept). k.held ++ as_tried l mode ∷ []) s.kept) d.1.entry;
-        };
-        gains = ends_gained floor l mode begun p.view q.view its_own s.at s.is_at d.2;
-      }
+      assumption (
+        entry_since floor (Event.Tried l mode) (p.view.share.held ++ as_tried l mode ∷ []) (begun.share.held ++ as_tried l mode ∷ []) begun p.view q.view s.kept (ap (λ (k : Kept). k.held ++ as_tried l mode ∷ []) s.kept) d.1.entry,
+        ends_gained floor l mode begun p.view q.view its_own s.at s.is_at d.2,
+        d.1,
+      )
 
   pub busy : (seen : ℕ) → came ≡ next.Busy seen → EndsBusy floor l mode seen begun q.view
   busy seen is =
       let d = subst (λ n. GoesOnTrying floor l mode s.at n p q) is w in
-      record {
-        rest = d.1.rest;
-        entry = entry_since floor (Event.Busy l seen) p.view.share.held begun.share.held begun p.view q.view s.kept
-            (ap (λ (k : Kept). k.held) s.kept) d.1.entry;
-        busy = ends_busy floor l mode begun p.view q.view its_own s.at seen s.is_at d.2 d.1;
-      }
+      assumption (
+        entry_since floor (Event.Busy l seen) p.view.share.held begun.share.held begun p.view q.view s.kept (ap (λ (k : Kept). k.held) s.kept) d.1.entry,
+        ends_busy floor l mode begun p.view q.view its_own s.at seen s.is_at d.2 d.1,
+        d.1,
+      )
 
   pub stands_on : came ≡ next.Again → StandsSince floor l mode begun q
   stands_on is =

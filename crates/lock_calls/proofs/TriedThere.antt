@@ -62,15 +62,15 @@ module _ (floor : Description) (l : ℕ) (a : Knowledge) (m : HasChainInTry floo
 
     pub come_by_try : IsThereByTry floor l b
     come_by_try =
-        record {
-          unheld = ap (λ (x : Knowledge). hold_in x.share.held l) own.view ∙ m.unheld;
-          few = subst (λ hs. length hs < 8) (sym (ap (λ (x : Knowledge). x.share.held) own.view)) m.few;
-          about = ap about_of own.view ∙ m.about;
-          round = ap (λ (x : Knowledge). x.share.doing.round) own.view ∙ m.round;
-          some_chains = m.some_chains;
-          of_floor = subst (λ t. t < length floor.threads) (is ∙ sym its) low;
-          both = (record_out floor l a b m.chain m.of_lock own (ap is_off_queues runs) m.out).0;
-        }
+        assumption (
+          ap (λ (x : Knowledge). hold_in x.share.held l) own.view ∙ m.unheld,
+          subst (λ hs. length hs < 8) (sym (ap (λ (x : Knowledge). x.share.held) own.view)) m.few,
+          ap about_of own.view ∙ m.about,
+          ap (λ (x : Knowledge). x.share.doing.round) own.view ∙ m.round,
+          subst (λ t. t < length floor.threads) (is ∙ sym its) low,
+          (record_out floor l a b m.chain m.of_lock own (ap is_off_queues runs) m.out).0,
+          m,
+        )
 
 -- 2. Looks there
 

@@ -26,10 +26,7 @@ returns-in-Some-begin_wakeup-clause-off g c =
     c.begin_wakeup.new.pass.view c.loop.invariant.waited c.in-Some-begin_wakeup.ensures.off
 
 pub loop-preserved : goal.loop-preserved
-loop-preserved g c = record {
-  own = c.begin_wakeup.ensures.own;
-  waited = waits_on c.args.floor.now.description (its_chain c.args.floor.now.description (chan_queue c.args.c.0))
-      c.args.pass.now.view
-      c.loop.pass.view c.begin_wakeup.new.pass.view c.loop.invariant.waited c.in-None-begin_wakeup.ensures.left
-      c.in-None-begin_wakeup.ensures.elsewhere;
-}
+loop-preserved g c = assumption (
+  waits_on c.args.floor.now.description (its_chain c.args.floor.now.description (chan_queue c.args.c.0)) c.args.pass.now.view c.loop.pass.view c.begin_wakeup.new.pass.view c.loop.invariant.waited c.in-None-begin_wakeup.ensures.left c.in-None-begin_wakeup.ensures.elsewhere,
+  c.begin_wakeup.ensures,
+)

@@ -71,13 +71,7 @@ loop-preserved-then-eq g c =
     c.loop.at
     c.go_on_waiting.result (next.Again c.in-Again.to) c.in-Again.is c.go_on_waiting.ensures.part c.loop.invariant.there
     c.go_on_waiting.ensures.then c.loop.invariant.since in
-    record {
-      own = c.go_on_waiting.ensures.own;
-      lock = c.loop.invariant.lock;
-      held = c.loop.invariant.held;
-      there = went.0;
-      since = went.1;
-    }
+    assumption (went.0, went.1, c.go_on_waiting.ensures, c.loop.invariant)
 
 pub loop-preserved-else-eq : goal.loop-preserved-else-eq
 loop-preserved-else-eq g c =
@@ -86,13 +80,7 @@ loop-preserved-else-eq g c =
     c.loop.at
     c.go_on_waiting.result (next.Again c.in-Again.to) c.in-Again.is c.go_on_waiting.ensures.part c.loop.invariant.there
     c.go_on_waiting.ensures.then c.loop.invariant.since in
-    record {
-      own = c.go_on_waiting.ensures.own;
-      lock = c.loop.invariant.lock;
-      held = c.loop.invariant.held;
-      there = went.0;
-      since = went.1;
-    }
+    assumption (went.0, went.1, c.go_on_waiting.ensures, c.loop.invariant)
 
 pub loop-preserved-in-Sleep : goal.loop-preserved-in-Sleep
 loop-preserved-in-Sleep g c =
@@ -101,13 +89,7 @@ loop-preserved-in-Sleep g c =
     c.loop.at
     c.go_on_waiting.result next.Sleep c.in-Sleep.is c.go_on_waiting.ensures.part c.loop.invariant.there
     c.go_on_waiting.ensures.then c.loop.invariant.since in
-    record {
-      own = c.go_on_waiting.ensures.own;
-      lock = c.loop.invariant.lock;
-      held = c.loop.invariant.held;
-      there = went.0;
-      since = went.1;
-    }
+    assumption (went.0, went.1, c.go_on_waiting.ensures, c.loop.invariant)
 
 pub unpark-requires : goal.unpark-requires
 unpark-requires g c =
@@ -127,13 +109,7 @@ loop-preserved-in-Wake g c =
     c.go_on_waiting.result (next.Wake c.in-Wake.t c.in-Wake.to) c.in-Wake.is c.go_on_waiting.ensures.part
     c.loop.invariant.there
     c.go_on_waiting.ensures.then c.loop.invariant.since in
-    record {
-      own = c.go_on_waiting.ensures.own;
-      lock = c.loop.invariant.lock;
-      held = c.loop.invariant.held;
-      there = went.0;
-      since = went.1.1;
-    }
+    assumption (went.0, went.1.1, c.go_on_waiting.ensures, c.loop.invariant)
 
 pub release-requires-clause-lock : goal.release-requires-clause-lock
 release-requires-clause-lock g c =
@@ -224,20 +200,9 @@ loop-preserved g c =
     c.go_on_waiting.result (next.TakeBack c.in-TakeBack.aborted) c.in-TakeBack.is c.go_on_waiting.ensures.part
     c.loop.invariant.there
     c.go_on_waiting.ensures.then c.loop.invariant.since in
-    record {
-      own = c.retake.ensures.own;
-      lock = c.loop.invariant.lock;
-      held = c.loop.invariant.held;
-      there = is_back c.args.floor.now.description c.args.c (cause_of c.in-TakeBack.aborted)
-          c.go_on_waiting.new.pass.view went.0
-          c.last_held-l.result c.loop.invariant.lock c.mode_of-mode.result
-          (its_mode g.K.Relock.releases g.K.Relock.takes_back c.args.floor.now.description c.args.c
-          c.args.pass.now.view c.mode_of-mode.result c.last_held-l.result c.loop.invariant.lock c.loop.invariant.held
-          c.go_on_waiting.new.pass.view c.retake.new.pass.view (cause_of c.in-TakeBack.aborted) went.1)
-          c.retake.new.pass.view c.retake.ensures.back;
-      since = has_retaken g.K.Relock.releases g.K.Relock.takes_back c.args.floor.now.description c.args.c
-          c.args.pass.now.view c.mode_of-mode.result c.last_held-l.result c.loop.invariant.lock c.loop.invariant.held
-          c.go_on_waiting.new.pass.view c.retake.new.pass.view (cause_of c.in-TakeBack.aborted) went.1 c.requires.may
-          c.retake.ensures.back
-          c.retake.ensures.steps;
-    }
+    assumption (
+      is_back c.args.floor.now.description c.args.c (cause_of c.in-TakeBack.aborted) c.go_on_waiting.new.pass.view went.0 c.last_held-l.result c.loop.invariant.lock c.mode_of-mode.result (its_mode g.K.Relock.releases g.K.Relock.takes_back c.args.floor.now.description c.args.c c.args.pass.now.view c.mode_of-mode.result c.last_held-l.result c.loop.invariant.lock c.loop.invariant.held c.go_on_waiting.new.pass.view c.retake.new.pass.view (cause_of c.in-TakeBack.aborted) went.1) c.retake.new.pass.view c.retake.ensures.back,
+      has_retaken g.K.Relock.releases g.K.Relock.takes_back c.args.floor.now.description c.args.c c.args.pass.now.view c.mode_of-mode.result c.last_held-l.result c.loop.invariant.lock c.loop.invariant.held c.go_on_waiting.new.pass.view c.retake.new.pass.view (cause_of c.in-TakeBack.aborted) went.1 c.requires.may c.retake.ensures.back c.retake.ensures.steps,
+      c.retake.ensures,
+      c.loop.invariant,
+    )

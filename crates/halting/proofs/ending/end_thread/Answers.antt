@@ -14,13 +14,10 @@ returns-in-Done-clause-steps g c =
     c.end.ensures.went)
 
 pub loop-preserved : goal.loop-preserved
-loop-preserved g c = record {
-  own = c.end.ensures.own;
-  stands = again c.args.floor.now.description c.args.pass.now.view c.loop.pass.view c.end.new.pass.view
-      c.loop.invariant.stands
-      (subst (λ n. GoesOnEnding c.args.floor.now.description Takes n c.loop.pass.view c.end.new.pass.view)
-      (c.in-Again-Takes.is ∙ ap (λ (a : EndAt). Again a) c.in-Again-Takes.field-0-is) c.end.ensures.went).0;
-}
+loop-preserved g c = assumption (
+  again c.args.floor.now.description c.args.pass.now.view c.loop.pass.view c.end.new.pass.view c.loop.invariant.stands (subst (λ n. GoesOnEnding c.args.floor.now.description Takes n c.loop.pass.view c.end.new.pass.view) (c.in-Again-Takes.is ∙ ap (λ (a : EndAt). Again a) c.in-Again-Takes.field-0-is) c.end.ensures.went).0,
+  c.end.ensures,
+)
 
 pub halt_others-requires-clause-last : goal.halt_others-requires-clause-last
 halt_others-requires-clause-last g c =

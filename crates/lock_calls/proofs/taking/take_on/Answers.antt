@@ -45,12 +45,10 @@ acquire_on-requires-clause-between c = elim c.in-Spins.is [
 ]
 
 pub acquire_on-requires-clause-under_way : goal.acquire_on-requires-clause-under_way
-acquire_on-requires-clause-under_way c = record {
-  covered = c.requires.under_way.covered;
-  calling = can_acquire c.args.floor.now.description (kept_at c.args.at c.args.pass.now.view)
-      c.requires.under_way.calling;
-  there = c.requires.under_way.there;
-}
+acquire_on-requires-clause-under_way c = assumption (
+  can_acquire c.args.floor.now.description (kept_at c.args.at c.args.pass.now.view) c.requires.under_way.calling,
+  c.requires.under_way,
+)
 
 pub wake_up-requires-clause-under_way : goal.wake_up-requires-clause-under_way
 wake_up-requires-clause-under_way c =

@@ -42,14 +42,10 @@ returns-in-Done-go_on_releasing g c =
     }
 
 pub loop-preserved-in-Again-go_on_releasing : goal.loop-preserved-in-Again-go_on_releasing
-loop-preserved-in-Again-go_on_releasing g c = record {
-  own = c.go_on_releasing.ensures.own;
-  stands = releases_on c.args.floor.now.description c.args.l c.args.mode c.args.pass.now.view c.loop.pass
-      c.loop.invariant.stands
-      c.go_on_releasing.result c.go_on_releasing.new.pass
-      (c.go_on_releasing.ensures.went c.args.l c.args.mode c.loop.invariant.stands.at c.loop.invariant.stands.call)
-      c.in-Again-go_on_releasing.is;
-}
+loop-preserved-in-Again-go_on_releasing g c = assumption (
+  releases_on c.args.floor.now.description c.args.l c.args.mode c.args.pass.now.view c.loop.pass c.loop.invariant.stands c.go_on_releasing.result c.go_on_releasing.new.pass (c.go_on_releasing.ensures.went c.args.l c.args.mode c.loop.invariant.stands.at c.loop.invariant.stands.call) c.in-Again-go_on_releasing.is,
+  c.go_on_releasing.ensures,
+)
 
 pub unreachable-requires-in-Sleep-go_on_releasing : goal.unreachable-requires-in-Sleep-go_on_releasing
 unreachable-requires-in-Sleep-go_on_releasing g c =
@@ -67,11 +63,7 @@ unpark-requires g c =
     c.in-Wake.t c.in-Wake.is
 
 pub loop-preserved : goal.loop-preserved
-loop-preserved g c = record {
-  own = c.go_on_releasing.ensures.own;
-  stands = releases_waking c.args.floor.now.description c.args.l c.args.mode c.args.pass.now.view c.loop.pass
-      c.loop.invariant.stands
-      c.go_on_releasing.result c.go_on_releasing.new.pass
-      (c.go_on_releasing.ensures.went c.args.l c.args.mode c.loop.invariant.stands.at c.loop.invariant.stands.call)
-      c.in-Wake.t c.in-Wake.is;
-}
+loop-preserved g c = assumption (
+  releases_waking c.args.floor.now.description c.args.l c.args.mode c.args.pass.now.view c.loop.pass c.loop.invariant.stands c.go_on_releasing.result c.go_on_releasing.new.pass (c.go_on_releasing.ensures.went c.args.l c.args.mode c.loop.invariant.stands.at c.loop.invariant.stands.call) c.in-Wake.t c.in-Wake.is,
+  c.go_on_releasing.ensures,
+)

@@ -16,12 +16,10 @@ returns-in-Done g c =
     }
 
 pub loop-init : goal.loop-init
-loop-init g c = record {
-  own = c.begin_take.ensures.own;
-  stands = stands_begun c.args.floor.now.description c.args.l c.args.mode c.begin_take.result c.args.pass.now
-      c.begin_take.new.pass
-      c.begin_take.ensures.begun c.in-Again.is;
-}
+loop-init g c = assumption (
+  stands_begun c.args.floor.now.description c.args.l c.args.mode c.begin_take.result c.args.pass.now c.begin_take.new.pass c.begin_take.ensures.begun c.in-Again.is,
+  c.begin_take.ensures,
+)
 
 pub unreachable-requires : goal.unreachable-requires
 unreachable-requires g c =
@@ -49,24 +47,16 @@ returns-in-Done-go_on_taking g c =
     }
 
 pub loop-preserved-in-Again-go_on_taking : goal.loop-preserved-in-Again-go_on_taking
-loop-preserved-in-Again-go_on_taking g c = record {
-  own = c.go_on_taking.ensures.own;
-  stands = stands_on c.args.floor.now.description c.args.l c.args.mode c.args.pass.now.view c.loop.pass
-      c.loop.invariant.stands
-      c.go_on_taking.result c.go_on_taking.new.pass
-      (c.go_on_taking.ensures.went c.args.l c.args.mode c.loop.invariant.stands.0 c.loop.invariant.stands.1)
-      c.in-Again-go_on_taking.is;
-}
+loop-preserved-in-Again-go_on_taking g c = assumption (
+  stands_on c.args.floor.now.description c.args.l c.args.mode c.args.pass.now.view c.loop.pass c.loop.invariant.stands c.go_on_taking.result c.go_on_taking.new.pass (c.go_on_taking.ensures.went c.args.l c.args.mode c.loop.invariant.stands.0 c.loop.invariant.stands.1) c.in-Again-go_on_taking.is,
+  c.go_on_taking.ensures,
+)
 
 pub loop-preserved-in-Sleep-go_on_taking : goal.loop-preserved-in-Sleep-go_on_taking
-loop-preserved-in-Sleep-go_on_taking g c = record {
-  own = c.go_on_taking.ensures.own;
-  stands = stands_asleep c.args.floor.now.description c.args.l c.args.mode c.args.pass.now.view c.loop.pass
-      c.loop.invariant.stands
-      c.go_on_taking.result c.go_on_taking.new.pass
-      (c.go_on_taking.ensures.went c.args.l c.args.mode c.loop.invariant.stands.0 c.loop.invariant.stands.1)
-      c.in-Sleep-go_on_taking.is;
-}
+loop-preserved-in-Sleep-go_on_taking g c = assumption (
+  stands_asleep c.args.floor.now.description c.args.l c.args.mode c.args.pass.now.view c.loop.pass c.loop.invariant.stands c.go_on_taking.result c.go_on_taking.new.pass (c.go_on_taking.ensures.went c.args.l c.args.mode c.loop.invariant.stands.0 c.loop.invariant.stands.1) c.in-Sleep-go_on_taking.is,
+  c.go_on_taking.ensures,
+)
 
 pub unpark-requires : goal.unpark-requires
 unpark-requires g c =
@@ -77,14 +67,10 @@ unpark-requires g c =
     c.in-Wake.t c.in-Wake.is
 
 pub loop-preserved : goal.loop-preserved
-loop-preserved g c = record {
-  own = c.go_on_taking.ensures.own;
-  stands = stands_waking c.args.floor.now.description c.args.l c.args.mode c.args.pass.now.view c.loop.pass
-      c.loop.invariant.stands
-      c.go_on_taking.result c.go_on_taking.new.pass
-      (c.go_on_taking.ensures.went c.args.l c.args.mode c.loop.invariant.stands.0 c.loop.invariant.stands.1)
-      c.in-Wake.t c.in-Wake.is;
-}
+loop-preserved g c = assumption (
+  stands_waking c.args.floor.now.description c.args.l c.args.mode c.args.pass.now.view c.loop.pass c.loop.invariant.stands c.go_on_taking.result c.go_on_taking.new.pass (c.go_on_taking.ensures.went c.args.l c.args.mode c.loop.invariant.stands.0 c.loop.invariant.stands.1) c.in-Wake.t c.in-Wake.is,
+  c.go_on_taking.ensures,
+)
 
 pub returns-in-Reversed : goal.returns-in-Reversed
 returns-in-Reversed g c =

@@ -5,25 +5,13 @@ pub returns-in-Gained : goal.returns-in-Gained
 returns-in-Gained g c =
     let done = gained_at_once c.args.floor.now.description c.args.l c.args.mode c.begin_try.result c.args.pass.now
     c.begin_try.new.pass c.begin_try.ensures.begun c.in-Gained.is in
-    record {
-      ready = record { own = c.begin_try.ensures.own; rest = done.tried.rest };
-      gained = done.tried.entry;
-      steps = done.gains;
-      busy = tt;
-      noted = tt;
-    }
+    assumption (done.tried.entry, done.gains, tt, c.begin_try.ensures, done.tried)
 
 pub returns-in-Busy : goal.returns-in-Busy
 returns-in-Busy g c =
     let done = busy_at_once c.args.floor.now.description c.args.l c.args.mode c.begin_try.result c.args.pass.now
     c.begin_try.new.pass c.begin_try.ensures.begun c.in-Busy.seen c.in-Busy.is in
-    record {
-      ready = record { own = c.begin_try.ensures.own; rest = done.rest };
-      gained = tt;
-      steps = tt;
-      busy = done.busy;
-      noted = done.entry;
-    }
+    assumption (tt, done.entry, c.begin_try.ensures, done)
 
 pub loop-init : goal.loop-init
 loop-init g c = record {
@@ -43,13 +31,7 @@ returns-in-Gained-go_on_trying g c =
     let done = gained c.args.floor.now.description c.args.l c.args.mode c.args.pass.now.view c.loop.pass s
     c.go_on_trying.result c.go_on_trying.new.pass
     (c.go_on_trying.ensures.went c.args.l c.args.mode s.at s.call) c.in-Gained-go_on_trying.is in
-    record {
-      ready = record { own = c.go_on_trying.ensures.own; rest = done.tried.rest };
-      gained = done.tried.entry;
-      steps = done.gains;
-      busy = tt;
-      noted = tt;
-    }
+    assumption (done.tried.entry, done.gains, tt, c.go_on_trying.ensures, done.tried)
 
 pub returns-in-Busy-go_on_trying : goal.returns-in-Busy-go_on_trying
 returns-in-Busy-go_on_trying g c =
@@ -58,20 +40,12 @@ returns-in-Busy-go_on_trying g c =
     c.go_on_trying.result c.go_on_trying.new.pass
     (c.go_on_trying.ensures.went c.args.l c.args.mode s.at s.call) c.in-Busy-go_on_trying.seen
     c.in-Busy-go_on_trying.is in
-    record {
-      ready = record { own = c.go_on_trying.ensures.own; rest = done.rest };
-      gained = tt;
-      steps = tt;
-      busy = done.busy;
-      noted = done.entry;
-    }
+    assumption (tt, done.entry, c.go_on_trying.ensures, done)
 
 pub loop-preserved : goal.loop-preserved
 loop-preserved g c =
     let s = c.loop.invariant.stands in
-    record {
-      own = c.go_on_trying.ensures.own;
-      stands = stands_on c.args.floor.now.description c.args.l c.args.mode c.args.pass.now.view c.loop.pass s
-          c.go_on_trying.result c.go_on_trying.new.pass
-          (c.go_on_trying.ensures.went c.args.l c.args.mode s.at s.call) c.in-Again-go_on_trying.is;
-    }
+    assumption (
+      stands_on c.args.floor.now.description c.args.l c.args.mode c.args.pass.now.view c.loop.pass s c.go_on_trying.result c.go_on_trying.new.pass (c.go_on_trying.ensures.went c.args.l c.args.mode s.at s.call) c.in-Again-go_on_trying.is,
+      c.go_on_trying.ensures,
+    )
