@@ -1,17 +1,21 @@
 #!/usr/bin/env python3
 """Refuses each allocation of a program in turn, alone and with all behind it, and each start of a thread, and judges
-what the program then answers. It needs Python 3.9 or later, the system's C compiler, and Linux with glibc.
+what the program then answers; and counts what it takes while threads run. It needs Python 3.9 or later, the system's C
+compiler, and Linux with glibc.
 
-    tools/try_memory.py [--jobs N] [--first N] [--seconds N] [--command COMMAND] PROGRAM SCRIPT ..
+    tools/try_memory.py [--jobs N] [--first N] [--seconds N] [--command WORDS] PROGRAM SCRIPT ..
 
-PROGRAM is a lockrun; each script is given to `check`, `step` and `run`, or to one of these. Where an allocation was
-refused, either the status is 4, no text is printed, and what standard error has is about memory; or text and status are
-those of a run to which nothing was refused, and standard error has no line that such a run's hasn't. Of `run`, whose
-texts differ, another text is held to the law of a history by check_history.py, and the status is that of its last word.
+PROGRAM is a lockrun, and each script is given to its `check`, `step` and `run`; or a program that has the words WORDS
+instead, as a lockplan has `--by priority`. Without a refusal no allocation is asked for between the start of the first
+thread and the last join, save the block that each further start hands to its thread. Where an allocation was refused,
+either the status is 4, no text is printed, and what standard error has is about memory; or text and status are those of
+a run to which nothing was refused, and standard error has no line that such a run's hasn't. Of `run`, whose texts
+differ, another text is held to the law of a history by check_history.py, and the status is that of its last word.
 A run that takes more than --seconds (60) hangs. With --first each of the first N allocations of a script and command is
 refused, and of those behind them each tenth; else each. For each script and command a line tells how many allocations
 and threads are asked for, how often some were refused, and how many of these runs ended with status 4, how many with a
-text, and how many wrongly; each wrong one has a line of its own, and the status is 1 then.
+text, and how many wrongly; each wrong one has a line of its own, and the status is 1 then. It also tells how many
+allocations were asked for while threads ran, by starts and by others: by others none is right.
 """
 import argparse
 import os
@@ -30,8 +34,9 @@ NO_MEMORY = 4
 
 
 class Ended(NamedTuple):
-    """How a run ended, how many allocations and threads it asked for, how many were refused, and what it took at most:
-    allocated bytes, and resident KiB."""
+    """How a run ended, how many allocations and threads it asked for, how many were refused, how many allocations it
+    asked for between the first start and the last join, how many of these were handed to starts, and what it took at
+    most: allocated bytes, and resident KiB."""
 
     status: int
     text: bytes
@@ -39,6 +44,8 @@ class Ended(NamedTuple):
     allocations: int
     threads: int
     refused: int
+    meanwhile: int
+    handed: int
     most_bytes: int = 0
     most_resident: int = 0
 
@@ -49,13 +56,13 @@ def run(given, library, command, source, what="", first=1, last=0):
     words = dict(os.environ, LD_PRELOAD=library, REFUSED=what, FIRST=str(first), LAST=str(last), TOLD=str(tell))
     with open(told, "rb") as told:
         try:
-            ended = subprocess.run([given.program, command], input=source, capture_output=True, env=words,
+            ended = subprocess.run([given.program, *command.split()], input=source, capture_output=True, env=words,
                                    pass_fds=[tell], timeout=given.seconds)
         except subprocess.TimeoutExpired:
             return None
         finally:
             os.close(tell)
-        counts = told.read().split() or [0, 0, 0, 0, 0]
+        counts = told.read().split() or [0] * 7
     return Ended(ended.returncode, ended.stdout, ended.stderr, *map(int, counts))
 
 
@@ -105,6 +112,9 @@ def try_script(given, library, path, command):
     if plain is None:
         print(f"{path.name} {command}: hung without a refusal")
         return False
+    if plain.meanwhile != plain.handed:
+        print(f"{path.name} {command}: {plain.meanwhile} allocations between the first start and the last join, and"
+              f" starts have {plain.handed} of them")
     todo = list(tries(plain, given.first))
     with ThreadPoolExecutor(given.jobs) as pool:
         answers = list(pool.map(lambda what: run(given, library, command, source, *what), todo))
@@ -116,9 +126,11 @@ def try_script(given, library, path, command):
             print(f"{path.name} {command}: {what} {first}{'' if last == first else ' and all behind it'}: {fault}")
     ends = [ended.status for _, ended in refused if ended is not None]
     bad = sum(bool(fault) for _, fault in faults)
-    print(f"{path.name} {command}: allocations {plain.allocations} threads {plain.threads} refused {len(refused)}"
+    print(f"{path.name} {command}: allocations {plain.allocations} threads {plain.threads}"
+          f" of starts while threads run {plain.handed} of others {plain.meanwhile - plain.handed}"
+          f" refused {len(refused)}"
           f" no memory {ends.count(NO_MEMORY)} with a text {len(ends) - ends.count(NO_MEMORY)} wrong {bad}", flush=True)
-    return not bad
+    return not bad and plain.meanwhile == plain.handed
 
 
 def main():
@@ -126,7 +138,7 @@ def main():
     words.add_argument("--jobs", type=int, default=2)
     words.add_argument("--first", type=int)
     words.add_argument("--seconds", type=int, default=60)
-    words.add_argument("--command", action="append", choices=("check", "step", "run"))
+    words.add_argument("--command", action="append", metavar="WORDS")
     words.add_argument("program", type=os.path.realpath)
     words.add_argument("script", nargs="+", type=Path)
     given = words.parse_args()

@@ -63,14 +63,14 @@ fn is_read(
 
 fn is_written(alloc: Global, row: &Writing) -> Result<bool, AllocError> {
     let (_, room, fails_at, answer, held) = *row;
-    let mut sink = sink(alloc, room, fails_at)?;
+    let mut sink = sink(alloc, room, 4, fails_at)?;
     let written = write_all(&mut sink, b"0 t lock m");
     Ok(written == answer && sink.bytes() == held)
 }
 
 fn is_copied(alloc: Global, row: &Writing) -> Result<bool, AllocError> {
     let (_, room, fails_at, answer, held) = *row;
-    let mut copied = CopiedSink::new(alloc, sink(alloc, room, fails_at)?);
+    let mut copied = CopiedSink::new(alloc, sink(alloc, room, 4, fails_at)?);
     let written = write_all(&mut copied, b"0 t lock m");
     Ok(written == answer && copied.copy() == held)
 }

@@ -44,7 +44,26 @@ impl Drop for Ends {
 }
 
 impl Ends {
-    /// The words of a line, a script as the source, and an empty sink. The ends move 4 bytes a call and fail at these.
+    /// The words of a line, a script as the source, and an empty sink. Of each end: how many bytes it moves a call, and
+    /// at which call it fails.
+    pub(crate) fn in_pieces(
+        alloc: Global,
+        line: &str,
+        script: &[&str],
+        (read, source_fails): (usize, u32),
+        (written, sink_fails): (usize, u32),
+    ) -> Result<Ends, AllocError> {
+        let words = words_of(alloc, line)?;
+        let source = source(alloc, script, read, source_fails)?;
+        let sink = sink(alloc, 2_000_000, written, sink_fails)?;
+        Ok(Ends {
+            words,
+            source,
+            sink,
+        })
+    }
+
+    /// The same, of ends that move 4 bytes a call.
     pub(crate) fn failing(
         alloc: Global,
         line: &str,
@@ -52,14 +71,7 @@ impl Ends {
         source_fails: u32,
         sink_fails: u32,
     ) -> Result<Ends, AllocError> {
-        let words = words_of(alloc, line)?;
-        let source = source(alloc, script, source_fails)?;
-        let sink = sink(alloc, 2_000_000, sink_fails)?;
-        Ok(Ends {
-            words,
-            source,
-            sink,
-        })
+        Ends::in_pieces(alloc, line, script, (4, source_fails), (4, sink_fails))
     }
 
     /// The same, of ends that never fail.
@@ -90,14 +102,24 @@ impl Ends {
     }
 }
 
-fn source(alloc: Global, script: &[&str], fails: u32) -> Result<MemSource, AllocError> {
+fn source(
+    alloc: Global,
+    script: &[&str],
+    piece: usize,
+    fails: u32,
+) -> Result<MemSource, AllocError> {
     let bytes = bytes_of(alloc, script)?;
-    Ok(MemSource::new(bytes, 4, vec![in alloc; fails]?))
+    Ok(MemSource::new(bytes, piece, vec![in alloc; fails]?))
 }
 
-/// An empty sink that has room for so many bytes. It takes 4 a call, and fails at this one.
-pub(crate) fn sink(alloc: Global, room: usize, fails: u32) -> Result<MemSink, AllocError> {
-    MemSink::new(alloc, room, 4, vec![in alloc; fails]?)
+/// An empty sink that has room for so many bytes. It takes as many as a piece has a call, and fails at this one.
+pub(crate) fn sink(
+    alloc: Global,
+    room: usize,
+    piece: usize,
+    fails: u32,
+) -> Result<MemSink, AllocError> {
+    MemSink::new(alloc, room, piece, vec![in alloc; fails]?)
 }
 
 /// The outcome of a run of a plan's threads, and whether somebody was halted.
@@ -145,6 +167,7 @@ const NOWHERE: u32 = 2;
 pub(crate) const MEETINGS: &[(&str, u32, u32, &str)] = &[
     (APART, 1, 1, "0 "),
     (APART, 0, NOWHERE, "0 u lock n\n"),
+    (APART, 1, NOWHERE, "0 "),
     (APART, NOWHERE, 0, "0 t lock m\n"),
     (HELD, 1, 0, "0 t lock m\n1 u busy m 4\n"),
 ];

@@ -83,38 +83,66 @@ const TWO_QUEUES: &str = "lockrun 1;mutex m k;sx s j;cond c m;\
     thread a 100;xlock s;lock m;wait c;unlock m;xunlock s;end;\
     thread b 50;xlock s;xunlock s;end;done;";
 
-const A_HALTED: &str = "xlock s,lock m,wait c,halted c,unlock m,xunlock s,";
+const A_HALTED: (&str, &str) = ("a", "xlock s,lock m,wait c,halted c,unlock m,xunlock s,");
 
-// Whatever the order is, nobody wakes a; and where b comes while a has s, it is halted too.
+const A_WAITED: &str = "lock m,wait c,halted c,unlock m,";
+
+// A's wait gives m up, for which b sleeps: a has it for long enough.
+const WAIT_GIVES_UP: &str = "lockrun 1;mutex m k;cond c m;\
+    thread a 100;lock m;[1000 show;]wait c;unlock m;end;thread b 100;lock m;unlock m;end;done;";
+
+// A waits, and b ends long behind that: its end leaves nobody awake.
+const LAST_ENDS: &str = "lockrun 1;mutex m k;cond c m;\
+    thread a 100;lock m;wait c;unlock m;end;thread b 100;lock m;unlock m;[200 show;]end;done;";
+
+// B wakes a, and then sleeps with s held, which a takes back. Nobody wakes b. A thread that was woken looks for its
+// lock 100 times before it sleeps: so in nearly each run it is a's sleep that leaves nobody awake.
+const LAST_TAKES_BACK: &str = "lockrun 1;sx s j;mutex m k;chan z s;cond c m;\
+    thread a 100;xlock s;msleep z;xunlock s;end;\
+    thread b 100;xlock s;wakeup z;lock m;wait c;unlock m;xunlock s;end;done;";
+
+const TAKEN_BACK: Says = &[
+    ("a", "xlock s,msleep z,woke z,xunlock s,"),
+    (
+        "b",
+        "xlock s,wakeup z a,lock m,wait c,halted c,unlock m,xunlock s,",
+    ),
+];
+
+// Threads, and what each says.
+type Says = &'static [(&'static str, &'static str)];
+
+// Which of two threads is held until the other has come to its operation of that place, or that neither is.
+const NEITHER: u8 = 2;
+
+const STUCK_RUNS: &[(&str, u8, u32, Says)] = &[
+    (TWO_QUEUES, 1, 2, &[A_HALTED, ("b", "halted s,")]),
+    (TWO_QUEUES, 0, 1, &[A_HALTED, ("b", "xlock s,xunlock s,")]),
+    (TWO_QUEUES, NEITHER, 0, &[A_HALTED]),
+    (WAIT_GIVES_UP, 1, 1, &[("b", "lock m,unlock m,")]),
+    (LAST_ENDS, 1, 1, &[("a", A_WAITED)]),
+    (LAST_TAKES_BACK, 1, 1, TAKEN_BACK),
+];
+
+// Who comes to a sleep last is a race: so each is made twenty times.
 #[test]
 fn stuck_in_every_order(rt: HostRuntime) -> Result<(), Fail> {
-    // b begins once a has come to its wait; a begins once b has come to its release
-    for &(held, until, of_b) in &[(1, 2, "halted s,"), (0, 1, "xlock s,xunlock s,")] {
-        check_row(of_b, is_stuck_behind(&rt, rt.alloc(), held, until, of_b)?)?;
+    for row in STUCK_RUNS {
+        for _ in 0..20 {
+            check_row(row.0, is_stuck_run(&rt, rt.alloc(), row)?)?;
+        }
     }
     Ok(())
 }
 
-// Whether a run gets stuck where one thread begins once the other has come so far, and b says that.
-fn is_stuck_behind<R: Threads + Wait + Sync>(
+fn is_stuck_run<R: Threads + Wait + Sync>(
     rt: &R,
     alloc: Global,
-    held: u8,
-    until: u32,
-    of_b: &str,
+    row: &(&str, u8, u32, Says),
 ) -> Result<bool, Fail> {
+    let (script, held, until, says) = *row;
     let gate = Holding::new(held, 1, until);
-    let wanted = [("a", A_HALTED), ("b", of_b)];
-    Ok(is_stuck(rt, alloc, TWO_QUEUES, &gate, &wanted)? && !gate.missed())
-}
-
-#[test]
-fn stuck_in_any_order(rt: HostRuntime) -> Result<(), Fail> {
-    for _ in 0..20 {
-        let wanted = [("a", A_HALTED)];
-        assert!(rt; is_stuck(&rt, rt.alloc(), TWO_QUEUES, &OpenGate, &wanted)?);
-    }
-    Ok(())
+    Ok(is_stuck(rt, alloc, script, &gate, says)? && !gate.missed())
 }
 
 // Whether a run gets stuck, and these threads say that.

@@ -5,7 +5,7 @@ ghost use Rattle.lock_model.specs.Operations.{IsProper};
 use crate::briefs::plan_of;
 use crate::fixtures::{MEETINGS, check_row, outcome_of};
 use crate::gates::Barrier;
-use lock_history::{Outcome, print};
+use lock_history::{Last, Outcome, print};
 use lock_io::{Gate, Meeting};
 use lock_model::Plan;
 use std::alloc::Global;
@@ -23,7 +23,7 @@ fn two_threads_meet(rt: HostRuntime) -> Result<(), Fail> {
     Ok(())
 }
 
-// Whether a run has four entries, and its text begins so.
+// Whether a run is done and has four entries, and its text begins so.
 fn begins_so<R: Threads + Wait + Sync>(
     rt: &R,
     alloc: Global,
@@ -31,8 +31,8 @@ fn begins_so<R: Threads + Wait + Sync>(
     gate: &Meeting,
     begins: &str,
 ) -> Result<bool, Fail> {
-    let (entries, text) = run(rt, alloc, script, gate)?;
-    Ok(entries == 4 && text.as_slice().starts_with(begins.as_bytes()))
+    let (entries, last, text) = run(rt, alloc, script, gate)?;
+    Ok((entries, last) == (4, Last::Done) && text.as_slice().starts_with(begins.as_bytes()))
 }
 
 // So many threads, each of which locks and unlocks a mutex of its own.
@@ -61,8 +61,8 @@ const CROWDS: &[(u64, &str)] = &[
 fn a_thread_of_the_system_for_each(rt: HostRuntime) -> Result<(), Fail> {
     for &(count, script) in CROWDS {
         let gate = Barrier::new(count);
-        let (entries, _text) = run(&rt, rt.alloc(), script, &gate)?;
-        let all_came = !gate.missed() && gate.came() == count;
+        let (entries, last, _text) = run(&rt, rt.alloc(), script, &gate)?;
+        let all_came = !gate.missed() && gate.came() == count && last == Last::Done;
         check_row(
             script,
             all_came && u64::from(entries) == count.saturating_mul(2),
@@ -71,13 +71,13 @@ fn a_thread_of_the_system_for_each(rt: HostRuntime) -> Result<(), Fail> {
     Ok(())
 }
 
-// How many entries the history of a script's run has, and the text of the run.
+// How many entries the history of a script's run has, how it ends, and the text of the run.
 fn run<R: Threads + Wait + Sync, G: Gate>(
     rt: &R,
     alloc: Global,
     script: &str,
     gate: &G,
-) -> Result<(u32, Vec<u8>), Fail> {
+) -> Result<(u32, Last, Vec<u8>), Fail> {
     let plan = plan_of(alloc, &[script])?;
     run_of(rt, alloc, &plan, gate)
 }
@@ -87,13 +87,14 @@ fn run_of<R: Threads + Wait + Sync, G: Gate>(
     alloc: Global,
     plan: &Plan,
     gate: &G,
-) -> Result<(u32, Vec<u8>), Fail>
+) -> Result<(u32, Last, Vec<u8>), Fail>
     requires { IsProper plan.now }
 {
     let (outcome, _halted) = outcome_of(rt, alloc, plan, gate)?;
     told(alloc, plan, &outcome)
 }
 
-fn told(alloc: Global, plan: &Plan, outcome: &Outcome) -> Result<(u32, Vec<u8>), Fail> {
-    Ok((outcome.history.len(), print(alloc, plan, outcome)?))
+fn told(alloc: Global, plan: &Plan, outcome: &Outcome) -> Result<(u32, Last, Vec<u8>), Fail> {
+    let text = print(alloc, plan, outcome)?;
+    Ok((outcome.history.len(), outcome.last, text))
 }
