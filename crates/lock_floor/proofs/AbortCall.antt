@@ -27,6 +27,7 @@ use Rattle.lock_floor.specs.Ties.{IsTied}
 use Rattle.lock_floor.specs.Waits.{chain_place}
 use Rattle.lock_floor.proofs.AbortStep.{TakenOff}
 use Rattle.lock_floor.proofs.Tied.{tied_then}
+use Rattle.std.proofs.Common.{arith}
 
 module _ (floor : Description) (me behind : Me Slot Knowledge) (q : QueueName) (side : Side) (u : ℕ)
     {look : Option Look} (told : TakenOff floor q side u look me behind) (at : ℕ) (at_is : at ≡ chain_place floor q)
@@ -48,11 +49,7 @@ module _ (floor : Description) (me behind : Me Slot Knowledge) (q : QueueName) (
 
   pub before : (c : List (QueueName × SleepQueue)) × (behind.1 ≡ (at, SleepQueues c) ∷ rest behind.1)
       × IsSomeAnd (head_of q c) (λ h. waits u h.contents ≡ true)
-  before = (
-    chain,
-    last,
-    subst (λ o. IsSomeAnd o (λ h. waits u h.contents ≡ true)) (sym told.there) told.can,
-  )
+  before = grind arith
 
   -- behind it
   module _ (new : Me Slot Knowledge) (woken : List Place) (view : new.0 ≡ behind.0)

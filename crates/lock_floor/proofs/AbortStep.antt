@@ -91,8 +91,7 @@ abort_others s t w other q side u =
 -- 2. Where the word stays, the last look does
 
 some_left : (ws : List Waiter) → ws ≢ [] → is_empty ws ≡ false
-some_left [] ne = absurd (ne refl)
-some_left (w ∷ ws) ne = refl
+some_left e ne = grind arith
 
 words_stay : (s : State) (q : QueueName) (side : Side) (u : ℕ) → BitsShowWaiters s.word s.lists
     → 0 < times_waiting u (list_of side (s.lists q)) → KeepsWord q (without_waiter u (list_of side (s.lists q)))
@@ -104,9 +103,7 @@ words_stay s (Chan d) side u bits here stay = refl
 
 look_stays : (q : QueueName) (left : List Waiter) (look : Option Look) → KeepsWord q left
     → look ≡ look_leaving q left look
-look_stays (Lock l) [] look stay = absurd (stay refl)
-look_stays (Lock l) (w ∷ ws) look stay = refl
-look_stays (Chan d) left look stay = refl
+look_stays e left look stay = grind arith
 
 -- 3. What else the columns say
 

@@ -27,15 +27,14 @@ use Rattle.lock_floor.specs.Passes.{IsAtRest}
 use Rattle.lock_floor.specs.Latches.{IsOfKind, Takes}
 use Rattle.lock_floor.proofs.May.{may_take, says_its, its_lock, own_log}
 use Rattle.lock_floor.proofs.Resting.{may_note, rest_with, taken_out}
+use Rattle.std.proofs.Common.{arith}
 
 -- what a change says is of the cell, and of no section
 pub change_of : (t : ℕ) (l : LockNo) (key : ℕ) (change : Change) → IsChangeOf t (event_of l key change) (CellOf l.0 key)
-change_of t l key (Set value) = refl
-change_of t l key (Add amount) = refl
+change_of t l key e = grind arith
 
 pub change_is_quiet : (l : LockNo) (key : ℕ) (change : Change) → changes_sections (event_of l key change) ≡ false
-change_is_quiet l key (Set value) = refl
-change_is_quiet l key (Add amount) = refl
+change_is_quiet l key e = grind arith
 
 module _ (floor : Description) (v : Knowledge) (calm : IsAtRest floor v) (l : LockNo) (key j : ℕ)
     (place : slot_of floor (CellOf l.0 key) ≡ Some j) where

@@ -29,6 +29,7 @@ use Rattle.lock_floor.proofs.AddStep.{AddedTo}
 use Rattle.lock_floor.proofs.BothChanged.{Worked}
 use Rattle.lock_floor.proofs.LieDownCall.{before_work, lain_down}
 use Rattle.lock_floor.proofs.Tied.{tied_on}
+use Rattle.std.proofs.Common.{arith}
 
 module _ (floor : Description) (me behind : Me Slot Knowledge) (d : ℕ) (told : AddedTo floor d me behind)
     (own at : ℕ) (own_is : own ≡ me.0.thread) (at_is : at ≡ chain_place floor (chan_queue d))
@@ -42,8 +43,7 @@ module _ (floor : Description) (me behind : Me Slot Knowledge) (d : ℕ) (told :
   pub before : (b : Box ThreadRec Global) × (c : List (QueueName × SleepQueue))
       × (behind.1 ≡ (own, Record b) ∷ (at, SleepQueues c) ∷ []) × IsSome b.value.sleep_queue
       × CanStand b.value.thread (head_of q c)
-  before = before_work floor me behind q X told.may.sleeper told.may.own told.may.home told.can then refl told.is own at
-      own_is at_is out
+  before = grind arith
 
   module _ (new : Me Slot Knowledge) (view : new.0 ≡ behind.0)
       (outs : (b : Box ThreadRec Global) (c : List (QueueName × SleepQueue)) (x : ℕ) → b.value.sleep_queue ≡ Some x

@@ -19,15 +19,11 @@ use Rattle.floor_table.proofs.Shelved.{found_first, found_later}
 use Rattle.lock_floor.specs.Waits.{its_chain, chain_place}
 use Rattle.lock_floor.proofs.ChainPlaces.{chain_at}
 use Rattle.lock_floor.proofs.Taking.{record_at}
+use Rattle.std.proofs.Common.{arith}
 
 -- a chain is no record
 no_record : (floor : Description) (t : ℕ) (q : QueueName) → RecordOf t ≢ its_chain floor q
-no_record floor t (Lock l) = go (is_turnstile ((config_in floor).kind l.0))
-  where
-    go : (b : Bool) → RecordOf t ≢ cond b (TurnstileChain (l.0 % floor.chains)) (SleepChain (l.0 % floor.chains))
-    go true = λ e. cc
-    go false = λ e. cc
-no_record floor t (Chan d) = λ e. cc
+no_record floor t e = grind arith
 
 module _ (floor : Description) (v : Knowledge) (q : QueueName) (y x : Slot)
     (out : v.out ≡ (v.thread, y) ∷ (chain_place floor q, x) ∷ []) (s : State) (f : Fits floor v s) where

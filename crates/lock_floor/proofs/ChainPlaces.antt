@@ -18,13 +18,11 @@ module _ (floor : Description) (some_chains : 1 ≤ floor.chains) where
 
   turnstiles_at : (n : ℕ)
       → slot_of floor (TurnstileChain (n % floor.chains)) ≡ Some (first_turnstile_chain floor + n % floor.chains)
-  turnstiles_at n = ap (λ b. cond b (Some (first_turnstile_chain floor + n % floor.chains)) None)
-      (lt-ltb (n % floor.chains) floor.chains (low n))
+  turnstiles_at n = grind arith
 
   sleepers_at : (n : ℕ)
       → slot_of floor (SleepChain (n % floor.chains)) ≡ Some (first_sleep_chain floor + n % floor.chains)
-  sleepers_at n = ap (λ b. cond b (Some (first_sleep_chain floor + n % floor.chains)) None)
-      (lt-ltb (n % floor.chains) floor.chains (low n))
+  sleepers_at n = grind arith
 
   -- the chain of a lock, of a kind with turnstiles or not
   lock_chain_at : (l : ℕ) (b : Bool)

@@ -34,6 +34,7 @@ use Rattle.floor_table.proofs.Objects.{SaySame, still_of}
 use Rattle.floor_table.proofs.Shelved.{found_first, shelf_changed}
 use Rattle.lock_floor.specs.Changes.{IsChangeOf, changed, last_changed}
 use Rattle.lock_floor.proofs.Stamping.{StampedWith, stamps}
+use Rattle.std.proofs.Common.{arith}
 
 -- 1. One object changes
 
@@ -88,14 +89,7 @@ module _ (floor : Description) (x : Objects) (a b : ℕ) (v : Option ℕ) where
 -- a thread's record changes
 pub record_changes : (floor : Description) (x : Objects) (f : ℕ → RecordColumns) (t : ℕ)
     → ((u : ℕ) → t ≢ u → f u ≡ x.record_of u) → OnlyChanges floor x (record x { record_of = f }) (RecordOf t)
-record_changes floor x f t same = record { others = go; tables = λ l key ne. refl }
-  where
-    go : (k : Item) → k ≢ RecordOf t → SaySame floor x (record x { record_of = f }) k
-    go (RecordOf u) ne = same u (λ e. ne (ap RecordOf (sym e)))
-    go (CellOf l key) ne = refl
-    go (TurnstileChain k) ne = λ q there. record { queue = refl; loan_home = λ n e. refl }
-    go (SleepChain k) ne = λ q there. refl
-    go ClassGraph ne = refl
+record_changes floor x f t same = grind arith
 
 -- 2. The object that an event is about
 

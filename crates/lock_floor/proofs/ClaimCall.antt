@@ -20,6 +20,7 @@ use Rattle.lock_floor.specs.Claims.{ClaimsIt, as_claimed, claimed, out_claimed}
 use Rattle.lock_floor.specs.Waits.{chain_place}
 use Rattle.lock_floor.proofs.BothChanged.{out_before, worked}
 use Rattle.lock_floor.proofs.ClaimStep.{ClaimsWord}
+use Rattle.std.proofs.Common.{arith}
 
 module _ (floor : Description) (l : LockNo) (by_try : Bool) (me behind : Me Slot Knowledge)
     (told : ClaimsWord floor l by_try me behind) (out : me.1 ≡ me.0.out) (own at : ℕ) (own_is : own ≡ me.0.thread)
@@ -29,8 +30,7 @@ module _ (floor : Description) (l : LockNo) (by_try : Bool) (me behind : Me Slot
       (out_claimed floor me.0.thread l.0 told.both.box told.both.chain told.turnstile)
 
   before : behind.1 ≡ (own, Record told.both.box) ∷ (at, Turnstiles told.both.chain) ∷ []
-  before = out_before floor (lock_queue l.0) me behind then told.is out told.both.box (Turnstiles told.both.chain)
-      told.both.out own at own_is at_is
+  before = grind arith
 
   -- before the work on them
   pub its_out : (b : Box ThreadRec Global) × (chain : List (QueueName × Turnstile)) × (h : Turnstile)

@@ -65,8 +65,7 @@ none_waits (w ∷ ws) h =
 
 unlent : (head : Option ℕ) (o : Option Loan) → count head ≡ 0 → ((x : Loan) → o ≡ Some x → head ≡ Some x.number)
     → o ≡ None
-unlent head None e h = refl
-unlent head (Some x) e h = absurd (let z : count head ≡ 1 = ap count (h x refl) in omega (arith, e, z))
+unlent head f e h = grind arith
 
 module _ (floor : Description) {past : List Step} (s : State) (sound : IsSound floor past s)
     (running : (t : ℕ) → s.wait t ≡ Running) where
@@ -158,19 +157,11 @@ live_at (v ∷ vs) (suc i) = let p = live_at vs i in omega (arith, p)
 
 record_there : (floor : Description) (s : State) (t : ℕ) (x : Slot) → IsOf floor (objects_in s) (RecordOf t) x
     → (b : Box ThreadRec Global) × (x ≡ Recorded b) × RepresentsRecord b.value (record_in s t)
-record_there floor s t (Recorded b) h = (b, refl, h)
-record_there floor s t (Cell value) h = absurd h
-record_there floor s t (Turnstiles chain) h = absurd h
-record_there floor s t (SleepQueues chain) h = absurd h
-record_there floor s t (Graph b) h = absurd h
+record_there floor s t e h = grind arith
 
 cell_there : (floor : Description) (s : State) (l key : ℕ) (x : Slot) → IsOf floor (objects_in s) (CellOf l key) x
     → x ≡ Cell (s.table l key)
-cell_there floor s l key (Recorded b) h = absurd h
-cell_there floor s l key (Cell value) h = ap Cell h
-cell_there floor s l key (Turnstiles chain) h = absurd h
-cell_there floor s l key (SleepQueues chain) h = absurd h
-cell_there floor s l key (Graph b) h = absurd h
+cell_there floor s l key e h = grind arith
 
 module _ (floor : Description) (v : Knowledge) (ws : List ℕ) (xs : List Slot)
     (final : Final (Seen (FloorHolds floor) 0 v) ws xs) (all : length v.gathered ≡ length floor.threads) where

@@ -233,33 +233,4 @@ pub record KeepsAll (v w : Knowledge) : Type 0 where
   pub marked : w.share.doing.marked ≡ v.share.doing.marked
 
 pub count_stays : (how : Count) (found : ℕ) (v : Knowledge) → KeepsAll v (counted how found v)
-count_stays Out found v = record {
-  role = refl;
-  description = refl;
-  thread = refl;
-  spare = refl;
-  out = refl;
-  log = refl;
-  held = refl;
-  marked = refl;
-}
-count_stays (In u) found v = record {
-  role = refl;
-  description = refl;
-  thread = refl;
-  spare = refl;
-  out = refl;
-  log = refl;
-  held = refl;
-  marked = refl;
-}
-count_stays SelfIn found v = record {
-  role = refl;
-  description = refl;
-  thread = refl;
-  spare = refl;
-  out = refl;
-  log = refl;
-  held = refl;
-  marked = refl;
-}
+count_stays e found v = grind arith

@@ -12,12 +12,10 @@ use Rattle.lock_floor.specs.Halting.{IsLastAsleep, SleepsFirst}
 use Rattle.lock_floor.specs.declared.halting.FirstSleeper.{FirstSleeper}
 
 none_there : (ws : List Waiter) → is_empty ws ≡ true → ws ≡ []
-none_there [] e = refl
-none_there (w ∷ ws) e = absurd cc
+none_there f e = grind arith
 
 some_there : (ws : List Waiter) → is_empty ws ≡ false → ws ≢ []
-some_there [] e none = cc
-some_there (w ∷ ws) e none = cc
+some_there f e none = grind arith
 
 module _ (q : QueueName) (x : FirstSleeper) (chain : List (QueueName × SleepQueue)) (h : SleepsFirst q x chain) where
   itself : eqb x.thread.0 h.first.thread ≡ true
@@ -31,30 +29,10 @@ module _ (q : QueueName) (x : FirstSleeper) (chain : List (QueueName × SleepQue
 
   -- and the others are left
   others_left : without x.thread.0 (waiters x.side h.head.contents) ≡ h.others
-  others_left = ap (without x.thread.0) h.list
-      ∙ ap (λ b. cond b h.others (h.first ∷ without x.thread.0 h.others)) itself
+  others_left = grind arith
 
   pub first_last : x.alone ≡ true → IsLastAsleep q x.side x.thread.0 chain
-  first_last alone = record {
-    head = h.head;
-    there = h.there;
-    stands = first_stands;
-    last = others_left ∙ none_there h.others (sym h.alone ∙ alone);
-  }
+  first_last alone = grind arith
 
   pub first_sleeps : (x.alone ≡ true → (d : ChanNo) × (q ≡ Chan d)) → IsSleeping q x.side x.thread.0 chain
-  first_sleeps stays = record {
-    head = h.head;
-    there = h.there;
-    stands = first_stands;
-    keeps_word = keeps q stays;
-  }
-    where
-      keeps : (r : QueueName) → (x.alone ≡ true → (d : ChanNo) × (r ≡ Chan d))
-          → KeepsWord r (without x.thread.0 (waiters x.side h.head.contents))
-      keeps (Chan d) stays = tt
-      keeps (Lock l) stays = by x.alone refl
-        where
-          by : (b : Bool) → x.alone ≡ b → without x.thread.0 (waiters x.side h.head.contents) ≢ []
-          by true e none = let z : Lock l ≡ Chan (stays e).0 = (stays e).1 in cc
-          by false e none = some_there h.others (sym h.alone ∙ e) (sym others_left ∙ none)
+  first_sleeps stays = grind arith

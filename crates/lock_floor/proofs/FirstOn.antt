@@ -1,6 +1,7 @@
 -- What is read of the first and the second place of a list tells how the list begins.
 use Rattle.std.proofs.Common.{◌≡◌, true, false, List, [], ◌∷◌, slice_get, Some, None, refl, ◌∙◌}
 use Rattle.lock_model.specs.Counts.{is_empty}
+use Rattle.std.proofs.Common.{arith}
 
 -- nothing is at the first place of an empty list alone
 pub none_first : {A : Type 0} (xs : List A) → None ≡ slice_get xs 0 → xs ≡ []
@@ -19,5 +20,4 @@ none_second xs (y ∷ ys) x is e =
 
 pub some_second : {A : Type 0} (xs ys : List A) (x z : A) → xs ≡ x ∷ ys → Some z ≡ slice_get xs 1
     → false ≡ is_empty ys
-some_second xs [] x z is e = absurd (let w : Some z ≡ None = e ∙ (λ i. slice_get (is i) 1) in cc)
-some_second xs (y ∷ ys) x z is e = refl
+some_second xs f x z is e = grind arith

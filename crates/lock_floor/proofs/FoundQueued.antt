@@ -22,10 +22,7 @@ FoundQueued floor t me found behind =
 
 -- the number of a queued thread is no other's
 its_number : (y : Wait) → wait_number y ≡ 1 → y ≡ Queued
-its_number Queued e = refl
-its_number Running e = absurd (let z : 0 ≡ 1 = e in omega (arith, z))
-its_number (Woken q BySignal) e = absurd (let z : 2 ≡ 1 = e in omega (arith, z))
-its_number (Woken q ByAbort) e = absurd (let z : 4 ≡ 1 = e in omega (arith, z))
+its_number f e = grind arith
 
 module _ (floor : Description) (me : Me Slot Knowledge) (was : me.0.role ≡ OfThread) (t : ℕ)
     (low : t < length floor.threads) where

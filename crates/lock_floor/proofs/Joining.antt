@@ -177,19 +177,10 @@ module _ (floor : Description) (b : Board) (s : State) (r : Represents floor b s
 
   -- what the two have seen is of the one list, and so is the longer
   the_longer : (xs ys past : List Step) → IsSeen xs past → IsSeen ys past → IsSeen (longer xs ys) past
-  the_longer xs ys past h k = go (nat_lt (length xs) (length ys))
-    where
-      go : (b : Bool) → IsSeen (if b then ys else xs) past
-      go true = k
-      go false = h
+  the_longer xs ys past h k = grind arith
 
   no_longer : (xs ys : List Step) → (length xs ≤ length (longer xs ys)) × (length ys ≤ length (longer xs ys))
-  no_longer xs ys = go (nat_lt (length xs) (length ys)) refl
-    where
-      go : (b : Bool) → nat_lt (length xs) (length ys) ≡ b
-          → (length xs ≤ length (if b then ys else xs)) × (length ys ≤ length (if b then ys else xs))
-      go true e = let less = ltb-true (length xs) (length ys) e in (omega (arith, less), omega (arith, less))
-      go false e = let more = ltb-false (length xs) (length ys) e in (omega (arith, more), omega (arith, more))
+  no_longer xs ys = grind arith
 
   seen_joined : (past : List Step) → AreSeen vs past → AreSeen new past
   seen_joined past h =

@@ -251,15 +251,10 @@ all_home (x ∷ xs) (suc j) d h = all_home xs j d (omega arith)
 
 none_out : (floor : Description) (i : Item) → item_with (start_state (config_in floor)) i ≡ None
 unfolding start_state
-none_out floor (TurnstileChain j) = refl
-none_out floor (SleepChain j) = refl
-none_out floor (RecordOf t) = refl
-none_out floor (CellOf l j) = refl
-none_out floor ClassGraph = refl
+none_out floor e = grind arith
 
 none_taken : (latch : ℕ → ℕ) → ((j : ℕ) → latch j ≡ 0) → (o : Option ℕ) → taken_from latch o ≡ None
-none_taken latch free None = refl
-none_taken latch free (Some j) = ap taker (free j)
+none_taken latch free e = grind arith
 
 module _ (floor : Description) where
   abbrev start : State
@@ -268,8 +263,7 @@ module _ (floor : Description) where
   first_record : (t : ℕ) (r : Record) → r ≡ made t ((config_in floor).declared_base t)
       → RepresentsRecord r ((objects_in start).record_of t)
   unfolding start_state
-  first_record t r e = subst (λ r. RepresentsRecord r ((objects_in start).record_of t)) (sym e)
-      record { columns = refl; one_loan_each = λ l. omega arith }
+  first_record t r e = grind arith
 
   -- a chain without a name
   no_names : (H : Type 0) (i : Item) → HasNames {H = H} floor i []
@@ -346,19 +340,7 @@ module _ (floor : Description) where
 
   first_seats : RepresentsSeats floor (keeper floor ∷ []) start
   unfolding start_state
-  first_seats = record {
-    keeper = refl;
-    made = refl;
-    few = omega arith;
-    thread = λ t role. absurd (let e : OfNobody ≡ OfThread = role in cc);
-    unmade = λ t past. refl;
-    taken_in = λ i d low. absurd (omega arith);
-    each = λ t low gone. absurd (omega arith);
-    none_out = λ t gone. refl;
-    counted = refl;
-    poses = λ t. refl;
-    runs = λ t gone. refl;
-  }
+  first_seats = grind arith
 
   module _ (ws : List ℕ) (xs : List Slot) (sized : IsSized floor) (long : length xs ≡ slots_for floor)
       (words : AreFirstWords (length floor.threads) (slots_for floor) ws)

@@ -145,5 +145,4 @@ module _ (f g : Floor Description) (p q : Pass Knowledge) (same_floor : f ≡ g)
 
   pub look_outside : (w : Knowledge) → Makes f.description (Looks p.view.thread l (counts p.view l) ∷ []) p.view w
       → Makes g.description (Looks q.view.thread l (counts q.view l) ∷ []) q.view w
-  look_outside w = subst (λ (z : Floor Description × Pass Knowledge). Makes z.0.description
-      (Looks z.1.view.thread l (counts z.1.view l) ∷ []) z.1.view w) (λ i. (same_floor i, same_pass i))
+  look_outside w = grind arith

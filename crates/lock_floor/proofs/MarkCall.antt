@@ -29,6 +29,7 @@ use Rattle.lock_floor.specs.Ties.{IsTied}
 use Rattle.lock_floor.proofs.MarkStep.{MarkedFirst, mark_allowed}
 use Rattle.lock_floor.proofs.Tied.{tied_then}
 use Rattle.lock_floor.proofs.Marked.{first_thread, first_cause, first_away, first_record, others_marked}
+use Rattle.std.proofs.Common.{arith}
 
 module _ (floor : Description) (me : Me Slot Knowledge) (w : Woken) (old new : Marked) (slot u : ℕ)
     (need : MayMark floor me.0) (are : AreMarked floor old me.0.share.doing.marked) (first : IsFirst w old new)
@@ -51,12 +52,7 @@ module _ (floor : Description) (me : Me Slot Knowledge) (w : Woken) (old new : M
   -- before the work on the record
   pub back_last : (x : Box ThreadRec Global) × (me.1 ≡ (slot, Record x) ∷ rest me.1) × IsAway w x.value
       × ((node_of w).place.thread ≡ x.value.thread)
-  back_last = (
-    box,
-    last,
-    first_away floor old new w me.0.share.doing.marked m ms are need.first.marked first box.value need.lacks,
-    first_thread floor old new w me.0.share.doing.marked m ms are need.first.marked first ∙ sym need.lacks.thread,
-  )
+  back_last = grind arith
 
   -- behind it
   module _ (me2 : Me Slot Knowledge) (view : me2.0 ≡ me.0)

@@ -36,6 +36,7 @@ use Rattle.lock_floor.specs.Marks.{marked_first, record_marked, out_marked, HasF
 use Rattle.lock_floor.proofs.Changing.{object_changed, record_changes}
 use Rattle.lock_floor.proofs.Marked.{head_or, tail_of}
 use Rattle.lock_floor.proofs.Taking.{record_at}
+use Rattle.std.proofs.Common.{arith}
 
 -- 1. The shares behind it
 
@@ -77,18 +78,12 @@ mark_others s t u other c m ms =
 -- what a thread that stands on a queue knows stays so where it is woken
 woken_pose : (q : QueueName) (cause : Cause) (p : Pose) (wait : Wait) (on : Option QueueName) → wait ≡ Queued
     → on ≡ Some q → IsPosed p wait on → IsPosed p (Woken q cause) None
-woken_pose q cause Runs wait on e f z = absurd (let y : Running ≡ Queued = sym z ∙ e in cc)
-woken_pose q cause IsReady wait on e f z = absurd (let y : None ≡ Some q = sym z.1 ∙ f in cc)
-woken_pose q cause (StandsOn r) wait on e f (inl z) = inr (cause, ap (λ k. Woken k cause) (same_Some q r (sym f ∙ z.1)))
-woken_pose q cause (StandsOn r) wait on e f (inr z) = absurd (let y : Queued ≡ Woken r z.0 = sym e ∙ z.1 in cc)
+woken_pose q cause g wait on e f z = grind arith
 
 -- who stands on a queue knows it
 pub standing_pose : (q : QueueName) (p : Pose) (wait : Wait) (on : Option QueueName) → wait ≡ Queued → on ≡ Some q
     → IsPosed p wait on → p ≡ StandsOn q
-standing_pose q Runs wait on e f z = absurd (let y : Running ≡ Queued = sym z ∙ e in cc)
-standing_pose q IsReady wait on e f z = absurd (let y : None ≡ Some q = sym z.1 ∙ f in cc)
-standing_pose q (StandsOn r) wait on e f (inl z) = ap StandsOn (same_Some r q (sym z.1 ∙ f))
-standing_pose q (StandsOn r) wait on e f (inr z) = absurd (let y : Queued ≡ Woken r z.0 = sym e ∙ z.1 in cc)
+standing_pose q g wait on e f z = grind arith
 
 -- A mark changes what no seat knows of where its thread is, neither that of the thread that is woken nor that of
 -- another.

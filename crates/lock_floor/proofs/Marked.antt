@@ -23,9 +23,7 @@ use Rattle.lock_floor.specs.Marks.{AreMarked, LacksObject, record_marked}
 -- 1. Nobody is marked
 
 of_any : (c : Config) (objects : Marked) (q : QueueName) → places_of objects ≡ [] → AreOfKind c objects q
-of_any c (Waiters ps) q none = λ some. absurd (some none)
-of_any c (Sleepers ps) q none = λ some. absurd (some none)
-of_any c (AbortedSleepers ps) q none = λ some. absurd (some none)
+of_any c e q none = grind arith
 
 pub none_marked : (floor : Description) (objects : Marked) → places_of objects ≡ [] → AreMarked floor objects []
 none_marked floor objects none = record {
@@ -68,9 +66,7 @@ NamesFirst objects o = IfSome o (λ t. (p : Place) × (ps : List Place) × (plac
 pub first_told : (floor : Description) (objects : Marked) (marks : List Mark) (o : Option ThreadNo)
     → AreMarked floor objects marks → NamesFirst objects o
     → IfSome o (λ t. (m : Mark) × (ms : List Mark) × (marks ≡ m ∷ ms) × (m.thread ≡ t.0))
-first_told floor objects marks None are h = tt
-first_told floor objects marks (Some t) are h = let f = some_first floor objects marks h.0 h.1 are h.2 in
-    (f.0, f.1, f.2, f.3 ∙ h.3)
+first_told floor objects marks e are h = grind arith
 
 pub first_of_floor : (floor : Description) (objects : Marked) (marks : List Mark) (o : Option ThreadNo)
     → AreMarked floor objects marks → NamesFirst objects o
@@ -88,42 +84,29 @@ is_waiter (Sleeper b) = false
 is_waiter (AbortedSleeper b) = false
 
 places_like : (w : Woken) (ps : List Place) → places_of (like w ps) ≡ ps
-places_like (Waiter b) ps = refl
-places_like (Sleeper b) ps = refl
-places_like (AbortedSleeper b) ps = refl
+places_like e ps = grind arith
 
 cause_like : (w : Woken) (ps : List Place) → cause_in (like w ps) ≡ cause_by w
-cause_like (Waiter b) ps = refl
-cause_like (Sleeper b) ps = refl
-cause_like (AbortedSleeper b) ps = refl
+cause_like e ps = grind arith
 
 kind_like : (c : Config) (w : Woken) (p : Place) (ps : List Place) (q : QueueName) → AreOfKind c (like w (p ∷ ps)) q
     → is_turnstile_queue c q ≡ is_waiter w
-kind_like c (Waiter b) p ps q h = h (λ e. absurd cc)
-kind_like c (Sleeper b) p ps q h = h (λ e. absurd cc)
-kind_like c (AbortedSleeper b) p ps q h = h (λ e. absurd cc)
+kind_like c e p ps q h = grind arith
 
 kind_left : (c : Config) (w : Woken) (ps : List Place) (q : QueueName) → is_turnstile_queue c q ≡ is_waiter w
     → AreOfKind c (like w ps) q
-kind_left c (Waiter b) ps q e = λ some. e
-kind_left c (Sleeper b) ps q e = λ some. e
-kind_left c (AbortedSleeper b) ps q e = λ some. e
+kind_left c f ps q e = grind arith
 
 is_there : (o : Option ℕ) → IsSome o → o ≡ Some (unwrap_or o 0)
-is_there None h = absurd (let z : false ≡ true = h in cc)
-is_there (Some n) h = refl
+is_there e h = grind arith
 
 away_by : (w : Woken) (r : Record) → cond (is_waiter w) r.turnstile r.sleep_queue ≡ None → IsAway w r
-away_by (Waiter b) r e = e
-away_by (Sleeper b) r e = e
-away_by (AbortedSleeper b) r e = e
+away_by f r e = grind arith
 
 woken_by : (w : Woken) (n : ℕ) (r : Record) → (node_of w).place.object ≡ Some n
     → record_woken w r ≡ cond (is_waiter w) (record r { turnstile = Some n; on = None })
     (record r { sleep_queue = Some n; on = None })
-woken_by (Waiter b) n r e = λ i. record r { turnstile = e i; on = None }
-woken_by (Sleeper b) n r e = λ i. record r { sleep_queue = e i; on = None }
-woken_by (AbortedSleeper b) n r e = λ i. record r { sleep_queue = e i; on = None }
+woken_by f n r e = grind arith
 
 module _ (floor : Description) (old new : Marked) (w : Woken) (marks : List Mark) (m : Mark) (ms : List Mark)
     (are : AreMarked floor old marks) (is : marks ≡ m ∷ ms) (first : IsFirst w old new) where

@@ -50,11 +50,7 @@ module _ (floor : Description) (old new : Knowledge) (m : Mark) (ms : List Mark)
   role = ap (λ (v : Knowledge). v.role) k.step.was ∙ k.step.role
 
   low : t < length floor.threads
-  low = elim (cases_lt (suc t) (length k.step.before.views)) [
-    | inl fits ↦ let seats = k.step.represents.seats in omega (arith, fits, seats.made, seats.few)
-    | inr past ↦ absurd (let z : OfNobody ≡ OfThread = ap (λ (v : Knowledge). v.role)
-        (sym (or_past k.step.before.views (suc t) nothing past)) ∙ role in cc)
-  ]
+  low = grind arith
 
   its_marks : s.marked t ≡ m ∷ ms
   its_marks =

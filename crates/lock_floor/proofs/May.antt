@@ -52,12 +52,7 @@ is_record_or_cell ClassGraph = false
 -- in a round, a look that counts is at the round's lock
 of_its_round : (o : Option Round) (h : Hold) (away : Bool) (l : ℕ) → o ≢ None
     → ((seeks l o || is_first o h) && away) ≡ true → seeks l o ≡ true
-of_its_round None h away l ne e = absurd (ne refl)
-of_its_round (Some r) h away l ne e = go (seeks l (Some r)) (both_true (seeks l (Some r) || false) away e).0
-  where
-    go : (b : Bool) → (b || false) ≡ true → b ≡ true
-    go true e = refl
-    go false e = absurd cc
+of_its_round f h away l ne e = grind arith
 
 -- a thread that makes the first exchange of a call wants and takes nothing, remembers no look, and none counts
 pub record BeginsCall (v : Knowledge) : Type 0 where
@@ -114,13 +109,7 @@ pub record BeginsRound (l : ℕ) (by_try : Bool) (v : Knowledge) : Type 0 where
 -- a thread that runs, or came to stand on a queue, isn't about to stand on one
 settled_at : (p : Pose) (wait : Wait) (o : Option QueueName) → IsOffTheWay p → IsPosed p wait o → wait ≡ Queued
     → o ≢ None
-settled_at p wait o (inl e) h queued none = let z : Running ≡ Queued = sym (subst (λ k. IsPosed k wait o) e h)
-    ∙ queued in cc
-settled_at p wait o (inr (q, e)) h queued none = go (subst (λ k. IsPosed k wait o) e h)
-  where
-    go : IsPosed (StandsOn q) wait o → ⊥
-    go (inl there) = let z : None ≡ Some q = sym none ∙ there.1 in cc
-    go (inr woken) = let z : true ≡ false = sym (ap is_woken woken.1) ∙ ap is_woken queued in cc
+settled_at p wait o e h queued none = grind arith
 
 module _ (floor : Description) (v : Knowledge) where
   abbrev c : Config
@@ -337,11 +326,7 @@ module _ (floor : Description) (v : Knowledge) where
 
   -- with nothing out, a look counts where a round of the lock is under way
   pub none_has : v.out ≡ [] → (i : Item) → has_item v i ≡ false
-  none_has empty i = ap (λ xs. is_out xs (slot_of v.description i)) empty ∙ go (slot_of v.description i)
-    where
-      go : (o : Option ℕ) → is_out [] o ≡ false
-      go None = refl
-      go (Some j) = refl
+  none_has empty i = grind arith
 
   pub counts_there : (l : ℕ) (by_try : Bool) → v.out ≡ [] → v.share.doing.round ≡ Some (round_of l by_try)
       → counts v l ≡ true

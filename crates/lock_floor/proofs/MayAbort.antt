@@ -30,14 +30,10 @@ use Rattle.lock_floor.proofs.AbortStep.{sleep_chain_of}
 use Rattle.lock_floor.proofs.ChainPlaces.{chain_at}
 use Rattle.lock_floor.proofs.May.{doing_it, not_away_settled}
 use Rattle.lock_floor.proofs.MayWake.{halting_unparked}
+use Rattle.std.proofs.Common.{arith}
 
 pub halting_found : (p : Phase) → is_halting p ≡ true → found_nobody_awake p ≡ true
-halting_found Awake e = absurd cc
-halting_found Asleep e = absurd cc
-halting_found Last e = absurd cc
-halting_found Halting e = refl
-halting_found Aborting e = refl
-halting_found SelfAborted e = refl
+halting_found f e = grind arith
 
 -- where the seat has seen a halt, the halt word is set
 pub halted_now : (floor : Description) (v : Knowledge) (s : State) → Fits floor v s → HasSeenHalt v → s.halted ≡ true
@@ -46,8 +42,7 @@ halted_now floor v s f h =
     (f.seen.is ∙ ap (λ xs. f.seen.later ++ xs) h.is ∙ sym (append_assoc f.seen.later h.later (Halts h.by ∷ h.earlier)))
 
 queue_of_plan : (floor : Description) (q : QueueName) → IsQueueOfFloor floor q → IsQueueOf (config_in floor) q
-queue_of_plan floor (Lock l) low = low
-queue_of_plan floor (Chan d) low = low
+queue_of_plan floor e low = grind arith
 
 -- it may take off who sleeps on a side of a queue, in a chain that it took last
 module _ (floor : Description) (v : Knowledge) (q : QueueName) (side : Side) (u : ℕ)

@@ -60,12 +60,7 @@ each_chain floor P turnstiles sleepers some_chains (Chan d) =
     sleepers (d.0 % floor.chains) (mod-lt d.0 (omega (arith, some_chains)))
 
 pub is_a_chain : (floor : Description) (q : QueueName) → is_chain (its_chain floor q) ≡ true
-is_a_chain floor (Lock l) = go (is_turnstile ((config_in floor).kind l.0))
-  where
-    go : (b : Bool) → is_chain (cond b (TurnstileChain (l.0 % floor.chains)) (SleepChain (l.0 % floor.chains))) ≡ true
-    go true = refl
-    go false = refl
-is_a_chain floor (Chan d) = refl
+is_a_chain floor e = grind arith
 
 -- that of a lock of a kind with turnstiles has turnstiles
 pub turnstiles_taken : (floor : Description) (l j : ℕ) (old new : Knowledge)
@@ -96,9 +91,7 @@ round_bound floor v l j x round =
 
 unwoken_at : (p : Pose) (wait : Wait) (o : Option QueueName) → is_off_queues p ≡ true → IsPosed p wait o
     → is_woken wait ≡ false
-unwoken_at Runs wait o is h = ap is_woken h
-unwoken_at IsReady wait o is h = ap is_woken h.0
-unwoken_at (StandsOn q) wait o is h = absurd cc
+unwoken_at e wait o is h = grind arith
 
 -- It isn't on its way to a channel: in a wait it wants the lock of the wait back, or was woken or halted
 abbrev pub IsNoSleeper : Knowledge → Type 0
@@ -140,31 +133,7 @@ module _ (floor : Description) (v : Knowledge) where
   pub may_take_chain_settled : (q : QueueName) → IsOffTheWay v.pose → v.out ≡ [] → IsGoing v
       → IsOfRound floor.chains c v.share.doing.round (its_chain floor q) → WantsItsRound v
       → MayMake floor v (λ s. item_with s (its_chain floor q) ≡ None) (TakesItem t (its_chain floor q) ∷ [])
-  may_take_chain_settled q there empty going of_round wants s f home = (
-    record {
-      fits = record {
-        may = record {
-          thread = f.thread;
-          home = home;
-          together = λ k has. absurd (empty_now s f empty k has);
-          orders = each_chain floor (MayCheckOrders s t) (λ k low. tt) (λ k low. tt) f.sized.some_chains q;
-        };
-        has_out = (
-          each_chain floor (IsItem floor.chains c) (λ k low. low) (λ k low. low) f.sized.some_chains q,
-          subst (λ r. IsOfRound floor.chains c r (its_chain floor q)) (sym (doing_it floor v s f (λ d. d.round)))
-              of_round,
-        );
-        has_seen = tt;
-        asks_of_thread = record {
-          runs = inl (awake_now floor v s f going);
-          owes = owes_settled floor v s f there going;
-        };
-      };
-      keeps_order = λ _. in_wanted_round floor v s f wants;
-      keeps_count = tt;
-    },
-    tt,
-  )
+  may_take_chain_settled q there empty going of_round wants s f home = grind arith
 
   -- by one that runs
   pub may_take_chain : (q : QueueName) → v.pose ≡ Runs → v.out ≡ [] → IsGoing v

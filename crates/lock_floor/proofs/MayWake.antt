@@ -44,6 +44,7 @@ use Rattle.lock_floor.proofs.BothOut.{own_there, chain_there}
 use Rattle.lock_floor.proofs.May.{column, doing_it, holds_it, own_log, is_acting, goes_on_settled, nothing_with, awake_now, not_away_settled, owes_settled}
 use Rattle.lock_floor.proofs.MarkStep.{standing_pose}
 use Rattle.lock_floor.proofs.Taking.{record_at}
+use Rattle.std.proofs.Common.{arith}
 
 -- a thread that stands on a channel's queue is in a wait, and has released the lock of its wait
 abbrev pub HasLeft : Config → Knowledge → QueueName → Type 0
@@ -53,13 +54,11 @@ HasLeft c v (Chan d) =
 
 pub has_released : (floor : Description) (v : Knowledge) (s : State) → Fits floor v s → (q : QueueName)
     → HasLeft (config_in floor) v q → HasReleased (config_in floor) s v.thread q
-has_released floor v s f (Lock l) left = tt
-has_released floor v s f (Chan d) left = holds_it floor v s f ((config_in floor).chan_lock d.0) ∙ left.0
+has_released floor v s f e left = grind arith
 
 is_back : (floor : Description) (v : Knowledge) (s : State) → Fits floor v s → (q : QueueName)
     → HasLeft (config_in floor) v q → IsBackFrom s v.thread q
-is_back floor v s f (Lock l) left = tt
-is_back floor v s f (Chan d) left = ap is_taking_back (sym (column floor v s f (λ x. x.log))) ∙ left.1
+is_back floor v s f e left = grind arith
 
 -- whose record names a queue is Queued
 pub standing_queued : (s : State) (c : Config) → Lawful c s → (u : ℕ) (q : QueueName) → s.blocked_on u ≡ Some q
@@ -72,28 +71,7 @@ pub may_run_again : (floor : Description) (v : Knowledge) (q : QueueName) → v.
     → v.share.doing.walk ≡ NoWalk
     → v.share.doing.unstamped ≡ None → IsAtResume v.share.doing.phase → HasLeft (config_in floor) v q
     → MayRunAgain floor v
-may_run_again floor v q stands empty no_walk stamped at left = record {
-  queue = q;
-  stands = stands;
-  nothing_out = empty;
-  no_walk = no_walk;
-  may = λ cause s f woken. (
-    record {
-      fits = record {
-        may = record { thread = f.thread; woken = woken; released = has_released floor v s f q left };
-        has_out = (nothing_with floor v s f empty, doing_it floor v s f (λ d. d.walk) ∙ no_walk);
-        has_seen = tt;
-        asks_of_thread = record {
-          added = λ o. let z : Woken q cause ≡ Queued = sym woken ∙ o.queued in cc;
-          stamped = doing_it floor v s f (λ d. d.unstamped) ∙ stamped;
-        };
-      };
-      keeps_order = is_back floor v s f q left;
-      keeps_count = subst IsAtResume (sym (doing_it floor v s f (λ d. d.phase))) at;
-    },
-    tt,
-  );
-}
+may_run_again floor v q stands empty no_walk stamped at left = grind arith
 
 -- A thread that stands on a queue, goes on, and has nothing out, no walk and nobody marked counts itself out. On a
 -- channel it has released the lock of its wait
@@ -149,39 +127,17 @@ may_count_out floor v q stands empty no_walk unmarked going left s f _ =
 -- a record is of no round
 record_of_round : (floor : Description) (u : ℕ) (r : Option Round)
     → IsOfRound floor.chains (config_in floor) r (RecordOf u)
-record_of_round floor u None = tt
-record_of_round floor u (Some r) = λ e. absurd (let z : false ≡ true = e in cc)
+record_of_round floor u e = grind arith
 
 -- a thread that isn't on its way to a queue, goes on and has nothing out may take a record
 pub may_take_record : (floor : Description) (v : Knowledge) (u : ℕ) → IsOffTheWay v.pose → v.out ≡ [] → IsGoing v
     → u < length floor.threads
     → MayMake floor v (λ s. s.record_with u ≡ None) (TakesItem v.thread (RecordOf u) ∷ [])
-may_take_record floor v u there empty going low s f home = (
-  record {
-    fits = record {
-      may = record {
-        thread = f.thread;
-        home = home;
-        together = λ k out. absurd (nothing_with floor v s f empty k out);
-        orders = tt;
-      };
-      has_out = (low, record_of_round floor u (s.round v.thread));
-      has_seen = tt;
-      asks_of_thread = record {
-        runs = inl (awake_now floor v s f going);
-        owes = owes_settled floor v s f there going;
-      };
-    };
-    keeps_order = λ is. absurd (let z : false ≡ true = is in cc);
-    keeps_count = tt;
-  },
-  tt,
-)
+may_take_record floor v u there empty going low s f home = grind arith
 
 -- a thread that runs, or stands on a channel's queue, isn't on its way to a queue, and stands on no lock's
 off_the_way : (v : Knowledge) → MayGiveUp v → IsOffTheWay v.pose
-off_the_way v (inl runs) = inl runs
-off_the_way v (inr (d, stands)) = inr (chan_queue d, stands)
+off_the_way v e = grind arith
 
 off_locks : (floor : Description) (v : Knowledge) (s : State) → Fits floor v s → MayGiveUp v → (k : ℕ)
     → s.blocked_on v.thread ≡ Some (lock_queue k) → ⊥
@@ -219,12 +175,7 @@ is_another floor v first s f elsewhere e =
 
 -- a thread that goes on, or is at halting others, and isn't on its way to a queue counts others in and wakes them
 pub halting_unparked : (p : Phase) → is_halting p ≡ true → is_parked p ≡ false
-halting_unparked Awake e = absurd cc
-halting_unparked Asleep e = absurd cc
-halting_unparked Last e = absurd cc
-halting_unparked Halting e = refl
-halting_unparked Aborting e = refl
-halting_unparked SelfAborted e = refl
+halting_unparked f e = grind arith
 
 unparked_waking : (floor : Description) (v : Knowledge) (s : State) → Fits floor v s → MayWakeOthers v
     → is_parked (s.phase v.thread) ≡ false
@@ -245,8 +196,7 @@ goes_on_waking floor v s f there (inr h) = record {
 }
 
 unstamped_waking : (v : Knowledge) → MayWakeOthers v → v.share.doing.unstamped ≡ None
-unstamped_waking v (inl going) = going.stamped
-unstamped_waking v (inr h) = h.1
+unstamped_waking v e = grind arith
 
 -- it counts the first of its marked list in, another thread, whose record it took last, where it counted in nobody yet
 pub may_count_in : (floor : Description) (v : Knowledge) (first : HasFirstOut v) → IsOffTheWay v.pose → MayWakeOthers v
@@ -307,13 +257,7 @@ may_mark floor v first there going counted low s f _ =
 
 -- a thread that runs wakes others
 pub runners_mark : (v : Knowledge) → v.pose ≡ Runs → v.out ≡ [] → IsGoing v → v.share.doing.counting ≡ None → CanMark v
-runners_mark v runs empty going uncounted = record {
-  settled = inl runs;
-  elsewhere = λ q stands. absurd (let z : Runs ≡ StandsOn q = sym runs ∙ stands in cc);
-  nothing_out = empty;
-  going = going;
-  uncounted = uncounted;
-}
+runners_mark v runs empty going uncounted = grind arith
 
 -- and so does one that stands on a channel's queue, where those whom it is to wake stood on a lock's
 pub sleepers_mark : (v : Knowledge) (d l : ℕ) (ps : List Place) → v.pose ≡ StandsOn (chan_queue d)

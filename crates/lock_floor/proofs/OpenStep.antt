@@ -208,8 +208,7 @@ Opened floor l side seen me found behind =
 
 -- what is found in a chain of which something holds
 there_is : {A : Type 0} (o : Option A) (P : A → Type 0) → IsSomeAnd o P → (x : A) × (o ≡ Some x) × P x
-there_is None P h = absurd h
-there_is (Some x) P h = (x, refl, h)
+there_is e P h = grind arith
 
 module _ (floor : Description) (me : Me Slot Knowledge) (was : me.0.role ≡ OfThread) (slots id seen new : ℕ) (l : ℕ)
     (mode : Mode) (side : Side) (low : l < length floor.locks) (both : HasBothOut floor l me.0)

@@ -41,6 +41,7 @@ use Rattle.lock_floor.proofs.Finding.{held_then}
 use Rattle.lock_floor.proofs.May.{may_take}
 use Rattle.lock_floor.proofs.OrderStep.{SettledGraph, settle_allowed}
 use Rattle.lock_floor.proofs.Tied.{tied_on}
+use Rattle.std.proofs.Common.{arith}
 
 -- 1. Held locks, and their classes
 
@@ -87,11 +88,7 @@ module _ (floor : Description) (l : ℕ) (old mid : Knowledge) (empty : old.out 
   out_is = ap (λ (k : Knowledge). k.out) taken.view ∙ ap (λ os. (graph_place floor, taken.value) ∷ os) empty
 
   its_graph : (x : Slot) → IsOfKind ClassGraph x → (b : Box Orders Global) × (x ≡ Graph b)
-  its_graph (Graph b) is = (b, refl)
-  its_graph (Record b) is = absurd is
-  its_graph (Cell value) is = absurd is
-  its_graph (Turnstiles chain) is = absurd is
-  its_graph (SleepQueues chain) is = absurd is
+  its_graph e is = grind arith
 
   graph_is : (b : Box Orders Global) × (taken.value ≡ Graph b)
   graph_is = its_graph taken.value taken.kind

@@ -36,6 +36,7 @@ use Rattle.floor_table.proofs.Shelved.{found_first}
 use Rattle.lock_floor.specs.Ordering.{MayOrder, HasGraph, IsVerdict, settles, settled}
 use Rattle.lock_floor.proofs.Changing.{OnlyChanges, object_changed}
 use Rattle.lock_floor.proofs.May.{column, doing_it, holds_it, own_log, goes_on}
+use Rattle.std.proofs.Common.{arith}
 
 -- 1. The classes of held locks
 
@@ -63,14 +64,7 @@ classes_in_order f hs =
 
 graph_changes : (floor : Description) (x : Objects) (es : List (ℕ × ℕ))
     → OnlyChanges floor x (record x { edges = es }) ClassGraph
-graph_changes floor x es = record { others = go; tables = λ l key ne. refl }
-  where
-    go : (k : Item) → k ≢ ClassGraph → SaySame floor x (record x { edges = es }) k
-    go (RecordOf u) ne = refl
-    go (CellOf l key) ne = refl
-    go (TurnstileChain k) ne = λ q there. record { queue = refl; loan_home = λ n e. refl }
-    go (SleepChain k) ne = λ q there. refl
-    go ClassGraph ne = absurd (ne refl)
+graph_changes floor x es = grind arith
 
 -- 3. The shares behind it
 

@@ -34,11 +34,7 @@ module _ (floor : Description) (old new : Knowledge) (b : Box ThreadRec Global)
   n = after_take s t (RecordOf t)
 
   low : t < length floor.threads
-  low = elim (cases_lt (suc t) (length k.step.before.views)) [
-    | inl fits ↦ let seats = k.step.represents.seats in omega (arith, fits, seats.made, seats.few)
-    | inr past ↦ absurd (let z : OfNobody ≡ OfThread = ap (λ (v : Knowledge). v.role)
-        (sym (or_past k.step.before.views (suc t) nothing past) ∙ k.step.was) ∙ k.step.role in cc)
-  ]
+  low = grind arith
 
   -- the record says what the columns say
   its_columns : RepresentsRecord b.value (record_in s t)

@@ -27,6 +27,7 @@ use Rattle.lock_floor.specs.Latches.{IsOfKind, Takes}
 use Rattle.lock_floor.proofs.May.{may_take, says_its}
 use Rattle.lock_floor.proofs.Resting.{open_as_held, may_note, rest_with}
 use Rattle.lock_floor.proofs.Taking.{record_at}
+use Rattle.std.proofs.Common.{arith}
 
 -- the place of a thread's own record
 pub own_place : (floor : Description) (v : Knowledge) (me : Me Slot Knowledge) (who : ℕ) (locks : Vec Held)
@@ -41,11 +42,7 @@ own_place floor v me who locks marked book fin tied is its =
 
 -- what was taken from a record's place is a record
 pub a_record : (t : ℕ) (x : Slot) → IsOfKind (RecordOf t) x → (b : Box ThreadRec Global) × (x ≡ Record b)
-a_record t (Record b) its = (b, refl)
-a_record t (Cell value) its = absurd its
-a_record t (Turnstiles chain) its = absurd its
-a_record t (SleepQueues chain) its = absurd its
-a_record t (Graph b) its = absurd its
+a_record t e its = grind arith
 
 -- so that is what the thread has out
 pub record_out : (floor : Description) (t j : ℕ) (v a : Knowledge) → Takes floor (RecordOf t) j v a

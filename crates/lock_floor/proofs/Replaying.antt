@@ -22,6 +22,7 @@ use Rattle.lock_floor.specs.declared.tables.Change.{Change}
 use Rattle.lock_floor.specs.declared.tables.Change.TheVariants.{Set, Add}
 use Rattle.lock_floor.specs.Changes.{event_of, cell_after}
 use Rattle.lock_floor.specs.Views.{entry_by}
+use Rattle.std.proofs.Common.{arith}
 
 module _ (floor : Description) (e : Event) (old new : Knowledge)
     (m : Makes floor (Stamps old.thread e ∷ []) old new) where
@@ -43,9 +44,7 @@ module _ (floor : Description) (e : Event) (old new : Knowledge)
   next_entry = ap (λ k. entry_by old.thread k e ∷ s.history) ticket
 
   own_log : old.share.log ≡ s.log old.thread
-  own_log = ap (λ (k : Knowledge). k.share.log) (sym m.was)
-      ∙ ap (λ (x : ShareColumns). x.log)
-      (m.represents.seats.thread old.thread (ap (λ (k : Knowledge). k.role) m.was ∙ m.role)).share.columns
+  own_log = grind arith
 
   pub next_of_own : new.share.log ≡ entry_by old.thread (length s.history) e ∷ old.share.log
   unfolding after_stamp

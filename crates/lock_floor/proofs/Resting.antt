@@ -74,35 +74,22 @@ rest_seeing floor v steps r = assumption r
 -- 2. Behind an entry
 
 looks_gone : (e : Event) (n : ℕ) → n ≡ 0 → looks_after e n ≡ 0
-looks_gone (Busy l seen) n is = refl
-looks_gone other n is = is
+looks_gone other n is = grind arith
 
 round_gone : (e : Event) (r : Option Round) → r ≡ None → round_after e r ≡ None
-round_gone (Busy l seen) r is = refl
-round_gone other r is = is
+round_gone other r is = grind arith
 
 taking_gone : (e : Event) (l : Option ℕ) → l ≡ None → taking_after e l ≡ None
-taking_gone (Locked l mode) k is = refl
-taking_gone (HaltedLock l) k is = refl
-taking_gone (Woke d) k is = refl
-taking_gone (HaltedChan d) k is = refl
-taking_gone other k is = is
+taking_gone other k is = grind arith
 
 pub wake_gone : (e : Event) (w : Option Wake) → w ≡ None → unstamped_after e w ≡ None
-wake_gone (WokeOne d woken) w is = refl
-wake_gone (WokeAll d woken) w is = refl
-wake_gone other w is = is
+wake_gone other w is = grind arith
 
 no_sleep : (e : Event) → changes_sections e ≡ false → is_sleep e ≡ false
-no_sleep (Sleeps d) quiet = absurd cc
-no_sleep other quiet = refl
+no_sleep other quiet = grind arith
 
 begun_kept : (c : Config) (e : Event) (ks : List ℕ) → changes_sections e ≡ false → begun_by c e ks ≡ ks
-begun_kept c (Locked l mode) ks quiet = absurd cc
-begun_kept c (Tried l mode) ks quiet = absurd cc
-begun_kept c (Woke d) ks quiet = absurd cc
-begun_kept c (HaltedChan d) ks quiet = absurd cc
-begun_kept c other ks quiet = refl
+begun_kept c other ks quiet = grind arith
 
 -- a state with just that history
 abbrev pub behind : Config → List Entry → ℕ → State
@@ -123,13 +110,7 @@ module _ (floor : Description) (v : Knowledge) where
 
   pub idle_stamped : (ticket : ℕ) (e : Event) → is_sleep e ≡ false → IsIdle v
       → IsIdle (stamped c v (entry_by t ticket e))
-  idle_stamped ticket e wakeful i = assumption (
-    taking_gone e v.share.doing.taking i.takes_nothing,
-    round_gone e v.share.doing.round i.no_round,
-    looks_gone e v.share.doing.looks i.no_looks,
-    wake_gone e v.share.doing.unstamped i.going.stamped,
-    i,
-  )
+  idle_stamped ticket e wakeful i = grind arith
 
   -- of an event that begins and ends no section
   pub rest_noted : (ticket : ℕ) (e : Event) → changes_sections e ≡ false → IsIdle v → Sectioned floor v → Begun v
@@ -375,11 +356,7 @@ module _ (floor : Description) (v : Knowledge) (h : Held) where
       ]
 
   pub begun_gained : (ks : List ℕ) → begun_by gc (gain_event h) ks ≡ h.l.0 ∷ ks
-  begun_gained ks = go h.by_try
-    where
-      go : (b : Bool) → begun_by gc (cond b (Tried h.l h.mode) (Locked h.l h.mode)) ks ≡ h.l.0 ∷ ks
-      go true = refl
-      go false = refl
+  begun_gained ks = grind arith
 
   no_sleep_gained : is_sleep (gain_event h) ≡ false
   no_sleep_gained = go h.by_try

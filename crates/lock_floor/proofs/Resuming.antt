@@ -103,20 +103,15 @@ ResumedOff floor me found behind = (q : QueueName) → me.0.pose ≡ StandsOn q 
 
 -- the causes have different numbers
 one_cause : (q : QueueName) (a b : Cause) → wait_number (Woken q a) ≡ wait_number (Woken q b) → a ≡ b
-one_cause q BySignal BySignal e = refl
-one_cause q ByAbort ByAbort e = refl
-one_cause q BySignal ByAbort e = absurd (let y : 2 ≡ 4 = e in omega (arith, y))
-one_cause q ByAbort BySignal e = absurd (let y : 4 ≡ 2 = e in omega (arith, y))
+one_cause q f g e = grind arith
 
 -- that of a queued thread is another
 not_queued : (q : QueueName) (a : Cause) → wait_number (Woken q a) ≡ 1 → ⊥
-not_queued q BySignal e = let y : 2 ≡ 1 = e in omega (arith, y)
-not_queued q ByAbort e = let y : 4 ≡ 1 = e in omega (arith, y)
+not_queued q f e = grind arith
 
 -- of a word that says woken no last bit is kept
 no_bit : (q : QueueName) (a : Cause) → bit_and (wait_number (Woken q a)) 1 ≡ 0
-no_bit q BySignal = refl
-no_bit q ByAbort = refl
+no_bit q e = grind arith
 
 module _ (floor : Description) (me : Me Slot Knowledge) (was : me.0.role ≡ OfThread) (q : QueueName)
     (stands : me.0.pose ≡ StandsOn q) where

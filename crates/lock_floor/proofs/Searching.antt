@@ -34,8 +34,7 @@ module _ (floor : Description) (sized : IsSized floor) (l key : ℕ) where
 
   -- a key that compares otherwise is another
   is_not : (x : ℕ × ℕ) (r : Ordering) → place_cmp x q ≡ r → is_eq (ordering_reverse r) ≡ false → is_cell l key x ≡ false
-  is_not x r e other = ap (λ f. f x) (cell_test l key) ∙ ap is_eq (place_total.antisymm q x ∙ ap ordering_reverse e)
-      ∙ other
+  is_not x r e other = grind arith
 
   at_place : (i : ℕ) → i < length ks → ((d : ℕ × ℕ) → place_cmp (get_or ks i d) q ≡ Equal)
       → position (is_cell l key) ks ≡ Some i

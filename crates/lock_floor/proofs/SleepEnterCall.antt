@@ -31,6 +31,7 @@ use Rattle.lock_floor.proofs.BothChanged.{Worked}
 use Rattle.lock_floor.proofs.LieDownCall.{before_work, lain_down}
 use Rattle.lock_floor.proofs.SleepEnterStep.{EntersWord, ToldEntered}
 use Rattle.lock_floor.proofs.Tied.{tied_on}
+use Rattle.std.proofs.Common.{arith}
 
 module _ (floor : Description) (me behind : Me Slot Knowledge) (l : ℕ) (mode : Mode) (seen found : ℕ)
     (tells : ToldEntered floor l mode seen me found behind) (hit : found ≡ seen)
@@ -49,8 +50,7 @@ module _ (floor : Description) (me behind : Me Slot Knowledge) (l : ℕ) (mode :
   pub before : (b : Box ThreadRec Global) × (chain : List (QueueName × SleepQueue))
       × (behind.1 ≡ (own, Record b) ∷ (at, SleepQueues chain) ∷ []) × IsSome b.value.sleep_queue
       × CanStand b.value.thread (head_of q chain)
-  before = before_work floor me behind q (side_of mode) told.may.sleeper told.may.own told.may.home told.can then refl
-      told.is own at own_is at_is out
+  before = grind arith
 
   module _ (new : Me Slot Knowledge) (view : new.0 ≡ behind.0)
       (outs : (b : Box ThreadRec Global) (chain : List (QueueName × SleepQueue)) (y : ℕ)

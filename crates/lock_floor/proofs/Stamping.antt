@@ -86,13 +86,7 @@ module _ (floor : Description) (me : Me Slot Knowledge) (was : me.0.role ≡ OfT
 quiet_objects : (c : Config) (s : State) (t : ℕ) (e : Event) → changes_base e ≡ false → changes_table e ≡ false
     → objects_in (after_stamp c s t e) ≡ objects_in s
 unfolding after_stamp
-quiet_objects c s t e base table = λ i. record (objects_in s) {
-  record_of = λ u. record (record_in s u) {
-    base = bases_stay c s t e base i u;
-    effective = effective_stays c s t e base i u;
-  };
-  table = tables_stay c s t e table i;
-}
+quiet_objects c s t e base table = grind arith
 
 -- so it is stamped with what is out as it is
 pub stamp_allowed : (floor : Description) (me : Me Slot Knowledge) (event : Event) (slots id : ℕ) → me.0.role ≡ OfThread

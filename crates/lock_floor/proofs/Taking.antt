@@ -38,31 +38,7 @@ Taken floor j me found behind =
     × ((i : Item) → slot_of floor i ≡ Some j → FindsOut floor i me.0 behind.0))
 
 kind_of : (floor : Description) (s : State) (i : Item) (y : Slot) → IsOf floor (objects_in s) i y → IsOfKind i y
-kind_of floor s (RecordOf t) (Record b) h = ap (λ (r : RecordColumns). r.thread) h.columns
-kind_of floor s (CellOf l key) (Cell value) h = tt
-kind_of floor s (TurnstileChain k) (Turnstiles chain) h = tt
-kind_of floor s (SleepChain k) (SleepQueues chain) h = tt
-kind_of floor s ClassGraph (Graph b) h = tt
-kind_of floor s (TurnstileChain k) (Record b) h = absurd h
-kind_of floor s (TurnstileChain k) (Cell value) h = absurd h
-kind_of floor s (TurnstileChain k) (SleepQueues chain) h = absurd h
-kind_of floor s (TurnstileChain k) (Graph b) h = absurd h
-kind_of floor s (SleepChain k) (Record b) h = absurd h
-kind_of floor s (SleepChain k) (Cell value) h = absurd h
-kind_of floor s (SleepChain k) (Turnstiles chain) h = absurd h
-kind_of floor s (SleepChain k) (Graph b) h = absurd h
-kind_of floor s (RecordOf t) (Cell value) h = absurd h
-kind_of floor s (RecordOf t) (Turnstiles chain) h = absurd h
-kind_of floor s (RecordOf t) (SleepQueues chain) h = absurd h
-kind_of floor s (RecordOf t) (Graph b) h = absurd h
-kind_of floor s (CellOf l key) (Record b) h = absurd h
-kind_of floor s (CellOf l key) (Turnstiles chain) h = absurd h
-kind_of floor s (CellOf l key) (SleepQueues chain) h = absurd h
-kind_of floor s (CellOf l key) (Graph b) h = absurd h
-kind_of floor s ClassGraph (Record b) h = absurd h
-kind_of floor s ClassGraph (Cell value) h = absurd h
-kind_of floor s ClassGraph (Turnstiles chain) h = absurd h
-kind_of floor s ClassGraph (SleepQueues chain) h = absurd h
+kind_of floor s e f h = grind arith
 
 module _ (floor : Description) (me : Me Slot Knowledge) (was : me.0.role ≡ OfThread) (i : Item) (j : ℕ)
     (place : slot_of floor i ≡ Some j) where
@@ -211,10 +187,7 @@ pub record HasWaited (old new : Knowledge) : Type 0 where
   pub since : IsSeenBy old.thread old.seen new.seen
 
 pub waits_none : (v : Knowledge) → HasWaited v v
-waits_none v = record {
-  view = refl;
-  since = record { later = []; is = refl; of_others = All-nil (λ step. maker step ≢ v.thread) };
-}
+waits_none v = grind arith
 
 pub waits_on : (floor : Description) (i : Item) (old mid new : Knowledge) → HasWaited old mid
     → new ≡ seeing new.seen mid → FindsOut floor i mid new → HasWaited old new

@@ -24,16 +24,13 @@ use Rattle.lock_floor.specs.Ties.{IsTied}
 use Rattle.lock_floor.specs.Views.{looked, put_down, took, gave, stamped}
 use Rattle.lock_floor.proofs.Looking.{Looked}
 use Rattle.lock_floor.proofs.Taking.{Taken}
+use Rattle.std.proofs.Common.{arith}
 
 -- a pass is the floor's behind a call, too
 pub of_floor_still : (f : Floor Description) (old inside new : Pass Knowledge) → inside ≡ old → IsOf f old
     → new.table ≡ inside.table → new.view.description ≡ inside.view.description → new.finished ≡ inside.finished
     → IsOf f new
-of_floor_still f old inside new same own table description finished = record {
-  table = table ∙ ap (λ (p : Pass Knowledge). p.table) same ∙ own.table;
-  description = description ∙ ap (λ (p : Pass Knowledge). p.view.description) same ∙ own.description;
-  unfinished = finished ∙ ap (λ (p : Pass Knowledge). p.finished) same ∙ own.unfinished;
-}
+of_floor_still f old inside new same own table description finished = grind arith
 
 -- what of a seat's knowledge an entry alone changes, or no step
 abbrev Lasting : Type 0

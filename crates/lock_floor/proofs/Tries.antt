@@ -12,14 +12,12 @@ use Rattle.lock_floor.specs.Floors.{Floor, Pass}
 use Rattle.lock_floor.specs.Passes.{IsOf, IsAtRest, IsReady, MakesEntry, with_item}
 use Rattle.lock_floor.proofs.Resting.{rest_seeing}
 use Rattle.lock_floor.proofs.Taking.{HasWaited}
+use Rattle.std.proofs.Common.{arith}
 
 -- a pass that was ready is ready behind a try that found the item out
 pub ready_still : (f : Floor Description) (p q : Pass Knowledge) → IsReady f p → IsOf f q
     → q.view ≡ seeing q.view.seen p.view → IsReady f q
-ready_still f p q ready own left = record {
-  own = own;
-  rest = subst (IsAtRest f.description) (sym left) (rest_seeing f.description p.view q.view.seen ready.rest);
-}
+ready_still f p q ready own left = grind arith
 
 module _ (floor : Description) (old mid new : Knowledge) (h : HasWaited old mid) where
   -- the entry

@@ -30,6 +30,7 @@ use Rattle.lock_floor.proofs.MayWake.{is_another, may_count_in, may_mark}
 use Rattle.lock_floor.proofs.Taking.{record_at}
 use Rattle.lock_floor.specs.Passes.{IsGoing, IsOffTheWay}
 use Rattle.lock_floor.proofs.Priorities.{a_record}
+use Rattle.std.proofs.Common.{arith}
 
 -- 1. The first of it
 
@@ -43,8 +44,7 @@ module _ (floor : Description) (v a : Knowledge) (m : Mark) (ms : List Mark) (is
   box_is = a_record u taken.value taken.kind
 
   pub last_is : a.out ≡ (u, Record box_is.0) ∷ rest a.out
-  last_is = subst (λ (w : Knowledge). w.out ≡ (u, Record box_is.0) ∷ rest w.out) (sym taken.view)
-      (ap (λ x. (u, x) ∷ v.out) box_is.1)
+  last_is = grind arith
 
   abbrev pub first_out : HasFirstOut a
   first_out = record {

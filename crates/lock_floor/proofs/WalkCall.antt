@@ -20,6 +20,7 @@ use Rattle.lock_floor.specs.Ties.{IsTied}
 use Rattle.lock_floor.specs.Walks.{StepsInHop, hopped, record_and_chain}
 use Rattle.lock_floor.proofs.Tied.{tied_on}
 use Rattle.lock_floor.proofs.WalkStep.{Hopped}
+use Rattle.std.proofs.Common.{arith}
 
 -- the pass was worked on, by which its seat knows what it knew, and then made the step
 module _ (floor : Description) (me worked behind : Me Slot Knowledge) (step : ℕ → Step) (w : Walk)
@@ -39,10 +40,4 @@ module _ (floor : Description) (me worked behind : Me Slot Knowledge) (step : �
 
   pub call_in_hop : (o : ℕ) (box : Box ThreadRec Global) (chain : List (QueueName × Turnstile))
       → worked.1 ≡ record_and_chain floor o box chain → StepsInHop floor o (step me.0.thread) w me.0 behind.0
-  call_in_hop o box chain out = record {
-    box = box;
-    chain = chain;
-    view = call_view ∙ ap (λ xs. seeing behind.0.seen (hopped me.0 w xs)) out;
-    made = call_step;
-    on_floor = told.on_floor;
-  }
+  call_in_hop o box chain out = grind arith

@@ -68,10 +68,4 @@ module _ (floor : Description) (one : floor.chains ≡ 1) where
   pub of_queues : (s : State) (chain : List (QueueName × Turnstile)) → HasNames floor turnstiles chain
       → RepresentsQueues (config_in floor) chain (queue_in s) s.loan_home
       → RepresentsTurnstiles floor 0 chain (objects_in s)
-  of_queues s chain names queues = record { names = names; queue = each }
-    where
-      each : (q : QueueName) → StandsIn floor (TurnstileChain 0) q
-          → RepresentsQueue (head_of q chain) (queue_in s q) s.loan_home
-      each (Lock j) there =
-          queues.lock j.0 (stands_by (is_turnstile ((config_in floor).kind j.0)) (j.0 % floor.chains) 0 there)
-      each (Chan d) there = absurd (let z : SleepChain (d.0 % floor.chains) ≡ TurnstileChain 0 = there in cc)
+  of_queues s chain names queues = grind arith

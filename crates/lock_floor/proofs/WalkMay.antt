@@ -116,30 +116,7 @@ module _ (floor : Description) (v : Knowledge) where
 
   pub may_take_turnstiles : CanWalk floor v
       → MayMake floor v (λ s. item_with s turnstiles ≡ None) (TakesItem t turnstiles ∷ [])
-  may_take_turnstiles can s f home = (
-    record {
-      fits = record {
-        may = record {
-          thread = f.thread;
-          home = home;
-          together = λ k has. absurd (nothing_with floor v s f can.nothing_out k has);
-          orders = tt;
-        };
-        has_out = (
-          let one = can.one_chain in omega (arith, one),
-          of_no_round turnstiles (s.round t) (no_round_of s f can.no_round),
-        );
-        has_seen = tt;
-        asks_of_thread = record {
-          runs = inl (awake can.settled s f can.going);
-          owes = owes can.settled s f can.going;
-        };
-      };
-      keeps_order = λ _. no_wanted_round floor v s f can.no_round;
-      keeps_count = tt;
-    },
-    tt,
-  )
+  may_take_turnstiles can s f home = grind arith
 
   module _ (one : floor.chains ≡ 1) (settled : v.pose ≢ IsReady) (going : IsGoing v) where
     pub may_take_under : (o : ℕ) (x : Slot) → o < length floor.threads → v.share.doing.round ≡ None

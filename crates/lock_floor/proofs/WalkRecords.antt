@@ -33,14 +33,11 @@ use Rattle.lock_floor.specs.Latches.{IsOfKind, Takes}
 use Rattle.lock_floor.specs.Walks.{owner_of_head, turnstiles, turnstiles_place}
 use Rattle.lock_floor.proofs.Taking.{record_at}
 use Rattle.lock_floor.proofs.WalkChains.{turnstiles_at, lock_chain, all_queues}
+use Rattle.std.proofs.Common.{arith}
 
 -- a value of the chain has turnstiles
 pub a_chain : (y : Slot) → IsOfKind turnstiles y → (chain : List (QueueName × Turnstile)) × (y ≡ Turnstiles chain)
-a_chain (Turnstiles chain) is = (chain, refl)
-a_chain (Record b) is = absurd is
-a_chain (Cell value) is = absurd is
-a_chain (SleepQueues chain) is = absurd is
-a_chain (Graph b) is = absurd is
+a_chain e is = grind arith
 
 module _ (floor : Description) (one : floor.chains ≡ 1) where
   abbrev c : Config

@@ -9,6 +9,7 @@ use Rattle.floor_table.specs.Shares.{columns_of, share_in}
 use Rattle.floor_table.specs.Views.{Knowledge}
 use Rattle.floor_table.specs.declared.slot.Slot.{Slot}
 use Rattle.lock_floor.specs.Walks.{hopped}
+use Rattle.std.proofs.Common.{arith}
 
 -- 1. The thread's own
 
@@ -20,18 +21,12 @@ module _ (s : State) (v : Knowledge) (fit : RepresentsShare v.share s v.thread) 
       → w ≡ (after_lend c s v.thread l o h).walk v.thread
       → RepresentsShare (hopped v w out).share (after_lend c s v.thread l o h) v.thread
   unfolding after_lend
-  lend_own c l o h w out goes = record {
-    columns = λ i. record (its i) { doing = record (its i).doing { walk = goes i } };
-    held_once = fit.held_once;
-  }
+  lend_own c l o h w out goes = grind arith
 
   pub shift_own : (l o : ℕ) (w : Walk) (out : List (ℕ × Slot)) → w ≡ (after_shift s v.thread o l).walk v.thread
       → RepresentsShare (hopped v w out).share (after_shift s v.thread o l) v.thread
   unfolding after_shift
-  shift_own l o w out goes = record {
-    columns = λ i. record (its i) { doing = record (its i).doing { walk = goes i } };
-    held_once = fit.held_once;
-  }
+  shift_own l o w out goes = grind arith
 
   pub end_own : (out : List (ℕ × Slot))
       → RepresentsShare (hopped v NoWalk out).share (after_end_walk s v.thread) v.thread

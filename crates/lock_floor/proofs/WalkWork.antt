@@ -25,6 +25,7 @@ use Rattle.lock_floor.proofs.WalkEnd.{Ended, end_allowed}
 use Rattle.lock_floor.proofs.WalkLend.{Lent, lend_allowed}
 use Rattle.lock_floor.proofs.WalkMay.{may_end_at_thread}
 use Rattle.lock_floor.proofs.WalkSort.{Shifted, shift_allowed}
+use Rattle.std.proofs.Common.{arith}
 
 -- the seat knows what it knew
 abbrev hop_behind : (floor : Description) (o : ℕ) (v w : Knowledge) → w ≡ v → InHop floor o v → InHop floor o w
@@ -72,12 +73,7 @@ module _ (floor : Description) (me : Me Slot Knowledge) (l o own at : ℕ) (may 
 
   pub lend_before : (b : Box ThreadRec Global) × (c : List (QueueName × Turnstile))
       × (me.1 ≡ (own, Record b) ∷ (at, Turnstiles c) ∷ []) × IsSomeAnd (head_of (lock_queue l) c) (CanHop l b.value)
-  lend_before = (
-    box,
-    chain,
-    lend_out_is,
-    subst (λ (x : Option Turnstile). IsSomeAnd x (CanHop l box.value)) (sym may.head) may.can,
-  )
+  lend_before = grind arith
 
   module _ (worked : Me Slot Knowledge) (view : worked.0 ≡ me.0) (walk : run_time.Walk)
       (outs : LentOut floor l own at walk me worked) where

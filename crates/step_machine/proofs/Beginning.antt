@@ -66,9 +66,7 @@ new_pushed decls ths n th d long at new each t u e is_u is_e =
 
 -- whom nobody took off is of any kind
 no_kind : (c : Config) (q : QueueName) (marked : Marked) → places_of marked ≡ [] → AreOfKind c marked q
-no_kind c q (Waiters ps) none = λ some. absurd (some none)
-no_kind c q (Sleepers ps) none = λ some. absurd (some none)
-no_kind c q (AbortedSleepers ps) none = λ some. absurd (some none)
+no_kind c q e none = grind arith
 
 -- what a new thread shows
 shown : (plan : Plan) (t : ℕ) (th : Thread) (d : ThreadDecl) → slice_get plan.threads t ≡ Some d → IsNew t d.base.0 th → RepresentsThread th (config_of plan) (start_state (config_of plan)) t

@@ -37,6 +37,7 @@ use Rattle.lock_objects.specs.declared.wait.Wait.TheVariants as wait
 use Rattle.step_machine.specs.Represents.{Represents, RepresentsWords, thread_in}
 use Rattle.step_machine.specs.Steps.{enters}
 use Rattle.step_machine.proofs.Kit.{OthersStay, thread_changed, word_changed, record_of, shown_by}
+use Rattle.std.proofs.Common.{arith}
 
 -- 1. A thread is made ready
 
@@ -117,17 +118,14 @@ module _ {m : Machine} {c : Config} {s : State} {t d x : ℕ} (h : Represents c 
 
 -- a walk begins where the columns say
 walk_begins : (l : ℕ) (o : Option ℕ) → walk_of (hops.walk_up l (is_some o)) ≡ walk_up l o
-walk_begins l None = refl
-walk_begins l (Some t) = refl
+walk_begins l e = grind arith
 
 pub seen_is : {A : Type 0} (f : A → ℕ) (o : Option A) → is_some o ≡ is_some (option_map f o)
-seen_is f None = refl
-seen_is f (Some x) = refl
+seen_is f e = grind arith
 
 -- mutexes and rw locks have turnstiles
 pub has_turnstile : (kind : Kind) → (kind ≡ Mtx) ⊎ (kind ≡ Rw) → is_turnstile kind ≡ true
-has_turnstile kind (inl e) = ap is_turnstile e
-has_turnstile kind (inr e) = ap is_turnstile e
+has_turnstile kind e = grind arith
 
 -- what it asks on either kind of queue
 pub record IsBusy (c : Config) (s : State) (t l : ℕ) : Type 0 where

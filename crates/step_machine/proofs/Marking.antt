@@ -24,6 +24,7 @@ use Rattle.lock_objects.specs.declared.wait.Wait.TheVariants as wait
 use Rattle.step_machine.specs.Represents.{Represents, RepresentsThread, RepresentsThreads, thread_in}
 use Rattle.step_machine.specs.Steps.{KeepsProgress}
 use Rattle.step_machine.proofs.Kit.{OthersStay, thread_changed, read, aside_stays, shown_by}
+use Rattle.std.proofs.Common.{arith}
 
 -- the thread with another marked list
 abbrev pub with_marked : Thread → Marked → Thread
@@ -41,28 +42,20 @@ is_waiter (Sleeper b) = false
 is_waiter (AbortedSleeper b) = false
 
 places_like : (w : Woken) (ps : List Place) → places_of (like w ps) ≡ ps
-places_like (Waiter b) ps = refl
-places_like (Sleeper b) ps = refl
-places_like (AbortedSleeper b) ps = refl
+places_like e ps = grind arith
 
 cause_like : (w : Woken) (ps : List Place) → cause_in (like w ps) ≡ cause_by w
-cause_like (Waiter b) ps = refl
-cause_like (Sleeper b) ps = refl
-cause_like (AbortedSleeper b) ps = refl
+cause_like e ps = grind arith
 
 not_empty : (p : Place) (ps : List Place) → p ∷ ps ≡ [] → ⊥
 not_empty p ps z = absurd (cc)
 
 -- where some are there, they are of the queue's kind
 of_queue : (c : Config) (q : QueueName) (w : Woken) (p : Place) (ps : List Place) → AreOfKind c (like w (p ∷ ps)) q → is_turnstile_queue c q ≡ is_waiter w
-of_queue c q (Waiter b) p ps h = h (not_empty p ps)
-of_queue c q (Sleeper b) p ps h = h (not_empty p ps)
-of_queue c q (AbortedSleeper b) p ps h = h (not_empty p ps)
+of_queue c q e p ps h = grind arith
 
 of_kind : (c : Config) (q : QueueName) (w : Woken) (ps : List Place) → is_turnstile_queue c q ≡ is_waiter w → AreOfKind c (like w ps) q
-of_kind c q (Waiter b) ps k = λ _. k
-of_kind c q (Sleeper b) ps k = λ _. k
-of_kind c q (AbortedSleeper b) ps k = λ _. k
+of_kind c q e ps k = grind arith
 
 -- whose record names the queue has its object out
 is_out : (c : Config) (s : State) (u : ℕ) (q : QueueName) (w : Woken) (r : Record) → Lawful c s → s.blocked_on u ≡ Some q → is_turnstile_queue c q ≡ is_waiter w
@@ -73,8 +66,7 @@ is_out c s u q (AbortedSleeper b) r lawful e k x y = y ∙ asleep_out c s u q la
 
 -- the object of a place that has one
 its_object : (o : Option ℕ) → IsSome o → o ≡ Some (unwrap_or o 0)
-its_object None h = absurd (cc)
-its_object (Some x) h = refl
+its_object e h = grind arith
 
 -- 2. Two changes of the state: the marked list is shorter, and its first is woken
 

@@ -118,9 +118,7 @@ by_sleep_queue t l mode kind k = ap (λ b. cond b (Opens t l mode) (OpensSleepQu
 
 -- a word that is held isn't free
 held_busy : (x : Holder) (mode : Mode) → IsHeldIn x mode → is_free x ≡ false
-held_busy Free mode e = absurd e
-held_busy (HeldBy u) mode e = refl
-held_busy (SharedBy n) mode e = refl
+held_busy f mode e = grind arith
 
 module _ {c : Config} {s : State} {t l : ℕ} {mode : Mode} {kind : Kind} (lawful : Lawful c s) (g : IsLastHolder c s t l mode) (its_kind : kind ≡ c.kind l) (w : ℕ) (read : word_of w ≡ s.word l) where
   -- the word that is read

@@ -29,6 +29,7 @@ use Rattle.witness_orders.specs.Graph.{RepresentsGraph}
 use Rattle.step_machine.specs.Represents.{Represents, RepresentsWords, RepresentsThread, RepresentsThreads, thread_in, thread_of}
 use Rattle.step_machine.specs.Steps.{progress_of}
 use Rattle.step_machine.proofs.Kit.{OthersStay, thread_changed, record_of, aside_stays}
+use Rattle.std.proofs.Common.{arith}
 
 -- 1. The thread
 
@@ -58,8 +59,7 @@ base_set e o p r given is = ap (λ b. with_given_base b r) (sym (ap (option_map 
 
 pub no_base_set : (e : Event) (o : Option Prio) (r : Record) → option_map (λ q. q.0) o ≡ new_base e
     → ((p : Prio) → o ≡ Some p → ⊥) → r ≡ with_given_base (new_base e) r
-no_base_set e None r given none = ap (λ b. with_given_base b r) given
-no_base_set e (Some p) r given none = absurd (none p refl)
+no_base_set e f r given none = grind arith
 
 module _ (c : Config) (s : State) (t : ℕ) where
   others : (e : Event) → OthersStay s (after_stamp c s t e) t

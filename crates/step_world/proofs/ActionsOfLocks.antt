@@ -131,12 +131,7 @@ module _ (c : Config) (s : State) (t l : ℕ) (mode : Mode) where
   -- which makes no entry,
   pub back_keeps_log : (after c s (back_in c s t l mode).1).log t ≡ s.log t
   unfolding after_drop after_open after_open_sleep
-  back_keeps_log = go (is_drop (s.word l)) (is_turnstile (c.kind l))
-    where
-      go : (b k : Bool) → (after c s (cond {A = StepKind × Step} b (kinds.Drop, Drops t l mode) (kinds.OpenUp, cond k (Opens t l mode) (OpensSleepQueue t l mode))).1).log t ≡ s.log t
-      go true k = refl
-      go false true = refl
-      go false false = refl
+  back_keeps_log = grind arith
 
   -- takes the lock off the list of those that are held,
   pub back_lists : (after c s (back_in c s t l mode).1).held_locks t ≡ without_held l (s.held_locks t)
@@ -151,12 +146,7 @@ module _ (c : Config) (s : State) (t l : ℕ) (mode : Mode) where
   -- and is of this lock alone
   pub back_puts : (after c s (back_in c s t l mode).1).held ≡ put_at s.held t l NotHeld
   unfolding after_drop after_open after_open_sleep
-  back_puts = go (is_drop (s.word l)) (is_turnstile (c.kind l))
-    where
-      go : (b k : Bool) → (after c s (cond {A = StepKind × Step} b (kinds.Drop, Drops t l mode) (kinds.OpenUp, cond k (Opens t l mode) (OpensSleepQueue t l mode))).1).held ≡ put_at s.held t l NotHeld
-      go true k = refl
-      go false true = refl
-      go false false = refl
+  back_puts = grind arith
 
   -- the mode is the one that was read of the thread
   pub mode_read : {m : Machine} {th : Thread} {read : Mode} → Represents c m s → slice_get m.threads.items t ≡ Some th → read ≡ mode_held (hold_in th.held.items l) → MayGiveBack c s t l mode → mode ≡ read

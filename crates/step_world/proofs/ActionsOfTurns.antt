@@ -32,8 +32,7 @@ use Rattle.step_world.proofs.Ends.{ends_as_said, aside_is}
 use Rattle.step_world.proofs.Turning.{Begins, begins, still}
 
 none_where_empty : {A : Type 0} (xs : List A) → is_empty xs ≡ true → xs ≡ []
-none_where_empty [] e = refl
-none_where_empty (x ∷ xs) e = absurd cc
+none_where_empty f e = grind arith
 
 -- the thread that was read at the place of a number
 pub here : {plan : Plan} {m : Machine} {r : Run} {t i : ℕ} {th : Thread} → IsRunOf plan m r → t < length plan.threads → i ≡ t → th ≡ get_or m.threads.items i th → slice_get m.threads.items t ≡ Some th

@@ -41,6 +41,7 @@ use Rattle.step_machine.specs.Runs.{IsAsFar}
 use Rattle.step_world.proofs.AsFar.{waits_behind, cut_behind, awake_behind, that_is}
 use Rattle.step_world.proofs.Turning.{has_room, may_next, IsTurning, Begins, begins, made, made_behind, stays}
 use Rattle.step_world.proofs.ActionsOfLocks.{is_take, given, kind_is, back_keeps_log, back_puts}
+use Rattle.std.proofs.Common.{arith}
 
 -- the entry of a wake
 abbrev pub noting : ChanNo → Bool → ℕ → Event
@@ -50,12 +51,10 @@ noting d false woken = event.WokeOne d woken
 -- 1. What is read of a wait
 
 some_is : {A : Type 0} (o : Option A) → is_some o ≡ true → (x : A) × (o ≡ Some x)
-some_is None e = absurd cc
-some_is (Some x) e = (x, refl)
+some_is f e = grind arith
 
 none_is : {A : Type 0} (o : Option A) → is_some o ≡ false → o ≡ None
-none_is None e = refl
-none_is (Some x) e = absurd cc
+none_is f e = grind arith
 
 module _ {plan : Plan} {m : Machine} {r : Run} {th : Thread} (t : ℕ) (h : IsRunOf plan m r) (is : slice_get m.threads.items t ≡ Some th) where
   chan_read : option_map (λ (d : ChanNo). d.0) th.waits_on ≡ waits_on (r.state.log t)

@@ -20,19 +20,18 @@ use Rattle.run_laws.proofs.Actions as actions
 use Rattle.step_machine.specs.Steps.{Progress}
 use Rattle.step_machine.specs.Runs.{IsAsFar, held_at}
 use Rattle.step_world.specs.Runs.{IsBehind}
+use Rattle.std.proofs.Common.{arith}
 
 -- 1. A value that there is
 
 pub that_is : {A : Type 0} {P : A → Type 0} (o : Option A) → IsSomeAnd o P → (x : A) × (o ≡ Some x) × P x
-that_is None h = absurd h
-that_is (Some x) h = (x, refl, h)
+that_is e h = grind arith
 
 pub is_such : {A : Type 0} (P : A → Type 0) {o : Option A} (x : A) → o ≡ Some x → P x → IsSomeAnd o P
 is_such P x e h = subst (λ o. IsSomeAnd o P) (sym e) h
 
 pub so_is : {A : Type 0} {P Q : A → Type 0} (o : Option A) → ((x : A) → P x → Q x) → IsSomeAnd o P → IsSomeAnd o Q
-so_is None f h = h
-so_is (Some x) f h = f x h
+so_is e f h = grind arith
 
 -- 2. What says how far a thread is
 
@@ -85,13 +84,11 @@ cut_behind c s t e = ap has_reversal (put_same s.log t (entry_of s t e ∷ s.log
 
 -- a running thread's entry is not that it goes to sleep
 pub runs_on : (c : Config) (s : State) (t : ℕ) (e : Event) → MayStamp c s t e → s.wait t ≡ Running → fell_asleep (of_sleep e) ≡ None
-runs_on c s t (event.Sleeps d) g w = absurd (let z : Running ≡ Queued = sym w ∙ g.asks.queued in cc)
-runs_on c s t other g w = refl
+runs_on c s t other g w = grind arith
 
 -- and where it has nothing to note it isn't the refusal of a take
 none_refused : (c : Config) (s : State) (t : ℕ) (e : Event) → MayStamp c s t e → s.noted t ≡ None → is_reversal e ≡ false
-none_refused c s t (event.Reversed l held) g none = absurd (none-some (OrderRefused l.0 held.0) (sym none ∙ g.asks))
-none_refused c s t other g none = refl
+none_refused c s t other g none = grind arith
 
 -- so it is awake
 pub awake_behind : (c : Config) (s : State) (t : ℕ) (e : Event) → MayStamp c s t e → s.wait t ≡ Running → s.noted t ≡ None → was_cut s t ≡ false → IsAwake (after c s (Stamps t e)) t

@@ -24,6 +24,7 @@ use Rattle.step_machine.specs.Threads.{has_no_walk, thread_has_ended}
 use Rattle.step_machine.specs.Steps.{progress_of}
 use Rattle.step_world.specs.Runs.{IsRunOf}
 use Rattle.step_machine.specs.Runs.{IsAsFar}
+use Rattle.std.proofs.Common.{arith}
 
 -- 1. What is held
 
@@ -52,13 +53,10 @@ none_where_empty plan (h ∷ hs) a =
 -- 2. What is owed
 
 pub no_walk : (w : walks.Walk) → has_no_walk w ≡ not (is_walking (walk_of w))
-no_walk walk.None = refl
-no_walk (walk.AtLock l) = refl
-no_walk (walk.AtThread t) = refl
+no_walk e = grind arith
 
 pub same_empty : {A B : Type 0} (f : A → B) (xs : List A) → is_empty xs ≡ is_empty (map f xs)
-same_empty f [] = refl
-same_empty f (x ∷ xs) = refl
+same_empty f e = grind arith
 
 -- where no release is owed, neither of the two others is
 neither : (b c d : Bool) → (not b && c && d) ≡ (not (b || not c || false) && d)

@@ -28,13 +28,11 @@ use Rattle.lock_objects.specs.Represents.{RepresentsQueue, RepresentsSleepQueue,
 
 -- the line of a queue is that of the turnstile that is lent to its lock,
 turnstile_line : (chains : ℕ) (s : State) (q : QueueName) (n : ℕ) (o : Option Turnstile) → RepresentsQueue o (queue_in s q) s.loan_home → line_at q (n % chains) o ≡ line_of_queue chains s q n (s.head q)
-turnstile_line chains s q n None h = ap (line_of_queue chains s q n) (sym h)
-turnstile_line chains s q n (Some t) h = rw (ap (λ v. v.head) h.queue, ap (λ v. v.lists) h.queue, ap (λ v. v.free_list) h.queue) refl
+turnstile_line chains s q n e h = grind arith
 
 -- or of the sleep queue that is lent to the lock or channel
 sleepers_line : (chains : ℕ) (s : State) (q : QueueName) (n : ℕ) (o : Option SleepQueue) → RepresentsSleepQueue o (sleepers_in s q) → line_at q (n % chains) o ≡ line_of_queue chains s q n (s.head q)
-sleepers_line chains s q n None h = ap (line_of_queue chains s q n) (sym h)
-sleepers_line chains s q n (Some t) h = rw (ap (λ v. v.head) h, ap (λ v. v.lists) h, ap (λ v. v.free_list) h) refl
+sleepers_line chains s q n e h = grind arith
 
 module _ (plan : Plan) (chains : ℕ) (m : Machine) (r : Run) (h : RepresentsRun plan m r) where
   abbrev c : Config
@@ -42,10 +40,7 @@ module _ (plan : Plan) (chains : ℕ) (m : Machine) (r : Run) (h : RepresentsRun
 
   -- the kind of a lock says which of the two
   lock_line : (l : ℕ) → line_of_lock chains m (c.kind l) l ≡ line_of_queue chains r.state (lock_queue l) l (r.state.head (lock_queue l))
-  lock_line l = elim (cases_Bool (is_turnstile (c.kind l))) [
-    | inl e ↦ rw e (turnstile_line chains r.state (lock_queue l) l (head_of (lock_queue l) m.chain) (h.shows.queues.lock l e))
-    | inr e ↦ rw e (sleepers_line chains r.state (lock_queue l) l (head_of (lock_queue l) m.sleepers) (h.shows.sleepers.queue (lock_queue l) e))
-  ]
+  lock_line l = grind arith
 
   channel_line : (d : ℕ) → line_at (chan_queue d) (d % chains) (head_of (chan_queue d) m.sleepers) ≡ line_of_queue chains r.state (chan_queue d) d (r.state.head (chan_queue d))
   channel_line d = sleepers_line chains r.state (chan_queue d) d (head_of (chan_queue d) m.sleepers) (h.shows.sleepers.queue (chan_queue d) refl)

@@ -10,14 +10,14 @@ use Rattle.step_machine.specs.declared.machine.Machine.{Machine}
 use Rattle.step_machine.specs.declared.thread.Thread.{Thread}
 use Rattle.step_world.specs.Runs.{IsRunOf}
 use Rattle.step_world.proofs.Ends.{no_walk, same_empty}
+use Rattle.std.proofs.Common.{arith}
 
 not_not : (b : Bool) → not (not b) ≡ b
 not_not true = refl
 not_not false = refl
 
 some_mapped : {A B : Type 0} (f : A → B) (o : Option A) → is_some o ≡ is_some (option_map f o)
-some_mapped f None = refl
-some_mapped f (Some x) = refl
+some_mapped f e = grind arith
 
 module _ {plan : Plan} {m : Machine} {r : Run} {th : Thread} (t : ℕ) (h : IsRunOf plan m r)
     (is : slice_get m.threads.items t ≡ Some th) where

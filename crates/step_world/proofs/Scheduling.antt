@@ -66,31 +66,16 @@ round_is plan r bits few same =
     ∙ append-nil (filter q (range_with_len 0 n))
 
 as_before : (t u : ℕ) → (t ≡ u → ⊥) → ltb u t ≡ ltb u (t + 1)
-as_before t u ne = elim (cases_lt u t) [
-  | inl l ↦ lt-ltb u t l ∙ sym (lt-ltb u (t + 1) (omega (arith, l)))
-  | inr l ↦ le-ltb u t l ∙ sym (le-ltb u (t + 1) (omega (arith, l, ne)))
-]
+as_before t u ne = grind arith
 
 -- one more thread is in the set of those who haven't ended, or not
 pub goes_more : (ended : ℕ → Bool) (t u : ℕ) → ended t ≡ false
     → (eqb t u || (ltb u t && not (ended u))) ≡ (ltb u (t + 1) && not (ended u))
-goes_more ended t u runs = elim (cases_eq t u) [
-  | inl e ↦
-      let here : not (ended u) ≡ true = ap (λ (v : ℕ). not (ended v)) (sym e) ∙ ap not runs in
-      ap (λ (b : Bool). b || (ltb u t && not (ended u))) (eq-eqb t u e)
-      ∙ sym (ap₂ (λ (a b : Bool). a && b) (lt-ltb u (t + 1) (omega (arith, e))) here)
-  | inr ne ↦ ap (λ (b : Bool). b || (ltb u t && not (ended u))) (ne_eqb t u ne)
-      ∙ ap (λ (b : Bool). b && not (ended u)) (as_before t u ne)
-]
+goes_more ended t u runs = grind arith
 
 pub goes_no_more : (ended : ℕ → Bool) (t u : ℕ) → ended t ≡ true
     → (ltb u t && not (ended u)) ≡ (ltb u (t + 1) && not (ended u))
-goes_no_more ended t u over = elim (cases_eq t u) [
-  | inl e ↦
-      let gone : not (ended u) ≡ false = ap (λ (v : ℕ). not (ended v)) (sym e) ∙ ap not over in
-      and_right (ltb u t) (not (ended u)) gone ∙ sym (and_right (ltb u (t + 1)) (not (ended u)) gone)
-  | inr ne ↦ ap (λ (b : Bool). b && not (ended u)) (as_before t u ne)
-]
+goes_no_more ended t u over = grind arith
 
 -- 3. Who still comes
 
@@ -205,8 +190,7 @@ module _ {world : World} {schedule : List ThreadNo} (plan : Plan) (round : ℕ) 
 
 -- nobody comes any more
 pub none_comes : (ts : List ℕ) → is_empty ts ≡ true → ts ≡ []
-none_comes [] e = refl
-none_comes (t ∷ ts) e = absurd cc
+none_comes f e = grind arith
 
 -- then the first of a round has its turn,
 pub round_begins : (plan : Plan) (k : run.Course) → k.coming ≡ [] → with_turn plan k.run (round_of plan k.run) true ≡ after_turn plan k k.coming
@@ -214,11 +198,7 @@ round_begins plan k e = ap (after_turn plan k) (sym e)
 
 -- and else the first that comes
 pub one_comes : (plan : Plan) (k : run.Course) → is_empty k.coming ≡ false → with_turn plan k.run k.coming k.idle ≡ after_turn plan k k.coming
-one_comes plan k e = go k.coming e
-  where
-    go : (ts : List ℕ) → is_empty ts ≡ false → with_turn plan k.run ts k.idle ≡ after_turn plan k ts
-    go [] e = absurd cc
-    go (t ∷ ts) e = refl
+one_comes plan k e = grind arith
 
 -- where not all have ended, somebody comes
 pub somebody_comes : (plan : Plan) (k : run.Course) → is_over plan k ≡ false → is_empty (k.coming ++ round_of plan k.run) ≡ false
@@ -250,23 +230,11 @@ module _ (plan : Plan) (course : Course) (k : run.Course) (same : course.world.p
   }
 
   pub still_ready : IsCourse course k → is_empty k.coming ≡ false → IsReady plan course k
-  still_ready h some = record {
-    from = k;
-    is_course = h;
-    makes = ap (λ (p : Plan). with_turn p k.run k.coming k.idle) same ∙ one_comes plan k some;
-    first = ap (λ (p : Plan). first_turn p k.run k.coming) same ∙ go k.coming some;
-    some = some;
-  }
-    where
-      go : (ts : List ℕ) → is_empty ts ≡ false → first_turn plan k.run ts ≡ first_turn plan k.run (ts ++ round_of plan k.run)
-      go [] e = absurd cc
-      go (t ∷ ts) e = refl
+  still_ready h some = grind arith
 
 -- somebody who comes has a turn
 pub one_made : (plan : Plan) (r : Run) (ts : List ℕ) (made : Option (ThreadNo × Turn)) → is_empty ts ≡ false → turn_seen made ≡ first_turn plan r ts → is_none made ≡ false
-one_made plan r [] made some e = absurd cc
-one_made plan r (t ∷ ts) None some e = absurd cc
-one_made plan r (t ∷ ts) (Some m) some e = refl
+one_made plan r f made some e = grind arith
 
 -- 6. Turns of those who sleep
 

@@ -165,11 +165,7 @@ has_at bits t = ap (λ n. eqb n 1) (shr_and_one bits t)
 
 one_digit : (d : ℕ) → d < 2 → ones d ≡ length {A = ℕ} (cond (eqb d 1) (0 ∷ []) [])
 unfolding ones ones_in
-one_digit d l = elim (cases_eq d 0) [
-  | inl e ↦ subst (λ (x : ℕ). ones x ≡ length {A = ℕ} (cond (eqb x 1) (0 ∷ []) [])) (sym e) refl
-  | inr ne ↦ let is : d ≡ 1 = omega (arith, l, ne) in
-      subst (λ (x : ℕ). ones x ≡ length {A = ℕ} (cond (eqb x 1) (0 ∷ []) [])) (sym is) refl
-]
+one_digit d l = grind arith
 
 same_length : (b : Bool) (i j : ℕ) → length {A = ℕ} (cond b (i ∷ []) []) ≡ length {A = ℕ} (cond b (j ∷ []) [])
 same_length true i j = refl
@@ -194,8 +190,7 @@ number_below bits (suc k) =
 -- 5. Those who stand before the first that another set doesn't have
 
 is_zero : (n : ℕ) → n < 2 → eqb n 1 ≡ false → n ≡ 0
-is_zero n l e = elim (cases_eq n 1)
-    [ inl i ↦ absurd (let z : true ≡ false = sym (eq-eqb n 1 i) ∙ e in cc) | inr ne ↦ omega (arith, l, ne) ]
+is_zero n l e = grind arith
 
 module _ (old passed mask : ℕ) (below : IsBelow (bit_and old (bit_not w32 passed)) mask) (small : passed < 2 ^ 32) where
   abbrev front : ℕ

@@ -79,5 +79,4 @@ module _ (c : Config) (s : State) (h : Lawful c s) (t : ℕ) where
 pub lines_told : {E : Type 0} (result : Result (Vec QueueLine) E) (w : worlds.World) (lines : List text.QueueLine)
     → IfOk result (λ v. map line_seen v.items ≡ lines) → ((r : Run) → worlds.Represents w r → lines ≡ queue_lines w.chains (config_of w.plan) r.state)
     → IfOk result (λ v. (r : Run) → worlds.Represents w r → map line_seen v.items ≡ queue_lines w.chains (config_of w.plan) r.state)
-lines_told (Ok v) w lines e same = λ r h. e ∙ same r h
-lines_told (Err x) w lines e same = tt
+lines_told f w lines e same = grind arith

@@ -71,12 +71,7 @@ of_method {c} f makes moves books = record { makes = makes c; moves = moves; roo
 
 -- it may change not at all,
 unmoved : (m n : Machine) (t : ℕ) → KeepsProgress m n → ChangesProgress m n t (λ a. a)
-unmoved m n t h u = h u ∙ go (u == t) (progress m u)
-  where
-    go : (b : Bool) (o : Option Progress) → o ≡ cond b (option_map (λ a. a) o) o
-    go true None = refl
-    go true (Some a) = refl
-    go false o = refl
+unmoved m n t h u = grind arith
 
 pub of_step : {c : Config} {m n : Machine} {t : ℕ} {step : Step} → Makes m n step → KeepsProgress m n → KeepsBooks m n → StepMade c m n t step (λ a. a)
 of_step {c} {m} {n} {t} makes kept books = of_method (λ a. a) makes (unmoved m n t kept) books
@@ -117,12 +112,7 @@ module _ (m n : Machine) where
   same_keys plan same h l key i = subst (λ ps. Contains ps (l, key)) (sym same.places) (h l key i)
 
 moved : {plan : Plan} {r : Run} {t : ℕ} {m n : Machine} {a : Progress} (f : Progress → Progress) → IsUnderWay plan r t m a → ChangesProgress m n t f → SameRoom m n → IsUnderWay plan r t n (f a)
-moved {plan} {r} {t} {m} {n} f h moves same = record {
-  own = own_moved m n t f moves h.own;
-  others = λ u l ne. subst (λ o. IsSomeAnd o (IsAsFar plan r u)) (sym (other_moved m n t f moves u ne)) (h.others u l ne);
-  room = same_room m n plan same h.room;
-  keys = same_keys m n plan same h.keys;
-}
+moved {plan} {r} {t} {m} {n} f h moves same = grind arith
 
 -- 5. A turn under way
 
@@ -210,11 +200,7 @@ has_room_cut {plan} {r} {t} {m} p lt h cut some =
 -- a turn that does nothing
 pub still : (plan : Plan) (r : Run) (t : ℕ) {m : Machine} (answer : Turn) → turn_of plan r t ≡ nothing answer → RepresentsRun plan m r → IsTurn plan r t m answer
 unfolding run_behind
-still plan r t {m} answer e h = (
-  sym (ap (λ (x : Action). x.answer) e),
-  subst (λ (x : Action). RepresentsRun plan m (run_after plan r t x)) (sym e)
-      h,
-)
+still plan r t {m} answer e h = grind arith
 
 -- the action is made, and the thread is as far as the run behind it says, before it goes on
 pub made : {plan : Plan} {r : Run} {t : ℕ} {m n : Machine} {steps : List Step} {a : Progress} (result : Made)
@@ -261,8 +247,7 @@ module _ (plan : Plan) (r : Run) (t : ℕ) (m : Machine) (result : Made) (h : Is
   -- what represents the state behind it
   shown : (w : Machine) → Represents (config_of plan) w (after_all (config_of plan) r.state h.steps) → Represents (config_of plan) w n.state
   unfolding run_behind
-  shown w x = subst (λ (action : Action). Represents (config_of plan) w
-      (after_all (config_of plan) r.state action.steps)) (sym h.action) x
+  shown w x = grind arith
 
   -- the other threads are as far as the run behind it says
   others : (u : ℕ) → u < length plan.threads → u ≢ t → IsSomeAnd (progress m u) (IsAsFar plan n u)
