@@ -2,6 +2,8 @@ mod Channels
 pub mod Cuts
 mod Digits
 mod FirstWords
+pub mod GeneratedPlans
+pub mod Generating
 mod LastHeld
 mod LineStages
 mod OpenBlocks

@@ -3,3 +3,4 @@ pub mod Statements
 pub mod OpenThreads
 pub mod Readers
 pub mod Meanings
+pub mod Generator

@@ -9,6 +9,7 @@
 //! - `fault` is the codes and the errors; other scripts, as those of ticks, have of them what they need.
 //! - `meaning` says what each code means.
 //! - `writer` writes a plan's canonical text.
+//! - `generator` makes plans of numbers. They are proper and ordered, and their only edits are adds.
 #![tactic(auto)]
 
 ghost use Rattle.std.specs.Prelude.{◌≡◌, ℕ, List, IfOk, IfErr};
@@ -17,6 +18,7 @@ ghost use Rattle.lock_model.specs.Script.{IsAccepted, IsFaulty};
 ghost use Rattle.script_read.specs.Reading.{Refuses};
 
 mod fault;
+mod generator;
 mod lines;
 mod meaning;
 mod numbers;
@@ -26,6 +28,7 @@ mod words;
 mod writer;
 
 pub use fault::{Code, ReadError, ScriptFault, test};
+pub use generator::{gen_plan, generated_plans_are_ordered};
 pub use lines::{split_at_byte, split_judged, split_line};
 use lock_model::Plan;
 pub use meaning::meaning_of;
