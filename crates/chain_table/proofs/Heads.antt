@@ -30,16 +30,6 @@ module _ {H : Type 0} (name_of : H → Option QueueName) where
   pub named_rest : (h : H) (hs : List H) → IsNamed name_of (entries_of name_of (h ∷ hs)) → IsNamed name_of (entries_of name_of hs)
   named_rest h hs n = All-tail (λ e. name_of e.1 ≡ Some e.0) (entry_of name_of h) (entries_of name_of hs) n
 
-  -- ---- the first head has the name that is sought
-  is_queue_found : (q : QueueName) (h : H) → name_of h ≡ Some q → is_queue q (entry_of name_of h).0 ≡ true
-  is_queue_found q h e = (Decides-is_queue q (entry_of name_of h).0).1 (sym (ap (λ (o : Option QueueName). unwrap_or o q) e) ∙ rw e refl)
-
-  pub head_of_found : (q : QueueName) (h : H) (hs : List H) → name_of h ≡ Some q → head_of q (entries_of name_of (h ∷ hs)) ≡ Some h
-  head_of_found q h hs e = lookup_head (is_queue q) (entry_of name_of h) (entries_of name_of hs) (is_queue_found q h e)
-
-  pub without_found : (q : QueueName) (h : H) (hs : List H) → name_of h ≡ Some q → without q (entries_of name_of (h ∷ hs)) ≡ entries_of name_of hs
-  without_found q h hs e = rw (is_queue_found q h e) refl
-
   -- ---- it has another
   is_queue_passed : (q : QueueName) (h : H) → name_of h ≡ Some (entry_of name_of h).0 → (name_of h ≡ Some q → ⊥) → is_queue q (entry_of name_of h).0 ≡ false
   is_queue_passed q h named other = not_true _ (λ t. other (named ∙ ap Some (sym ((Decides-is_queue q (entry_of name_of h).0).0 t))))

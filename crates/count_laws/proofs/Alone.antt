@@ -103,12 +103,6 @@ module _ (c : Config) (s : State) (l : Lawful c s) (h : Counted c s) (t : ℕ) w
       go Queued e = let z = ap one (ap is_woken e) in omega (arith, counters)
       go (Woken q cause) e = let z = ap one (ap is_woken e) in omega (arith, woken_none (ap is_woken e))
 
-  -- the term, as the countings give it
-  pub term_is : suc (times_counted_in c s.counted_in t) ≡ s.counted_out t + own_term (s.phase t) + wakes_under_way c
-      s.wait s.counting t
-  unfolding TermsFitParking
-  term_is = h.terms_fit_parking t
-
 -- so no more than two for each thread are awake
 own_few : (p : Phase) → own_term p ≤ 1
 own_few p = grind arith

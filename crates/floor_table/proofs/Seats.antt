@@ -19,11 +19,6 @@ total_set f [] i v w e = absurd (some-ne-none v (sym e))
 total_set f (x ∷ xs) zero v w e = let p : f x ≡ f v = ap f (some-injective x v e) in omega arith
 total_set f (x ∷ xs) (suc i) v w e = let p = total_set f xs i v w e in omega arith
 
-pub total_at : (f : Knowledge → ℕ) (vs : List Knowledge) (i : ℕ) (v : Knowledge) → get_elem? vs i ≡ some v → f v ≤ total f vs
-total_at f [] i v e = absurd (some-ne-none v (sym e))
-total_at f (x ∷ xs) zero v e = let p : f x ≡ f v = ap f (some-injective x v e) in omega arith
-total_at f (x ∷ xs) (suc i) v e = let p = total_at f xs i v e in omega arith
-
 -- 2. Whose seat it is
 
 -- a share is known by the columns of its thread alone

@@ -127,8 +127,6 @@ module _ (floor : Description) (v a : Knowledge) (mine : v.description ≡ floor
 
       module _ (g : Knowledge) (home : g ≡ seeing g.seen (gave e (RecordOf v.thread)))
           (give_step : Makes floor (GivesItem e.thread (RecordOf v.thread) ∷ []) e g) where
-        g_thread : g.thread ≡ v.thread
-        g_thread = ap (λ (k : Knowledge). k.thread) home ∙ e_thread
 
         g_out : g.out ≡ []
         g_out = ap (λ (k : Knowledge). k.out) home ∙ ap rest e_out
@@ -331,10 +329,6 @@ pub record EndsSince (floor : Description) (begun v : Knowledge) : Type 0 where
   pub bare : v.share.held ≡ []
   pub kept : kept_of v ≡ kept_of begun
   pub whole_then : (new : Knowledge) → EndsItself floor v new → EndsItself floor begun new
-
-pub begins_ending : (floor : Description) (v : Knowledge) → IsAtRest floor v → v.share.held ≡ []
-    → EndsSince floor v v
-begins_ending floor v h bare = record { at = h; bare = bare; kept = refl; whole_then = λ new x. x }
 
 -- what stays where it has ended
 abbrev when_ended : Kept → Kept

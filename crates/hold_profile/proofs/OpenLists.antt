@@ -95,17 +95,6 @@ sections_below c n (e ∷ es) h = go (begins c e.event) (sections_below c n es r
         All-cons (IsBelow n) _ (sections_of c es)
         (record { begin = All-head P e es h; end = find_in P (ends_section c e.thread.0 l) es rest }) k
 
--- the threads of sections are those of entries
-pub sections_threads : (c : Config) (n : ℕ) (es : List Entry) → All (λ (e : Entry). e.thread.0 < n) es
-    → All (λ (s : Section). s.begin.thread.0 < n) (sections_of c es)
-unfolding sections_of
-sections_threads c n [] h = All-nil (λ (s : Section). s.begin.thread.0 < n)
-sections_threads c n (e ∷ es) h =
-    go (begins c e.event) (sections_threads c n es (All-tail (λ (x : Entry). x.thread.0 < n) e es h))
-  where
-    Q : Section → Type 0
-    Q s = s.begin.thread.0 < n
-
     go : (o : Option ℕ) → All Q (sections_of c es) → All Q (section_before c e es o (sections_of c es))
     go None k = k
     go (Some l) k = All-cons Q _ (sections_of c es) (All-head (λ (x : Entry). x.thread.0 < n) e es h) k

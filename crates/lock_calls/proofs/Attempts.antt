@@ -196,18 +196,6 @@ pub no_plain : (c : Course) → c ≡ Plainly → (c ≡ ByClaim) ⊎ (c ≡ Mus
 no_plain c plain (inl claim) = let z : Plainly ≡ ByClaim = sym plain ∙ claim in cc
 no_plain c plain (inr wait) = let z : Plainly ≡ MustWait = sym plain ∙ wait in cc
 
--- none
-pub spun_none : (floor : Description) (l : ℕ) (a : Knowledge) → HasSpun floor l 0 a a
-spun_none floor l a = record {
-  looks = a.share.doing.looks;
-  counted = omega arith;
-  all = a.share.doing.looks_in_all;
-  last = a.share.doing.last_look;
-  seen = a.share.doing.seen_in_section;
-  knows = refl;
-  steps = refl;
-}
-
 module _ (floor : Description) (l n : ℕ) (a b : Knowledge) (x : HasSpun floor l n a b) where
   its_thread : b.thread ≡ a.thread
   its_thread = ap (λ (k : Knowledge). k.thread) x.knows
@@ -246,16 +234,6 @@ module _ (floor : Description) (l n : ℕ) (a b : Knowledge) (x : HasSpun floor 
     view = view;
     step = subst (λ (z : ℕ × ℕ). Makes floor (Gains z.0 z.1 mode false ∷ []) b w) (λ i. (its_thread i, sym same i))
         step;
-  }
-
-  pub spun_gains_on : (h : LockNo) → h.0 ≡ l → (mode : Mode) (k : ℕ) (w : Knowledge)
-      → SpinsThenGains floor (as_taken h mode) k b w → SpinsThenGains floor (as_taken h mode) (n + k) a w
-  spun_gains_on h same mode k w g = record {
-    between = g.between;
-    spun = subst (λ j. HasSpun floor j (n + k) a g.between) (sym same)
-        (spun_more k g.between (subst (λ j. HasSpun floor j k b g.between) same g.spun));
-    view = g.view;
-    step = subst (λ t. Makes floor (Gains t h.0 mode false ∷ []) g.between w) its_thread g.step;
   }
 
 -- 4. What a take keeps

@@ -252,11 +252,6 @@ busy_in_round floor l n seen old v m x saw looked = record {
 -- or in the section of the lock's chain, and then it gives both back
 module _ (floor : Description) (l seen : ℕ) (v : Knowledge) (k : IsCalling floor (kept_of v))
     (d : IsDeciding floor l seen v) where
-  pub runs_busy : v.pose ≡ Runs
-  runs_busy = ap (λ (x : About). x.pose) d.there.about
-
-  pub unbound_busy : is_bound v.share.doing.round ≡ false
-  unbound_busy = ap is_bound d.there.round
 
   pub busy_in_section : (z : Knowledge) → z ≡ seeing z.seen (with_none_out v) → HasSeenBusy l seen v z
   busy_in_section z given = record {
@@ -304,9 +299,6 @@ module _ (floor : Description) (l : LockNo) (mode : Mode) (seen : ℕ) (old v : 
       (λ q. absurd (let z : false ≡ true = sym calling_busy.no_wait ∙ q in cc)) (ap (λ (x : About). x.pose) h.about)
       (assumption calling_busy.going)
       (ap (λ (x : About). x.taking) h.about)
-
-  pub room_to_note_busy : 1 ≤ v.spare
-  room_to_note_busy = omega (arith, room, ap (λ (x : Kept). x.spare) h.kept)
 
   module _ (new : Knowledge) (ticket : ℕ)
       (says : new ≡ seeing new.seen (stamped (config_in floor) v (entry_by v.thread ticket note)))

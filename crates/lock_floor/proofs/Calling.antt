@@ -44,11 +44,6 @@ pub calls : (floor : Description) (v : Knowledge) → IsAtRest floor v → IsCal
 calls floor v r = assumption r
 
 module _ (floor : Description) (seen : List Step) (v : Knowledge) (k : IsCalling floor v) where
-  pub calling_looked : (l : ℕ) (word : Word) → IsCalling floor (seeing seen (looked v l word))
-  calling_looked l word = assumption k
-
-  pub calling_sought : (l : ℕ) → IsCalling floor (seeing seen (sought v l false))
-  calling_sought l = assumption k
 
 -- 2. The gain of the lock that is being taken, and its entry
 

@@ -34,12 +34,6 @@ module _ (floor : Description) (some_chains : 1 ≤ floor.chains) where
   place_is : (q : QueueName) (j : ℕ) → slot_of floor (its_chain floor q) ≡ Some j → chain_place floor q ≡ j
   place_is q j e = ap (λ o. unwrap_or o 0) e
 
-  pub lock_place : (l : LockNo) (b : Bool) → is_turnstile ((config_in floor).kind l.0) ≡ b
-      → chain_place floor (Lock l) ≡ cond b (first_turnstile_chain floor) (first_sleep_chain floor) + l.0 % floor.chains
-  lock_place l b e = place_is (Lock l) _
-      (ap (λ k. slot_of floor (cond k (TurnstileChain (l.0 % floor.chains)) (SleepChain (l.0 % floor.chains)))) e
-      ∙ lock_chain_at l.0 b)
-
   pub chain_at : (q : QueueName) → slot_of floor (its_chain floor q) ≡ Some (chain_place floor q)
   chain_at (Lock l) =
       let e = lock_chain_at l.0 (is_turnstile ((config_in floor).kind l.0)) in

@@ -21,16 +21,6 @@ module _ (q : QueueName) (x : FirstSleeper) (chain : List (QueueName × SleepQue
   itself : eqb x.thread.0 h.first.thread ≡ true
   itself = eq-eqb x.thread.0 h.first.thread (sym h.thread)
 
-  -- it stands there,
-  pub first_stands : 0 < times_waiting x.thread.0 (waiters x.side h.head.contents)
-  first_stands =
-      let z : one (eqb x.thread.0 h.first.thread) ≡ 1 = ap one itself in
-      subst (λ ws. 0 < times_waiting x.thread.0 ws) (sym h.list) (omega (arith, z))
-
-  -- and the others are left
-  others_left : without x.thread.0 (waiters x.side h.head.contents) ≡ h.others
-  others_left = grind arith
-
   pub first_last : x.alone ≡ true → IsLastAsleep q x.side x.thread.0 chain
   first_last alone = grind arith
 

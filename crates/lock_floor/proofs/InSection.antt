@@ -41,37 +41,8 @@ pub record IsAcquiring (floor : Description) (l : ℕ) (r : Round) (v : Knowledg
   pub sections : (k : ℕ) → open_in (config_in floor) v.share.log v.thread k ≡ hold_in v.share.held k
 
 module _ (floor : Description) (l : ℕ) where
-  -- where the thread was at rest, a blocking call's round begins it
-  pub acquiring_begins : (seen : List Step) (v : Knowledge) → v.description ≡ floor → IsAtRest floor v
-      → hold_in v.share.held l ≡ NotHeld
-      → IsAcquiring floor l (round_of l false) (seeing seen (sought v l false))
-  acquiring_begins seen v mine rest unheld = record {
-    description = mine;
-    going = assumption rest.going;
-    awake = λ back e f g. let z : true ≡ false = sym back ∙ rest.no_wait in cc;
-    round = refl;
-    wants = inr rest.wants_nothing;
-    takes = ap (λ w. taking_from false w l v.share.doing.taking) rest.wants_nothing;
-    no_walk = rest.no_walk;
-    unheld = unheld;
-    sections = rest.sections;
-  }
 
   module _ (r : Round) (seen : List Step) (v : Knowledge) (h : IsAcquiring floor l r v) where
-    pub acquiring_looked : (word : Word) → IsAcquiring floor l r (seeing seen (looked v l word))
-    acquiring_looked word = assumption h
-
-    pub acquiring_readied : (queued : Bool) → IsAcquiring floor l r (seeing seen (readied queued v))
-    acquiring_readied true = assumption h
-    acquiring_readied false = assumption h
-
-    pub acquiring_record : (u j : ℕ) (x : Slot) → IsAcquiring floor l r (seeing seen (took v (RecordOf u) j x))
-    acquiring_record u j x = assumption h
-
-  pub acquiring_chain : (seen : List Step) (v : Knowledge) → IsAcquiring floor l (round_of l false) v
-      → (j : ℕ) (x : Slot)
-      → IsAcquiring floor l (bound_to l) (seeing seen (took v (its_chain floor (lock_queue l)) j x))
-  acquiring_chain seen v h j x = assumption (round_bound floor v l j x h.round, h)
 
   -- 2. What is out
 

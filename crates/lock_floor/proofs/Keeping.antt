@@ -499,14 +499,6 @@ next_room floor t d h =
     let room : room_for floor t ≡ (get_or floor.threads t d).room = its_room floor.threads t d h in
     (one_room floor.threads t d h ∙ ap (λ n. n + rooms_from floor (suc t)) (sym room), room)
 
--- none is left
-pub no_rooms : (floor : Description) → rooms_from floor (length floor.threads) ≡ 0
-no_rooms floor = ap room_in_all (drop_all floor.threads)
-  where
-    drop_all : (xs : List ThreadPart) → drop (length xs) xs ≡ []
-    drop_all [] = refl
-    drop_all (x ∷ xs) = drop_all xs
-
 -- 5. Passes, as they are handed out
 
 pub each_more : {A : Type 0} (xs : List A) (x : A) (t : ℕ) (f : ℕ → A) → length xs ≡ t → x ≡ f t

@@ -32,12 +32,6 @@ module _ (floor : Description) (me behind : Me Slot Knowledge) (q : QueueName) (
   both_behind : behind.1 ≡ (own, Record both.box) ∷ (at, SleepQueues both.chain) ∷ []
   both_behind = out_before floor q me behind then is out both.box (SleepQueues both.chain) both.out own at own_is at_is
 
-  -- before the work on them
-  pub before_work : (b : Box ThreadRec Global) × (chain : List (QueueName × SleepQueue))
-      × (behind.1 ≡ (own, Record b) ∷ (at, SleepQueues chain) ∷ []) × IsSome b.value.sleep_queue
-      × CanStand b.value.thread (head_of q chain)
-  before_work = (both.box, both.chain, both_behind, ap is_some home, can)
-
   -- behind it
   pub lain_down : (steps : List Step) (new : Me Slot Knowledge) → Makes floor steps me.0 behind.0 → new.0 ≡ behind.0
       → ((b : Box ThreadRec Global) (chain : List (QueueName × SleepQueue)) (y : ℕ)

@@ -147,17 +147,11 @@ module _ (floor : Description) (old new : Marked) (w : Woken) (marks : List Mark
   pub first_holds : IsSome p.object
   first_holds = held 0 p (omega arith)
 
-  pub first_low : m.thread < length floor.threads
-  first_low = subst (All (λ m. m.thread < length floor.threads)) is are.of_floor 0 m (omega arith)
-
   its_kind : is_turnstile_queue c are.queue ≡ is_waiter w
   its_kind = kind_like c w p (places_of new) are.queue (subst (λ o. AreOfKind c o are.queue) first.was are.kind)
 
   mark_kind : is_turnstile_queue c m.queue ≡ is_waiter w
   mark_kind = ap (λ (k : Mark). is_turnstile_queue c k.queue) (sym mark_is) ∙ its_kind
-
-  pub first_away : (r : Record) → LacksObject c m r → IsAway w r
-  first_away r lacks = away_by w r (ap (λ b. cond b r.turnstile r.sleep_queue) (sym mark_kind) ∙ lacks.away)
 
   pub first_record : (r : Record) → record_woken w r ≡ record_marked c m r
   first_record r =

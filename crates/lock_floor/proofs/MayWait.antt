@@ -79,14 +79,6 @@ turnstiles_taken floor l j old new turnstile k =
     go (SleepQueues chain) is = absurd is
     go (Graph b) is = absurd is
 
--- a round takes the chain of its lock
-pub round_bound : (floor : Description) (v : Knowledge) (l j : ℕ) (x : Slot)
-    → v.share.doing.round ≡ Some (round_of l false)
-    → (took v (its_chain floor (lock_queue l)) j x).share.doing.round ≡ Some (bound_to l)
-round_bound floor v l j x round =
-    ap (λ b. cond b (in_its_chain v.share.doing.round) v.share.doing.round) (is_a_chain floor (lock_queue l))
-    ∙ ap in_its_chain round
-
 -- 2. Where the thread is
 
 unwoken_at : (p : Pose) (wait : Wait) (o : Option QueueName) → is_off_queues p ≡ true → IsPosed p wait o
@@ -123,9 +115,6 @@ module _ (floor : Description) (v : Knowledge) where
 
     posed_now : (p : Pose) → v.pose ≡ p → IsPosed p (s.wait t) (s.blocked_on t)
     posed_now p e = subst (λ k. IsPosed k (s.wait t) (s.blocked_on t)) e f.pose
-
-    empty_now : v.out ≡ [] → (i : Item) → HasItem s t i → ⊥
-    empty_now empty i has = let p = f.out.no_other i has in some-ne-none p.2.0 (sym p.2.1 ∙ ap (found p.0) empty)
 
   -- 3. A chain is taken where nothing is out
 

@@ -73,40 +73,6 @@ pub may_run_again : (floor : Description) (v : Knowledge) (q : QueueName) → v.
     → MayRunAgain floor v
 may_run_again floor v q stands empty no_walk stamped at left = grind arith
 
--- A thread that stands on a queue, goes on, and has nothing out, no walk and nobody marked counts itself out. On a
--- channel it has released the lock of its wait
-pub may_count_out : (floor : Description) (v : Knowledge) (q : QueueName) → v.pose ≡ StandsOn q → v.out ≡ []
-    → v.share.doing.walk ≡ NoWalk → v.share.doing.marked ≡ [] → IsGoing v → HasLeft (config_in floor) v q
-    → MayMake floor v (λ s. Unit {0}) (CountsOut v.thread ∷ [])
-may_count_out floor v q stands empty no_walk unmarked going left s f _ =
-    let awake : s.phase v.thread ≡ Awake = doing_it floor v s f (λ d. d.phase) ∙ going.awake in (
-      record {
-        fits = record {
-          may = record {
-            thread = f.thread;
-            unparked = ap is_parked awake;
-            unaborted = λ e. let z : Awake ≡ SelfAborted = sym awake ∙ e in cc;
-            waits = λ _ runs. not_running runs;
-            no_walk = doing_it floor v s f (λ d. d.walk) ∙ no_walk;
-            unmarked = doing_it floor v s f (λ d. d.marked) ∙ unmarked;
-            released = λ r on. released r (there on);
-          };
-          has_out = nothing_with floor v s f empty;
-          has_seen = tt;
-          asks_of_thread = record {
-            unparked = ap is_parked awake;
-            owes = owes_settled floor v s f (inr (q, stands)) going;
-          };
-        };
-        keeps_order = tt;
-        keeps_count = tt;
-      },
-      tt,
-    )
-  where
-    posed : IsPosed (StandsOn q) (s.wait v.thread) (s.blocked_on v.thread)
-    posed = subst (λ p. IsPosed p (s.wait v.thread) (s.blocked_on v.thread)) stands f.pose
-
     not_running : s.wait v.thread ≡ Running → ⊥
     not_running runs = elim posed [
       | inl z ↦ let y : Queued ≡ Running = sym z.0 ∙ runs in cc
@@ -123,11 +89,6 @@ may_count_out floor v q stands empty no_walk unmarked going left s f _ =
 
     released : (r : QueueName) → q ≡ r → HasReleased (config_in floor) s v.thread r
     released r is = subst (HasReleased (config_in floor) s v.thread) is (has_released floor v s f q left)
-
--- a record is of no round
-record_of_round : (floor : Description) (u : ℕ) (r : Option Round)
-    → IsOfRound floor.chains (config_in floor) r (RecordOf u)
-record_of_round floor u e = grind arith
 
 -- a thread that isn't on its way to a queue, goes on and has nothing out may take a record
 pub may_take_record : (floor : Description) (v : Knowledge) (u : ℕ) → IsOffTheWay v.pose → v.out ≡ [] → IsGoing v
@@ -347,13 +308,3 @@ module _ (floor : Description) (v : Knowledge) (l : ℕ) (mode : Mode) (word : W
             tt,
           );
     }
-
--- the same of one that runs, of a lock with turnstiles
-pub may_open_up : (floor : Description) (v : Knowledge) (l : ℕ) (mode : Mode) (word : Word) → l < length floor.locks
-    → is_turnstile ((config_in floor).kind l) ≡ true
-    → hold_in v.share.held l ≡ Holds mode → is_free (without_one word.holder) ≡ true → shows_waiters word ≡ true
-    → v.share.doing.marked ≡ [] → v.share.doing.taking ≡ None
-    → open_in (config_in floor) v.share.log v.thread l ≡ NotHeld → is_among l v.share.begun ≡ true → v.pose ≡ Runs
-    → IsGoing v → HasBothOut floor l v → MayOpenUp floor l word v
-may_open_up floor v l mode word low turnstile held last shown unmarked takes closed begun runs =
-    may_open_up_settled floor v l mode word low held last shown unmarked closed begun turnstile takes (inl runs)

@@ -131,21 +131,6 @@ module _ (floor : Description) (l : ℕ) (old mid : Knowledge) (empty : old.out 
         ap (λ (k : Knowledge). seeing new.seen (record (settled k l against) { out = [] })) taken.view
         ∙ (λ i. seeing new.seen (record (settled old l against) { out = sym empty i }))
 
-    pub checks_order : ChecksOrder floor l against old new
-    checks_order = record {
-      view = done.view ∙ back;
-      steps = (
-        mid,
-        m,
-        (
-          new,
-          subst (λ t. Makes floor (settles t l against ∷ []) mid new)
-              (ap (λ (k : Knowledge). k.thread) taken.view) done.step,
-          refl,
-        ),
-      );
-    }
-
 -- 4. The check of a graph that is out, and its return
 
 -- what the work on the graph tells
@@ -221,12 +206,6 @@ module _ (floor : Description) (l : ℕ) (me me2 : Me Slot Knowledge) (cs : List
       pub call_view : behind.0 ≡ seeing behind.0.seen (record (settled me.0 l against) { out = [] })
       call_view = ap (λ (k : Me Slot Knowledge). k.0) settles_so.0
           ∙ ap (λ (k : Knowledge). seeing behind.0.seen (record (settled k l against) { out = [] })) view
-
-      pub call_settles : Settles floor l against me.0 behind.0
-      call_settles = record {
-        view = call_view;
-        step = subst (λ (k : Knowledge). Makes floor (settles k.thread l against ∷ []) k behind.0) view settles_so.1;
-      }
 
       pub call_tied : (who : ℕ) (locks : Vec Held) (marked : Marked) (book : Book) (fin : Bool) → fin ≡ false
           → IsTied who locks marked book fin me → IsTied who locks marked book fin behind

@@ -73,12 +73,6 @@ rest_seeing floor v steps r = assumption r
 
 -- 2. Behind an entry
 
-looks_gone : (e : Event) (n : ℕ) → n ≡ 0 → looks_after e n ≡ 0
-looks_gone other n is = grind arith
-
-round_gone : (e : Event) (r : Option Round) → r ≡ None → round_after e r ≡ None
-round_gone other r is = grind arith
-
 taking_gone : (e : Event) (l : Option ℕ) → l ≡ None → taking_after e l ≡ None
 taking_gone other k is = grind arith
 

@@ -222,31 +222,6 @@ resume_allowed floor me slots id was may =
 
 -- 3. Waiting for it
 
--- what fits a thread that has waited fits what it knew before
-pub fits_before : (floor : Description) (old new : Knowledge) → HasWaited old new → (s : State)
-    → Fits floor (seeing new.seen old) s → Fits floor old s
-fits_before floor old new h s f = record {
-  sized = f.sized;
-  past = f.past;
-  sound = f.sound;
-  seen = seen_on old.thread old.seen new.seen f.past h.since f.seen;
-  thread = f.thread;
-  share = f.share;
-  out = f.out;
-  pose = f.pose;
-}
-
--- it may run again then if it may before
-pub may_run_still : (floor : Description) (old new : Knowledge) → HasWaited old new → MayRunAgain floor old
-    → MayRunAgain floor new
-may_run_still floor old new h may = subst (MayRunAgain floor) (sym h.view) record {
-  queue = may.queue;
-  stands = may.stands;
-  nothing_out = may.nothing_out;
-  no_walk = may.no_walk;
-  may = λ cause s f woken. may.may cause s (fits_before floor old new h s f) woken;
-}
-
 -- who finds itself Queued has waited on
 pub waits_queued : (floor : Description) (old mid new : Knowledge) → HasWaited old mid → new ≡ seeing new.seen mid
     → FindsQueued floor mid new → HasWaited old new
@@ -258,17 +233,4 @@ waits_queued floor old mid new h view queued =
     record {
       view = view ∙ ap (seeing new.seen) h.view;
       since = seen_on old.thread old.seen mid.seen new.seen h.since since;
-    }
-
--- who runs again then runs again from what it knew before
-pub runs_then : (floor : Description) (cause : Cause) (old mid new : Knowledge) → HasWaited old mid
-    → RunsAgain floor cause mid new → RunsAgain floor cause old new
-runs_then floor cause old mid new h runs =
-    let r : RunsAgain floor cause (seeing mid.seen old) new =
-    subst (λ (k : Knowledge). RunsAgain floor cause k new) h.view runs in
-    record {
-      queue = r.queue;
-      stands = r.stands;
-      view = r.view;
-      step = sooner floor (Resumes old.thread r.queue cause ∷ []) mid.seen old new h.since r.step;
     }

@@ -201,27 +201,6 @@ waits_on floor i old mid new h view out =
       since = seen_on old.thread old.seen mid.seen new.seen h.since since;
     }
 
--- it may take it then if it may take it before
-pub may_still : (floor : Description) (i : Item) (old new : Knowledge) → HasWaited old new
-    → MayMake floor old (λ s. item_with s i ≡ None) (TakesItem old.thread i ∷ [])
-    → MayMake floor new (λ s. item_with s i ≡ None) (TakesItem new.thread i ∷ [])
-may_still floor i old new h may =
-    subst (λ (k : Knowledge). MayMake floor k (λ s. item_with s i ≡ None) (TakesItem k.thread i ∷ [])) (sym h.view)
-    there
-  where
-    there : MayMake floor (seeing new.seen old) (λ s. item_with s i ≡ None) (TakesItem old.thread i ∷ [])
-    there s f home =
-        may s (record {
-          sized = f.sized;
-          past = f.past;
-          sound = f.sound;
-          seen = seen_on old.thread old.seen new.seen f.past h.since f.seen;
-          thread = f.thread;
-          share = f.share;
-          out = f.out;
-          pose = f.pose;
-        }) home
-
 -- who takes it then takes it from what it knew before
 pub takes_then : (floor : Description) (i : Item) (j : ℕ) (old mid new : Knowledge) → HasWaited old mid
     → Takes floor i j mid new → Takes floor i j old new

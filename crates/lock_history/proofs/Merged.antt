@@ -38,12 +38,6 @@ pub merged_one : (g : Book) (h : List Entry) → InOrder g.entries → length h 
 merged_one g h order len placed =
     placed_same g.entries h order (len ∙ ap length (entries_in_one g)) (subst (All (λ e. slice_get h e.ticket ≡ Some e)) (entries_in_one g) placed)
 
--- the same of what a call of `merge` answers
-pub merged_one_ok : {E : Type 0} (r : Result (List Entry) E) (g : Book) → InOrder g.entries → IfOk r (λ h. length h ≡ length (entries_in (g ∷ [])))
-    → IfOk r (λ h. All (λ e. slice_get h e.ticket ≡ Some e) (entries_in (g ∷ []))) → IfOk r (λ h. h ≡ g.entries)
-merged_one_ok (Ok h) g order len placed = merged_one g h order len placed
-merged_one_ok (Err e) g order len placed = tt
-
 -- 2. The newest entry first
 
 InOrder-push : (es : List Entry) (e : Entry) → InOrder es → e.ticket ≡ length es → InOrder (es ++ e ∷ [])

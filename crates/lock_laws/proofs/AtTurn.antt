@@ -23,11 +23,6 @@ pub seen_again : (c : Config) (s : State) (l : ℕ) → Lawful c s → word_of (
 unfolding WordsMatchHolders
 seen_again c s l h = word_again (s.word l) (h.words.words_match_holders l).some_sharer
 
--- a release of a lock that is held exclusively is a drop exactly where no waiter is shown
-pub drop_where_none_shown : (c : Config) (s : State) (t l : ℕ) → Lawful c s → s.held t l ≡ Holds Excl → is_drop (s.word l) ≡ not (shows_waiters (s.word l))
-unfolding WordsMatchHolders
-drop_where_none_shown c s t l h e = grind arith
-
 -- 2. Objects
 
 at_home : (o : Option ℕ) → some o ≡ 1 → (x : ℕ) × (o ≡ Some x)

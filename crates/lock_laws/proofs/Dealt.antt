@@ -79,17 +79,6 @@ signals_at u q (m ∷ ms) f =
     let rest = signals_at u q ms (λ r l. f r (omega arith)) in
     grind (arith, nat_tests, f m.queue, is_queue_same m.queue)
 
--- and marks from a channel are signals, where no mark is by abort
-pub marks_signal : (u d : ℕ) (ms : List Mark) → AreSignals ms
-    → times_marked u (chan_queue d) ms ≤ signals u ms
-marks_signal u d [] a = omega arith
-marks_signal u d (m ∷ ms) a = rw a.0 (go m.queue (marks_signal u d ms a.1))
-  where
-    go : (q : QueueName) → times_marked u (chan_queue d) ms ≤ signals u ms
-        → one (is_queue (chan_queue d) q && eqb u m.thread) + times_marked u (chan_queue d) ms
-        ≤ one (is_chan q && (true && eqb u m.thread)) + signals u ms
-    go q i = grind arith
-
 module _ (c : Config) (s : State) (u : ℕ) (l : Lawful c s) where
   -- a thread is in marked lists from the queue that its record names
   pub signals_named : (q : QueueName) (v : ℕ) → v < c.threads → s.blocked_on u ≡ Some q

@@ -47,11 +47,3 @@ other_head c s l k h x lawful lk kk n e f i =
 pub put_at_row : {A : Type 0} (f : ℕ → ℕ → A) (i k : ℕ) (v : A) (l : ℕ) → put_at f i k v i l ≡ put (f i) k v l
 unfolding put_at put
 put_at_row f i k v l = rw (eq-eqb i i refl) refl
-
--- nothing is lent for numbers that no lock has
-pub unlent_beyond : (c : Config) (s : State) (o l : ℕ) (v : Option Loan) → Lawful c s → l < c.locks → (k : ℕ) → c.locks ≤ k → prio_of (put (s.loan o) l v k) ≡ None
-unlent_beyond c s o l v lawful lt k above = ap prio_of (put_other (s.loan o) l v k (λ e. omega (arith, e))) ∙ go (s.loan o k) refl
-  where
-    go : (x : Option Loan) → s.loan o k ≡ x → prio_of x ≡ None
-    go None e = refl
-    go (Some x) e = let a = loan_lock c s o k x lawful e in absurd (omega arith)

@@ -12,10 +12,6 @@ use Rattle.lock_model.specs.declared.plan.Kind.{Kind}
 use Rattle.lock_model.specs.declared.plan.Mode.{Mode}
 use Rattle.lock_laws.proofs.Kit.{put_same, put_other, put_lock_same, put_lock_other}
 
--- where a head stands waiters are shown
-pub head_shows : (w : Word) (q : Lists) (xs : List ℕ) (x : ℕ) (o : Option ℕ) → ShowsItsWaiters w q → HeadFits q xs (Some x) o → shows_waiters w ≡ true
-head_shows w q xs x o s f = grind arith
-
 -- a plain gain changes no owner
 pub owner_gained : (kind : Kind) (w : Word) (q : Lists) (xs : List ℕ) (h o : Option ℕ) (t : ℕ) (mode : Mode) → admits kind w mode ≡ true → is_plain kind w mode ≡ true
     → ShowsItsWaiters w q → HeadFits q xs h o → owner_if (is_turnstile kind) h w.holder ≡ owner_if (is_turnstile kind) h (gained w t mode).holder

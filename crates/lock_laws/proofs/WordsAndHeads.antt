@@ -74,28 +74,8 @@ module _ (c : Config) (s : State) (l : ℕ) (h : Lawful c s) (k : c.kind l ≡ M
   abbrev q : QueueName
   q = lock_queue l
 
-  none_shared : (s.lists q).shared ≡ []
-  unfolding MutexWaitersAreExclusive
-  none_shared = h.queues.mutex_waiters_are_exclusive l k
-
   some_wait : (a b : List Waiter) → (not (is_empty a) || not (is_empty b)) ≡ true → b ≡ [] → 1 ≤ length a
   some_wait a b x y = grind arith
-
-  one_waits : 1 ≤ length (s.lists q).exclusive
-  unfolding BitsShowWaiters
-  one_waits =
-      let b = h.queues.bits_show_waiters l in
-      some_wait (s.lists q).exclusive (s.lists q).shared (sym (ap (λ x. x || (s.word l).shared_waiters) b.exclusive ∙ ap (λ x. not (is_empty (s.lists q).exclusive) || x) b.shared) ∙ e) none_shared
-
-  pub shown_awaited : IsAwaited s q
-  unfolding HeadsFitWaiters
-  shown_awaited = go (s.head q) refl
-    where
-      go : (o : Option ℕ) → s.head q ≡ o → IsAwaited s q
-      go None i = let b = headless_bare c s q h i in absurd (omega (arith, one_waits, ap length b.no_exclusive))
-      go (Some x) i =
-          let f = (h.queues.heads_fit_waiters q).balanced in
-          record { head = x; is_head = i; one_more = omega (arith, f, ap some i, ap length none_shared); no_shared = none_shared }
 
 -- 3. A release of a lock with a head
 

@@ -75,10 +75,6 @@ module _ (l : ℕ) (w : Waiter) (x : ℕ) where
   begun_home X owner = refl
   begun_home S owner = refl
 
-  pub begun_named : (side : Side) (owner : Option ℕ) → name_of (first side owner) ≡ Some (lock_queue l)
-  begun_named X owner = refl
-  begun_named S owner = refl
-
 -- and of one that had
 module _ (w : Waiter) (x : ℕ) where
   later_shown : (side : Side) (holder : Holder) (h : Contents) → with_one w x side holder (queue_of h) ≡ queue_of (joined x w side h)
@@ -92,10 +88,6 @@ module _ (w : Waiter) (x : ℕ) where
   joined_home : (side : Side) (h : Contents) → (joined x w side h).own.loan_home ≡ h.own.loan_home
   joined_home X h = refl
   joined_home S h = refl
-
-  pub joined_named : (side : Side) (h : Contents) → name_of (joined x w side h) ≡ name_of h
-  joined_named X h = refl
-  joined_named S h = refl
 
 -- 3. A state behind an enter
 

@@ -67,9 +67,6 @@ module _ (side : Side) (d : Contents) where
   pub left_number : left.number ≡ d.number
   left_number = elim side as (λ e. (left_by (length (waiters e d)) e d).number ≡ d.number) [ X ↦ refl | S ↦ refl ]
 
-  pub left_lock : name_of left ≡ name_of d
-  left_lock = elim side as (λ e. name_of (left_by (length (waiters e d)) e d) ≡ name_of d) [ X ↦ refl | S ↦ refl ]
-
   pub left_owner : left.own.owner ≡ d.own.owner
   left_owner = elim side as (λ e. (left_by (length (waiters e d)) e d).own.owner ≡ d.own.owner) [ X ↦ refl | S ↦ refl ]
 

@@ -42,10 +42,6 @@ pub get_here : {A : Type 0} (xs : List A) (x : A) (ys : List A) → slice_get (x
 get_here [] x ys = refl
 get_here (y ∷ xs) x ys = get_here xs x ys
 
-pub get_none : {A : Type 0} (xs : List A) → slice_get xs (length xs) ≡ None
-get_none [] = refl
-get_none (x ∷ xs) = get_none xs
-
 -- 3. Names
 
 -- the name of a lock, a channel or a thread, out of their lists

@@ -196,10 +196,6 @@ none_comes f e = grind arith
 pub round_begins : (plan : Plan) (k : run.Course) → k.coming ≡ [] → with_turn plan k.run (round_of plan k.run) true ≡ after_turn plan k k.coming
 round_begins plan k e = ap (after_turn plan k) (sym e)
 
--- and else the first that comes
-pub one_comes : (plan : Plan) (k : run.Course) → is_empty k.coming ≡ false → with_turn plan k.run k.coming k.idle ≡ after_turn plan k k.coming
-one_comes plan k e = grind arith
-
 -- where not all have ended, somebody comes
 pub somebody_comes : (plan : Plan) (k : run.Course) → is_over plan k ≡ false → is_empty (k.coming ++ round_of plan k.run) ≡ false
 somebody_comes plan k e = go k.coming (round_of_none plan k.run ∙ (or_parts (all_ended plan k.run) (is_stuck k) e).0)

@@ -22,10 +22,6 @@ reached_next : (n : ℕ) (o : Option ℕ) → is_reached n o ≡ false → is_re
 reached_next n None e = refl
 reached_next n (Some d) e = grind (arith, nat_tests)
 
-reached_before : (n m : ℕ) (o : Option ℕ) → m ≤ n → is_reached n o ≡ false → is_reached m o ≡ false
-reached_before n m None l e = refl
-reached_before n m (Some d) l e = grind (arith, nat_tests)
-
 none_found : (p : TickSleeper → Bool) (s : TickSleeper) (ss : List TickSleeper)
     → option_map (λ (r : TickSleeper). r.t) (find p (s ∷ ss)) ≡ None → (p s ≡ false)
     × (option_map (λ (r : TickSleeper). r.t) (find p ss) ≡ None)
@@ -42,18 +38,6 @@ none_due_next n (s ∷ ss) e f =
     let h = none_first (is_due n) s ss e in
     let g = none_found (λ r. is_tick (n + 1) r.due) s ss f in
     rw (reached_next n s.due h.0 ∙ g.0) (none_due_next n ss h.1 g.1)
-
-pub none_due_before : (n m : ℕ) (ss : List TickSleeper) → m ≤ n → filter (is_due n) ss ≡ [] → filter (is_due m) ss ≡ []
-none_due_before n m [] l e = refl
-none_due_before n m (s ∷ ss) l e =
-    let h = none_first (is_due n) s ss e in
-    rw (reached_before n m s.due l h.0) (none_due_before n m ss l h.1)
-
--- one comes who is due later
-pub none_due_last : (n : ℕ) (ss : List TickSleeper) (s : TickSleeper) → filter (is_due n) ss ≡ [] → is_due n s ≡ false
-    → filter (is_due n) (ss ++ s ∷ []) ≡ []
-none_due_last n [] s e h = rw h refl
-none_due_last n (r ∷ ss) s e h = let g = none_first (is_due n) r ss e in rw g.0 (none_due_last n ss s g.1 h)
 
 -- one goes
 pub none_due_without : (n t : ℕ) (ss : List TickSleeper) → filter (is_due n) ss ≡ []
@@ -82,9 +66,6 @@ pub all_stay : (n : ℕ) (ss : List TickSleeper) → filter (is_due n) ss ≡ []
 all_stay n [] e = refl
 all_stay n (s ∷ ss) e = let h = none_first (is_due n) s ss e in
     rw h.0 (ap (λ (rs : List TickSleeper). s ∷ rs) (all_stay n ss h.1))
-
-pub none_expired : (n : ℕ) (ss : List TickSleeper) → filter (is_due n) ss ≡ [] → expired n ss ≡ []
-none_expired n ss e = ap by_due e
 
 -- 2. The next one
 
@@ -162,9 +143,6 @@ next_expired n now (r ∷ ss) s l once e f =
     ]
 
 -- 3. What is left
-
-unreached : (n now : ℕ) (o : Option ℕ) → n < now → o ≡ Some (n + 1) → is_reached now o ≡ true
-unreached n now o l e = ap (is_reached now) e ∙ reached_tick n now l
 
 -- the one that timed out is none of those that don't
 pub unexpired-without : (now : ℕ) (ss : List TickSleeper) (s : TickSleeper) → find (is_of s.t.0) ss ≡ Some s

@@ -61,12 +61,6 @@ module _ (a : Table) (sound : IsSound a) (t key : ℕ) (k : Kept) (home : home_a
           (no_more h.contents.exclusive h.contents.shared found.0, grind (arith, nat_tests, n, none, shared))
 
   module _ (w : Waiter) (mine : w.thread ≡ t) where
-    lied : Table
-    lied = record {
-      chain = (chan_queue key, head_joined (chan_queue key) k.object w (head_of (chan_queue key) a.chain)) ∷ without
-          (chan_queue key) a.chain;
-      homes = set a.homes t None;
-    }
 
     within : t < length a.homes
     within = home_within a.homes t k home

@@ -83,9 +83,6 @@ pub ascends : (ss : List TickSleeper) → Ascends (by_due ss)
 ascends [] = tt
 ascends (s ∷ ss) = ascends_insert s (by_due ss) (ascends ss)
 
-at_tick : ℕ → TickSleeper → Bool
-at_tick d s = due_of s == d
-
 insert_apart : (d : ℕ) (s : TickSleeper) (rs : List TickSleeper)
     → filter (λ r. due_of r == d) (insert_by_due s rs) ≡ filter (λ r. due_of r == d) (s ∷ rs)
 insert_apart d s [] = refl

@@ -26,38 +26,7 @@ use Rattle.tick_sleep.proofs.Expiry.{none_due_last, none_due_without, none_due_f
 use Rattle.tick_sleep.proofs.Keyed.{on_key-last, on_key-without, on_key-off, on_key-others, sleeps-off, counts_on, on_counts}
 use Rattle.tick_sleep.proofs.Rolling.{its_thread, found_own}
 
--- a sleep that begins now is due later
-pub due_later : (passed now : ℕ) (ticks : Option ℕ) → passed ≤ now → can_time_out ticks ≡ true
-    → is_reached passed (option_map (λ n. now + n) ticks) ≡ false
-due_later passed now None l e = refl
-due_later passed now (Some n) l e = grind (arith, nat_tests)
-
-other_end : (a b : ℕ) → a ≢ b → eqb a b ≡ false
-other_end a b ne = ne_eqb a b ne
-
 module _ (q : Inside) (sound : IsSound q) where
-  -- a thread goes to sleep
-  pub slept_sound : (s : TickSleeper) (table : Table) → s.t.0 < length q.prios.items → is_due q.passed s ≡ false
-      → ((k : ℕ) → lying k table ≡ cond (eqb s.key k) (lying k q.table ++ waiter_of s ∷ []) (lying k q.table))
-      → ((u : ℕ) → is_home u table ≡ cond (eqb s.t.0 u) false (is_home u q.table))
-      → length table.homes ≡ length q.table.homes
-      → IsSound (record q { roll = q.roll ++ s ∷ []; table = table })
-  slept_sound s table within later queues homes size = record {
-    passed = sound.passed;
-    none_due = none_due_last q.passed q.roll s sound.none_due later;
-    declared = λ u e. declared u (sym (sleeps-last u q.roll s) ∙ e);
-    few = sound.few;
-    posted = sound.posted;
-    homes = size ∙ sound.homes;
-    at_home = λ u l. homes u ∙ home u l;
-    queues = λ k. queues k ∙ rw (sound.queues k) (sym (on_key-last k q.roll s));
-  }
-    where
-      declared : (u : ℕ) → (sleeps u q.roll || is_of u s) ≡ true → u < length q.prios.items
-      declared u e = elim (cases_Bool (sleeps u q.roll)) [
-        | inl i ↦ sound.declared u i
-        | inr i ↦ let f = rw i at e in let same : s.t.0 ≡ u = grind (arith, nat_tests, f) in omega (arith, same)
-      ]
 
       home : (u : ℕ) → u < length q.prios.items
           → cond (eqb s.t.0 u) false (is_home u q.table) ≡ not (sleeps u (q.roll ++ s ∷ []))

@@ -35,11 +35,6 @@ nobody_off Best = refl
 nobody_off All = refl
 nobody_off (Thread t) = refl
 
-pub nobody_stays : (who : Who) → staying who [] ≡ []
-nobody_stays Best = refl
-nobody_stays All = refl
-nobody_stays (Thread t) = refl
-
 empty_is : {A : Type 0} (xs : List A) → is_empty xs ≡ true → xs ≡ []
 empty_is [] e = refl
 empty_is (x ∷ xs) e = absurd cc

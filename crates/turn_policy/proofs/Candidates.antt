@@ -9,16 +9,6 @@ use Rattle.turn_policy.specs.Policies.{has_least, most_important, ran_last}
 use Rattle.turn_policy.specs.declared.choosing.Candidate.{Candidate}
 use Rattle.turn_policy.proofs.Lists.{all_agree, all_found, all_so, either_mapped, either_so, find_agree, find_in_map, found_so}
 
--- below the smaller of two
-pub below_min : (n a b : ℕ) → nat_le n (min a b) ≡ (nat_le n a && nat_le n b)
-below_min n a b = elim (cases_Bool (nat_le n a)) [
-  | inl e ↦ elim (cases_Bool (nat_le n b)) [
-    | inl f ↦ rw (e, f) (le-leb n (min a b) (omega (arith, leb-true n a e, leb-true n b f)))
-    | inr f ↦ rw (e, f) (lt-leb n (min a b) (omega (arith, leb-false n b f)))
-  ]
-  | inr e ↦ rw e (lt-leb n (min a b) (omega (arith, leb-false n a e)))
-]
-
 module _ (priority : ℕ → ℕ) (last : Option ℕ) (cs : List Candidate)
     (known : All (λ c. c.priority.0 ≡ priority c.thread.0) cs) (least : ℕ)
     (is_least : (n : ℕ) → nat_le n least ≡ list_all (λ (c : Candidate). nat_le n c.priority.0) cs) where
@@ -79,21 +69,3 @@ found_among P p q cs a b c all e f found =
     (subst (λ (o : Option Candidate). IfSome o P) (sym f) (all_found P q cs all))) found
 
 -- 3. The least of priorities, one by one
-
--- of no others,
-pub least_alone : (n a : ℕ) → nat_le n a ≡ (nat_le n a && true)
-least_alone n a = go (nat_le n a)
-  where
-    go : (b : Bool) → b ≡ (b && true)
-    go true = refl
-    go false = refl
-
--- and of one more
-pub least_more : (n a first : ℕ) (old new : Bool) (b : ℕ) → nat_le n a ≡ (nat_le n first && old)
-    → new ≡ (old && nat_le n b) → nat_le n (min a b) ≡ (nat_le n first && new)
-least_more n a first old new b e f = below_min n a b ∙ ap (λ (x : Bool). x && nat_le n b) e ∙ go (nat_le n first)
-    ∙ ap (λ (x : Bool). nat_le n first && x) (sym f)
-  where
-    go : (x : Bool) → ((x && old) && nat_le n b) ≡ (x && (old && nat_le n b))
-    go true = refl
-    go false = refl

@@ -127,25 +127,3 @@ one_more_candidate heeds_loans r ts cs c h e = record {
   priorities = All-push (λ (d : Candidate). d.priority.0 ≡ priority_of heeds_loans r.state d.thread.0) cs c h.priorities
       e;
 }
-
--- where some owe something, they contend,
-pub some_owe : (heeds_loans : Bool) (plan : Plan) (r : Run) (cs : List Candidate)
-    → AreCandidates heeds_loans r (gathered true plan r) cs → is_empty cs ≡ false
-    → AreCandidates heeds_loans r (contenders plan r) cs
-some_owe heeds_loans plan r [] h e = absurd cc
-some_owe heeds_loans plan r (c ∷ cs) h e = record {
-  threads = h.threads ∙ sym (ap (λ (b : Bool). cond b (runnable plan r) (owing plan r)) (ap is_empty (sym h.threads)));
-  priorities = h.priorities;
-}
-
--- and else all do
-pub none_owe : (heeds_loans : Bool) (plan : Plan) (r : Run) (old cs : List Candidate)
-    → AreCandidates heeds_loans r (gathered true plan r) old → is_empty old ≡ true
-    → AreCandidates heeds_loans r (gathered false plan r) cs
-    → AreCandidates heeds_loans r (contenders plan r) cs
-none_owe heeds_loans plan r (c ∷ old) cs before e h = absurd cc
-none_owe heeds_loans plan r [] cs before e h = record {
-  threads = h.threads ∙ sym
-      (ap (λ (b : Bool). cond b (runnable plan r) (owing plan r)) (ap is_empty (sym before.threads)));
-  priorities = h.priorities;
-}

@@ -86,11 +86,6 @@ module _ (c : Config) (taking : ℕ → Option ℕ) (log : ℕ → List Entry) (
 -- 2. An open section of a class
 
 module _ (c : Config) (es : List Entry) (t : ℕ) where
-  pub says_open : (k : ℕ) → has_open c es t k ≡ true → (l : ℕ) × (c.class l ≡ k)
-  says_open k e =
-      let r = some_below c.locks (λ l. eqb (c.class l) k && not (is_unheld (open_in c es t l))) e in
-      let p = and_parts (eqb (c.class r.0) k) _ r.2 in
-      (r.0, eqb-true (c.class r.0) k p.0)
 
   pub open_says : (l k : ℕ) (mode : Mode) → l < c.locks → c.class l ≡ k → open_in c es t l ≡ Holds mode → has_open c es t k ≡ true
   open_says l k mode lt e o =

@@ -66,9 +66,6 @@ unwoken_unaborted w e = grind arith
 pub unnoted_unhalted : (o : Option Note) → o ≡ None → is_chan_halt o ≡ 0
 unnoted_unhalted o e = grind arith
 
-pub halt_at_most : (o : Option Note) → is_chan_halt o ≤ 1
-halt_at_most o = grind arith
-
 -- 3. Changes
 
 module _ (c : Config) (s : State) where
