@@ -1,20 +1,11 @@
 -- What a call answers: it was made, or something stands against it.
-use Rattle.std.proofs.Common.{◌≡◌, true, false, Option, Some, None, Result, Ok, Err, refl, sym, ap, subst}
-use Rattle.floor_table.specs.Views.{Knowledge}
-use Rattle.lock_floor.specs.Floors.{Pass}
+use Rattle.floor_calls.proofs.Names
+use Names.{true, false, Option, Some, None, Result, Ok, Err, refl, sym, ap, subst, Knowledge, Pass, Answers, Does}
+use Names.{HasMade, MayMake, MayCall, Says, causes, IsFirst, KeepsRoom, IsAt, Stands, Thread, thread_at, Cause, Request}
+use Names.{Shared, Next, Stage, AtRest}
+use Rattle.std.proofs.Common.{◌≡◌}
 use Rattle.floor_calls.proofs.Room.{room_behind}
 use Rattle.floor_calls.proofs.Tests.{first_is_one, may_none, none_may}
-use Rattle.floor_calls.specs.Calls.{Answers, Does, HasMade, MayMake}
-use Rattle.floor_calls.specs.Causes.{MayCall, Says, causes}
-use Rattle.floor_calls.specs.First.{IsFirst}
-use Rattle.floor_calls.specs.Room.{KeepsRoom}
-use Rattle.floor_calls.specs.Threads.{IsAt, Stands, Thread, thread_at}
-use Rattle.floor_calls.specs.declared.requests.Cause.{Cause}
-use Rattle.floor_calls.specs.declared.requests.Request.{Request}
-use Rattle.floor_calls.specs.declared.shared.Shared.{Shared}
-use Rattle.floor_calls.specs.declared.stages.Next.{Next}
-use Rattle.floor_calls.specs.declared.stages.Stage.{Stage}
-use Rattle.floor_calls.specs.declared.stages.Stage.TheVariants.{AtRest}
 
 -- 1. What is answered
 

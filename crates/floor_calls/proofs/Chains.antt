@@ -1,7 +1,7 @@
 -- Of causes that are tested one behind the other the first that is so is found.
-use Rattle.std.proofs.Common.{List, [], ◌∷◌, Option, Some, None}
+use Rattle.floor_calls.proofs.Names.{List, [], Option, Some, None, IsFirst, none}
+use Rattle.std.proofs.Common.{◌∷◌}
 use Rattle.floor_calls.proofs.Tests.{at_first, behind, past, within}
-use Rattle.floor_calls.specs.First.{IsFirst, none}
 
 -- no cause is left
 pub no_more : {A : Type 0} {So : A → Type 0} → IsFirst So [] None

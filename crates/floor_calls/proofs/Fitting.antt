@@ -1,20 +1,10 @@
 -- A description against which nothing stands fits a floor's table, and has one chain of each sort.
-use Rattle.std.proofs.Common.{◌≡◌, ◌≢◌, ℕ, ◌+◌, ◌<◌, ◌≤◌, List, length, get_or, None, refl, ap, ◌∙◌, arith}
-use Rattle.std.proofs.lemmas.List.{get_or_default}
-use Rattle.std.proofs.lemmas.Map.Keys.{sorted_from_all_adjacent}
-use Rattle.std.specs.List.{All, Any}
-use Rattle.std.specs.List.Sorted.{IsStrictlySortedBy}
-use Rattle.std.specs.declared.cmp.Ordering.{Ordering}
-use Rattle.std.specs.declared.cmp.Ordering.TheVariants.{Less, Equal, Greater}
-use Rattle.lock_history.proofs.Places.{place_total}
-use Rattle.lock_model.specs.History.{place_cmp}
-use Rattle.lock_model.specs.Limits.{most_classes}
-use Rattle.floor_table.specs.Descriptions.{IsSized}
-use Rattle.floor_table.specs.declared.description.Description.{Description}
-use Rattle.floor_table.specs.declared.description.LockPart.{LockPart}
+use Rattle.floor_calls.proofs.Names
+use Names.{ℕ, List, length, get_or, None, refl, ap, arith, get_or_default, sorted_from_all_adjacent, All, Any}
+use Names.{IsStrictlySortedBy, Ordering, Less, Equal, Greater, place_total, place_cmp, most_classes, IsSized}
+use Names.{Description, LockPart, IsFirst, none, later, IsUnsorted, Spoils, all_unfit}
+use Rattle.std.proofs.Common.{◌≡◌, ◌≢◌, ◌+◌, ◌<◌, ◌≤◌, ◌∙◌}
 use Rattle.floor_calls.proofs.Numbers.{at_most, below, is_one}
-use Rattle.floor_calls.specs.First.{IsFirst, none, later}
-use Rattle.floor_calls.specs.Fitting.{IsUnsorted, Spoils, all_unfit}
 
 high_or_not : (locks : List LockPart) → (Any (λ (x : LockPart). most_classes ≤ x.class.0) locks → ⊥)
     → All (λ (x : LockPart). x.class.0 < most_classes) locks

@@ -1,3 +1,4 @@
+pub mod Names
 mod Numbers
 mod Sleepable
 mod Room

@@ -1,6 +1,7 @@
 -- What is so of numbers where its contrary isn't.
-use Rattle.std.proofs.Common.{◌≡◌, ◌≢◌, ℕ, zero, suc, ◌<◌, ◌≤◌, true, false, Option, Some, None, refl, sym, ap, ◌∙◌, arith}
-use Rattle.std.proofs.lemmas.Bool.{eq-eqb, eqb-true}
+use Rattle.floor_calls.proofs.Names.{ℕ, zero, suc, true, false, Option, Some, None, refl, sym, ap, arith, eq-eqb}
+use Rattle.floor_calls.proofs.Names.{eqb-true}
+use Rattle.std.proofs.Common.{◌≡◌, ◌≢◌, ◌<◌, ◌≤◌, ◌∙◌}
 use Rattle.std.specs.Prelude.{◌==◌}
 
 pub below : (a b : ℕ) → (a ≤ b → ⊥) → b < a

@@ -1,16 +1,8 @@
 -- The passes of a floor as they are made, and its threads.
-use Rattle.std.proofs.Common.{◌≡◌, ℕ, ◌<◌, List, length, map, sym, ap, subst, ◌∙◌, arith}
-use Rattle.std.proofs.lemmas.List.{get_or-map}
-use Rattle.std.specs.List.{All}
-use Rattle.std.specs.Prelude.{slice_index_or}
-use Rattle.floor_table.specs.Views.{Knowledge}
-use Rattle.floor_table.specs.declared.description.Description.{Description}
-use Rattle.lock_calls.proofs.First.{ready_first}
-use Rattle.lock_floor.specs.Floors.{Floor, Pass}
-use Rattle.lock_floor.specs.Passes.{first_pass}
-use Rattle.floor_calls.specs.Openings.{first_thread, thread_at_rest}
-use Rattle.floor_calls.specs.Threads.{Stands, Thread}
-use Rattle.floor_calls.specs.declared.stages.Stage.TheVariants.{AtRest}
+use Rattle.floor_calls.proofs.Names
+use Names.{ℕ, List, length, map, sym, ap, subst, arith, get_or-map, All, slice_index_or, Knowledge, Description}
+use Names.{ready_first, Floor, Pass, first_pass, first_thread, thread_at_rest, Stands, Thread, AtRest}
+use Rattle.std.proofs.Common.{◌≡◌, ◌<◌, ◌∙◌}
 
 -- these are the passes of a floor as it is made
 abbrev pub AreFirst : Floor Description → List (Pass Knowledge) → Type 0

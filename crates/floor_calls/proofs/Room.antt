@@ -1,62 +1,31 @@
 -- A thread's log keeps room, part after part of its calls: as each part tells of what the thread holds, and of how many
 -- entries it may still make.
-use Rattle.std.proofs.Common.{◌≡◌, ℕ, suc, ◌≤◌, Bool, true, false, cond, eqb, List, [], ◌∷◌, ◌++◌, length, length-append, Option, Some, None, Ok, Err, Result, refl, sym, ap, subst, ◌∙◌, arith}
-use Rattle.cond_vars.specs.Parts.{WaitPart, takes_chain, misses_chain, lies_down, misses_record, leaves_some, is_last, halts_on, halts_one, has_halted, is_queued, runs_again, woke, was_halted}
-use Rattle.cond_vars.specs.Wakes.{GoesOnWaking}
-use Rattle.cond_vars.specs.declared.parts.WaitAt.{WaitAt}
+use Rattle.floor_calls.proofs.Names
+use Names.{ℕ, suc, Bool, true, false, cond, eqb, List, [], length, length-append, Option, Some, None, Ok, Err, Result}
+use Names.{refl, sym, ap, subst, arith, WaitPart, takes_chain, misses_chain, lies_down, misses_record, leaves_some}
+use Names.{is_last, halts_on, halts_one, has_halted, is_queued, runs_again, woke, was_halted, GoesOnWaking, WaitAt}
+use Names.{WaitNext, WakeNext, Knowledge, seeing, Description, GoesOnEnding, kept_to, HaltKept, halt_kept_of, EndAt}
+use Names.{EndNext, outside, BeginsGivingUp, HasBegunRelease, ReleasesPart, held_once, once_released, as_taken}
+use Names.{HasBegunTake, IsInTake, TakesPart, kept_at, HasBegunTry, IsInTry, as_tried, Kept, kept_of, PartNext}
+use Names.{ReleaseNext, TakeNext, TryNext, Floor, Pass, MakesEntry, ReleaseAt, TakeAt, WasOut, NotHeld, Holds, hold_in}
+use Names.{without_lock, is_drop, word_of, Event, Held, ChanNo, LockNo, Mode, Excl, Item, Does, EntersAbout, GoesOn}
+use Names.{HasBegunWake, ReleaseWent, TakeWent, TryWent, MayCall, HasRoomFor, HasRoomOnceReleased, KeepsRoom}
+use Names.{needed_in_wait, stage_behind, stage_of_begun, stage_of_end, stage_of_giving_up, stage_of_taking_back}
+use Names.{stage_of_wait, stage_of_wake, told, told_of_try, IsAt, Thread, Request, Take, Try, Release, Edit, Read}
+use Names.{SetBase, Show, WakeUp, Wait, End, GoOn, Next, Stage, AtRest, Takes, Tries, Releases, ComesToWake, Waits}
+use Names.{ComesToGiveUp, GivesUp, TakesBack, Ends, Ended, WaitOn}
+use Rattle.std.proofs.Common.{◌≡◌, ◌≤◌, ◌∷◌, ◌++◌, ◌∙◌}
 use Rattle.cond_vars.specs.declared.parts.WaitAt.TheVariants as waiting
-use Rattle.cond_vars.specs.declared.parts.WaitNext.{WaitNext}
-use Rattle.cond_vars.specs.declared.waking.WakeNext.{WakeNext}
 use Rattle.cond_vars.specs.declared.waking.WakeNext.TheVariants as wake
-use Rattle.floor_table.specs.Views.{Knowledge, seeing}
-use Rattle.floor_table.specs.declared.description.Description.{Description}
-use Rattle.halting.specs.Ends.{GoesOnEnding, kept_to}
-use Rattle.halting.specs.Halts.{Kept as HaltKept, kept_of as halt_kept_of}
-use Rattle.halting.specs.declared.ending.EndAt.{EndAt}
 use Rattle.halting.specs.declared.ending.EndAt.TheVariants as places
-use Rattle.halting.specs.declared.ending.EndNext.{EndNext}
 use Rattle.halting.specs.declared.ending.EndNext.TheVariants as end
-use Rattle.lock_calls.specs.Choices.{outside}
-use Rattle.lock_calls.specs.Releases.{BeginsGivingUp, HasBegunRelease, ReleasesPart, held_once, once_released}
-use Rattle.lock_calls.specs.Steps.{as_taken}
-use Rattle.lock_calls.specs.Takes.{HasBegunTake, IsInTake, TakesPart, kept_at}
-use Rattle.lock_calls.specs.Tries.{HasBegunTry, IsInTry, as_tried}
-use Rattle.lock_calls.specs.Waiting.{Kept, kept_of}
-use Rattle.lock_calls.specs.declared.answers.Next.{Next as PartNext}
 use Rattle.lock_calls.specs.declared.answers.Next.TheVariants as part
-use Rattle.lock_calls.specs.declared.answers.ReleaseNext.{ReleaseNext}
 use Rattle.lock_calls.specs.declared.answers.ReleaseNext.TheVariants as given
-use Rattle.lock_calls.specs.declared.answers.TakeNext.{TakeNext}
 use Rattle.lock_calls.specs.declared.answers.TakeNext.TheVariants as taken
-use Rattle.lock_calls.specs.declared.trying.TryNext.{TryNext}
 use Rattle.lock_calls.specs.declared.trying.TryNext.TheVariants as try
-use Rattle.lock_floor.specs.Floors.{Floor, Pass}
-use Rattle.lock_floor.specs.Passes.{MakesEntry}
-use Rattle.lock_floor.specs.declared.calls.ReleaseAt.{ReleaseAt}
 use Rattle.lock_floor.specs.declared.calls.ReleaseAt.TheVariants as release
-use Rattle.lock_floor.specs.declared.calls.TakeAt.{TakeAt}
-use Rattle.lock_floor.specs.declared.latches.Out.{Out as WasOut}
-use Rattle.lock_model.specs.Holds.{NotHeld, Holds}
-use Rattle.lock_model.specs.Operations.{hold_in, without_lock}
-use Rattle.lock_model.specs.Words.{is_drop, word_of}
-use Rattle.lock_model.specs.declared.event.Event.{Event}
-use Rattle.lock_model.specs.declared.event.Held.{Held}
-use Rattle.lock_model.specs.declared.numbers.ChanNo.{ChanNo}
-use Rattle.lock_model.specs.declared.numbers.LockNo.{LockNo}
-use Rattle.lock_model.specs.declared.plan.Mode.{Mode}
-use Rattle.lock_model.specs.declared.plan.Mode.TheVariants.{Excl, Shared}
-use Rattle.lock_state.specs.Steps.Items.{Item}
-use Rattle.floor_calls.specs.Calls.{Does, EntersAbout, GoesOn, HasBegunWake, ReleaseWent, TakeWent, TryWent}
-use Rattle.floor_calls.specs.Causes.{MayCall}
-use Rattle.floor_calls.specs.Room.{HasRoomFor, HasRoomOnceReleased, KeepsRoom, needed_in_wait}
-use Rattle.floor_calls.specs.Stages.{stage_behind, stage_of_begun, stage_of_end, stage_of_giving_up, stage_of_taking_back, stage_of_wait, stage_of_wake, told, told_of_try}
-use Rattle.floor_calls.specs.Threads.{IsAt, Thread}
-use Rattle.floor_calls.specs.declared.requests.Request.{Request}
-use Rattle.floor_calls.specs.declared.requests.Request.TheVariants.{Take, Try, Release, Edit, Read, SetBase, Show, WakeUp, Wait, End, GoOn}
-use Rattle.floor_calls.specs.declared.stages.Next.{Next}
-use Rattle.floor_calls.specs.declared.stages.Stage.{Stage}
-use Rattle.floor_calls.specs.declared.stages.Stage.TheVariants.{AtRest, Takes, Tries, Releases, ComesToWake, Wakes, Waits, ComesToGiveUp, GivesUp, TakesBack, Ends, Ended}
-use Rattle.floor_calls.specs.declared.waits.WaitOn.{WaitOn}
+use Rattle.lock_model.specs.declared.plan.Mode.TheVariants.{Shared}
+use Rattle.floor_calls.specs.declared.stages.Stage.TheVariants.{Wakes}
 
 -- 1. Locks that are held, and without one of them
 

@@ -1,12 +1,11 @@
 -- A thread holds no lock of which something is so, as that it may not sleep over it, told of the list of those that it
 -- holds, and lock by lock; and the lock that it gained last, by its place.
-use Rattle.std.proofs.Common.{◌≡◌, ℕ, zero, suc, ◌-◌, ◌<◌, Bool, true, false, not, ◌&&◌, List, [], ◌∷◌, length, get_or, slice_get, Option, Some, None, refl, sym, subst, arith}
-use Rattle.std.proofs.lemmas.Bool.{eq-eqb, eqb-true}
-use Rattle.std.specs.List.{Any}
+use Rattle.floor_calls.proofs.Names
+use Names.{ℕ, zero, suc, Bool, true, false, not, List, [], length, get_or, slice_get, Option, Some, None, refl, sym}
+use Names.{subst, arith, eq-eqb, eqb-true, Any, NotHeld, Holds, hold_in, HeldLock}
+use Rattle.std.proofs.Common.{◌≡◌, ◌-◌, ◌<◌, ◌&&◌, ◌∷◌}
 use Rattle.std.specs.Prelude.{◌==◌, if◌then◌else◌}
-use Rattle.lock_model.specs.Holds.{NotHeld, Holds}
-use Rattle.lock_model.specs.Operations.{hold_in, is_last}
-use Rattle.lock_model.specs.declared.event.Held.{Held as HeldLock}
+use Rattle.lock_model.specs.Operations.{is_last}
 
 module _ (Is : ℕ → Type 0) where
   -- of one of these it is so

@@ -1,40 +1,17 @@
 -- At which stage a thread is behind a part of its call, and what is so of it there.
-use Rattle.std.proofs.Common.{◌≡◌, ℕ, Bool, [], Option, Some, None, refl, sym, ap, subst, ◌∙◌, arith}
-use Rattle.cond_vars.proofs.Woken.{rests_done}
-use Rattle.cond_vars.specs.Wakes.{GoesOnWaking, MayWakeUp}
+use Rattle.floor_calls.proofs.Names
+use Names.{ℕ, Bool, [], Option, Some, None, refl, sym, ap, subst, arith, rests_done, GoesOnWaking, MayWakeUp, Knowledge}
+use Names.{Description, under_take_on, outside, IsInRelease, HasBegunRelease, IsInTake, TakesOn, HasBegunTake, IsInTry}
+use Names.{HasBegunTry, Kept, IsCalling, PartNext, TryNext, rest_seeing, Floor, Pass, with_marks, IsAtRest, IsOf}
+use Names.{IsReady, Wakes, TakeAt, Checks, TriesAt, ChanNo, LockNo, Mode, HasBegunWake, Makes, TakeWent, TryWent}
+use Names.{ReleaseWent, stage_behind, stage_of_begun, told, told_of_try, IsAt, Next, Stage, Takes, Tries, Releases}
+use Rattle.std.proofs.Common.{◌≡◌, ◌∙◌}
 use Rattle.cond_vars.specs.declared.waking.WakeNext.TheVariants as wake
-use Rattle.floor_table.specs.Views.{Knowledge}
-use Rattle.floor_table.specs.declared.description.Description.{Description}
 use Rattle.halting.specs.declared.ending.EndAt.TheVariants as places
 use Rattle.halting.specs.declared.ending.EndNext.TheVariants as end
-use Rattle.lock_calls.proofs.Taken.{under_take_on}
-use Rattle.lock_calls.specs.Choices.{outside}
-use Rattle.lock_calls.specs.Releases.{IsInRelease, HasBegunRelease}
-use Rattle.lock_calls.specs.Takes.{IsInTake, TakesOn, HasBegunTake}
-use Rattle.lock_calls.specs.Tries.{IsInTry, HasBegunTry}
-use Rattle.lock_calls.specs.Waiting.{Kept, IsCalling}
-use Rattle.lock_calls.specs.declared.answers.Next.{Next as PartNext}
 use Rattle.lock_calls.specs.declared.answers.Next.TheVariants as part
-use Rattle.lock_calls.specs.declared.trying.TryNext.{TryNext}
 use Rattle.lock_calls.specs.declared.trying.TryNext.TheVariants as try
-use Rattle.lock_floor.proofs.Resting.{rest_seeing}
-use Rattle.lock_floor.specs.Floors.{Floor, Pass}
-use Rattle.lock_floor.specs.Marks.{with_marks}
-use Rattle.lock_floor.specs.Passes.{IsAtRest, IsOf, IsReady}
 use Rattle.lock_floor.specs.declared.calls.Call.TheVariants as calls
-use Rattle.lock_floor.specs.declared.calls.ReleaseAt.TheVariants.{Wakes}
-use Rattle.lock_floor.specs.declared.calls.TakeAt.{TakeAt}
-use Rattle.lock_floor.specs.declared.calls.TakeAt.TheVariants.{Checks}
-use Rattle.lock_floor.specs.declared.calls.TryAt.TheVariants.{Tries as TriesAt}
-use Rattle.lock_model.specs.declared.numbers.ChanNo.{ChanNo}
-use Rattle.lock_model.specs.declared.numbers.LockNo.{LockNo}
-use Rattle.lock_model.specs.declared.plan.Mode.{Mode}
-use Rattle.floor_calls.specs.Calls.{HasBegunWake, Makes, TakeWent, TryWent, ReleaseWent}
-use Rattle.floor_calls.specs.Stages.{stage_behind, stage_of_begun, told, told_of_try}
-use Rattle.floor_calls.specs.Threads.{IsAt}
-use Rattle.floor_calls.specs.declared.stages.Next.{Next}
-use Rattle.floor_calls.specs.declared.stages.Stage.{Stage}
-use Rattle.floor_calls.specs.declared.stages.Stage.TheVariants.{Takes, Tries, Releases}
 
 -- 1. How a part is told
 

@@ -1,29 +1,15 @@
 -- Nothing stands against a call exactly where it may be made.
-use Rattle.std.proofs.Common.{◌≡◌, ◌≢◌, ℕ, ◌≤◌, Bool, true, false, List, [], ◌∷◌, ◌++◌, length, Option, Some, None, refl, sym, subst, ◌∙◌, arith}
-use Rattle.cond_vars.specs.Waits.{lock_of}
-use Rattle.floor_table.specs.Descriptions.{config_in}
-use Rattle.lock_model.specs.Holds.{Hold, NotHeld, Holds}
-use Rattle.lock_model.specs.Limits.{most_held}
-use Rattle.lock_model.specs.Operations.{hold_in}
-use Rattle.lock_model.specs.Words.{is_turnstile}
-use Rattle.lock_model.specs.declared.event.Held.{Held as HeldLock}
-use Rattle.lock_model.specs.declared.numbers.LockNo.{LockNo}
-use Rattle.lock_model.specs.declared.plan.Kind.{Kind}
-use Rattle.lock_model.specs.declared.plan.Kind.TheVariants.{Mtx}
-use Rattle.lock_model.specs.declared.plan.Mode.{Mode}
-use Rattle.lock_model.specs.declared.plan.Mode.TheVariants.{Excl, Shared}
+use Rattle.floor_calls.proofs.Names
+use Names.{ℕ, Bool, true, false, List, [], length, Option, Some, None, refl, sym, subst, arith, lock_of, config_in}
+use Names.{Hold, NotHeld, Holds, most_held, hold_in, is_turnstile, HeldLock, LockNo, Kind, Mtx, Mode, Excl, Says}
+use Names.{causes, held_by, MayCall, IsFirst, none, here, later, KeepsRoom, IsInCall, Thread, InCall, HoldsUnsleepable}
+use Names.{HoldsMost, Request, Take, Try, Release, Edit, Read, SetBase, Show, WakeUp, Wait, End, GoOn, Stage}
+use Rattle.std.proofs.Common.{◌≡◌, ◌≢◌, ◌≤◌, ◌∷◌, ◌++◌, ◌∙◌}
+use Rattle.lock_model.specs.declared.plan.Mode.TheVariants.{Shared}
 use Rattle.floor_calls.proofs.Numbers.{at_most, below, is_there}
 use Rattle.floor_calls.proofs.Room.{room_to_release}
 use Rattle.floor_calls.proofs.Sleepable.{none_by_lock, none_of}
-use Rattle.floor_calls.specs.Causes.{Says, causes, held_by, MayCall}
-use Rattle.floor_calls.specs.First.{IsFirst, none, here, later}
-use Rattle.floor_calls.specs.Room.{KeepsRoom}
-use Rattle.floor_calls.specs.Stages.{IsInCall}
-use Rattle.floor_calls.specs.Threads.{Thread}
-use Rattle.floor_calls.specs.declared.requests.Cause.TheVariants.{Ended, InCall, Held, HoldsUnsleepable, HoldsMost}
-use Rattle.floor_calls.specs.declared.requests.Request.{Request}
-use Rattle.floor_calls.specs.declared.requests.Request.TheVariants.{Take, Try, Release, Edit, Read, SetBase, Show, WakeUp, Wait, End, GoOn}
-use Rattle.floor_calls.specs.declared.stages.Stage.{Stage}
+use Rattle.floor_calls.specs.declared.requests.Cause.TheVariants.{Ended, Held}
 use Rattle.floor_calls.specs.declared.stages.Stage.TheVariants as stages
 
 -- 1. The first cause that is so is one

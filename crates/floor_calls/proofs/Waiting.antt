@@ -1,48 +1,22 @@
 -- A wait, stage after stage: what the thread knows at each, with the giving up of its lock in between and the taking
 -- back, allows the next.
-use Rattle.std.proofs.Common.{◌≡◌, ℕ, ◌<◌, Bool, true, false, [], ◌∷◌, ◌++◌, length, refl, sym, ap, ◌∙◌, subst}
-use Rattle.cond_vars.proofs.HeldLocks.{its_lock}
-use Rattle.cond_vars.proofs.Places.{has_released, is_back, may_park}
-use Rattle.cond_vars.specs.Parts.{IsThen, IsToTakeBack, IsWaiting, WaitPart, takes_chain, misses_chain, lies_down, misses_record, leaves_some, is_last, halts_on, halts_one, has_halted, is_queued, runs_again, woke, was_halted}
-use Rattle.cond_vars.specs.Waits.{lock_of}
-use Rattle.cond_vars.specs.declared.parts.WaitAt.{WaitAt}
+use Rattle.floor_calls.proofs.Names
+use Names.{ℕ, Bool, true, false, [], length, refl, sym, ap, subst, its_lock, has_released, is_back, may_park, IsThen}
+use Names.{IsToTakeBack, IsWaiting, WaitPart, takes_chain, misses_chain, lies_down, misses_record, leaves_some, is_last}
+use Names.{halts_on, halts_one, has_halted, is_queued, runs_again, woke, was_halted, lock_of, WaitAt, WaitNext}
+use Names.{config_in, is_among, Knowledge, Description, HaltKept, halt_kept_of, may_give_up, under_first}
+use Names.{BeginsGivingUp, HasWokenOne, IsReleased, ReleasesOn, ReleasesPart, once_released, as_taken, IsTaking}
+use Names.{TakeEnd, TakesOn, TakesPart, at_check, in_round, in_section, kept_at, CanAcquire, HasGained, Kept}
+use Names.{MayPutDown, kept_of, ReleaseNext, TakeNext, among_stays, Floor, Pass, IsOf, MayRelease, MayRetake, cause_of}
+use Names.{ReleaseAt, ComesTo, Wakes, TakeAt, Checks, Spins, left_in, Holds, hold_in, TakesItem, RecordOf}
+use Names.{is_taking_back, stage_of_giving_up, stage_of_taking_back, stage_of_wait, IsAt, HasLeftIts, HoldsIts}
+use Names.{IsGivingUp, IsTakingBack, IsToGiveUp, KnowsIts, WaitOn}
+use Rattle.std.proofs.Common.{◌≡◌, ◌<◌, ◌∷◌, ◌++◌, ◌∙◌}
 use Rattle.cond_vars.specs.declared.parts.WaitAt.TheVariants as waiting
-use Rattle.cond_vars.specs.declared.parts.WaitNext.{WaitNext}
 use Rattle.cond_vars.specs.declared.parts.WaitNext.TheVariants as wait
-use Rattle.floor_table.specs.Descriptions.{config_in}
-use Rattle.floor_table.specs.Shares.{is_among}
-use Rattle.floor_table.specs.Views.{Knowledge}
-use Rattle.floor_table.specs.declared.description.Description.{Description}
-use Rattle.halting.specs.Halts.{Kept as HaltKept, kept_of as halt_kept_of}
-use Rattle.lock_calls.proofs.GivenUp.{may_give_up}
-use Rattle.lock_calls.proofs.TakenBack.{under_first}
-use Rattle.lock_calls.specs.Releases.{BeginsGivingUp, HasWokenOne, IsReleased, ReleasesOn, ReleasesPart, once_released}
-use Rattle.lock_calls.specs.Steps.{as_taken}
-use Rattle.lock_calls.specs.Takes.{IsTaking, TakeEnd, TakesOn, TakesPart, at_check, in_round, in_section, kept_at}
-use Rattle.lock_calls.specs.Waiting.{CanAcquire, HasGained, Kept, MayPutDown, kept_of}
-use Rattle.lock_calls.specs.declared.answers.ReleaseNext.{ReleaseNext}
 use Rattle.lock_calls.specs.declared.answers.ReleaseNext.TheVariants as given
-use Rattle.lock_calls.specs.declared.answers.TakeNext.{TakeNext}
 use Rattle.lock_calls.specs.declared.answers.TakeNext.TheVariants as taken
-use Rattle.lock_floor.proofs.Shares.{among_stays}
-use Rattle.lock_floor.specs.Floors.{Floor, Pass}
-use Rattle.lock_floor.specs.Passes.{IsOf}
-use Rattle.lock_floor.specs.Relocks.{GivesUp, MayRelease, MayRetake, TakesBack}
-use Rattle.lock_floor.specs.Resumes.{cause_of}
-use Rattle.lock_floor.specs.declared.calls.ReleaseAt.{ReleaseAt}
-use Rattle.lock_floor.specs.declared.calls.ReleaseAt.TheVariants.{ComesTo, Wakes}
-use Rattle.lock_floor.specs.declared.calls.TakeAt.{TakeAt}
-use Rattle.lock_floor.specs.declared.calls.TakeAt.TheVariants.{Checks, Spins}
-use Rattle.lock_model.specs.History.{left_in}
-use Rattle.lock_model.specs.Holds.{Holds}
-use Rattle.lock_model.specs.Operations.{hold_in}
-use Rattle.lock_state.specs.Steps.{TakesItem}
-use Rattle.lock_state.specs.Steps.Items.{RecordOf}
-use Rattle.lock_state.specs.Steps.LockWords.{is_taking_back}
-use Rattle.floor_calls.specs.Stages.{stage_of_giving_up, stage_of_taking_back, stage_of_wait}
-use Rattle.floor_calls.specs.Threads.{IsAt}
-use Rattle.floor_calls.specs.Waits.{HasLeftIts, HoldsIts, IsGivingUp, IsTakingBack, IsToGiveUp, KnowsIts}
-use Rattle.floor_calls.specs.declared.waits.WaitOn.{WaitOn}
+use Rattle.lock_floor.specs.Relocks.{GivesUp, TakesBack}
 
 -- 1. Its lock, from part to part
 

@@ -8,7 +8,7 @@ use Rattle.floor_table.specs.contracts.board.LawTableRuleSlotViewDescription.The
 use Rattle.lock_floor.specs.contracts.ties.LawTiesSlotViewDescription.TheImpl as ties
 use Rattle.lock_floor.specs.contracts.floor.FloorOf as floor
 use Rattle.lock_floor.proofs.floor.FloorOf.TheSendSync as crossing
-use Rattle.floor_table.proofs.Crossing.{slot_send}
+use Rattle.floor_run.proofs.Names.{slot_send}
 use Rattle.floor_table.proofs.description.Description.TheSendSync as description_crossing
 
 pub floor_sync : IsSync

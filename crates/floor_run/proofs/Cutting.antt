@@ -1,48 +1,20 @@
 -- A take that is refused or halted and a wait that is halted cut their thread short: it gives back what it holds, the
 -- lock gained last first.
-use Rattle.std.proofs.Common.{◌≡◌, ℕ, zero, suc, ◌+◌, ◌-◌, ◌<◌, ◌≤◌, Bool, true, false, cond, eqb, arith, List, [], ◌∷◌, ◌++◌, length, length-append, reverse, slice_get, take, Option, Some, None, sym, ap, ◌∙◌, subst, refl}
-use Rattle.std.proofs.lemmas.List.{take_all, reverse-append}
-use Rattle.std.proofs.lemmas.Option.{slice_get_within}
-use Rattle.lock_model.specs.Holds.{NotHeld, Holds}
-use Rattle.lock_model.specs.Law.{LeadsTo, Gives, Cut}
+use Rattle.floor_run.proofs.Names
+use Names.{ℕ, zero, suc, Bool, true, false, cond, eqb, arith, List, [], length, length-append, reverse, slice_get, take}
+use Names.{Option, Some, None, sym, ap, subst, refl, take_all, reverse-append, slice_get_within, NotHeld, Holds}
+use Names.{LeadsTo, Gives, Cut, IsProper, held_of, held_behind, held_after, of_locks, hold_in, without_lock, config_of}
+use Names.{operations_of, ByAbort, ChanNo, LockNo, is_turnstile, Entry, Event, Held, Refused, Kind, Mtx, Rw, Sx, Mode}
+use Names.{Op, Take, Sleep, OfLocks, NoLock, Acquires, ClosesBlock, Releases, EditsAt, ReadsAt, SleepsOn, WakesOn, Plan}
+use Names.{gained_order-push, next_leads, held_none, held_are_locks, HeldLock, gained_order, without_held, GivesLast}
+use Names.{gives_last, IsFor, Knowledge, Description, Floor, Pass, IsReady, MakesEntry, entry_by, MayRelease}
+use Names.{WasNotTaken, IsBefore, IsCut, WereStamped, HasSlept}
+use Rattle.std.proofs.Common.{◌≡◌, ◌+◌, ◌-◌, ◌<◌, ◌≤◌, ◌∷◌, ◌++◌, ◌∙◌}
 use Rattle.lock_model.specs.Law as law
-use Rattle.lock_model.specs.Operations.{IsProper, held_of, held_behind, held_after, of_locks, hold_in, without_lock}
-use Rattle.lock_model.specs.Plans.{config_of, operations_of}
-use Rattle.lock_model.specs.Queues.{ByAbort}
-use Rattle.lock_model.specs.declared.numbers.ChanNo.{ChanNo}
-use Rattle.lock_model.specs.declared.numbers.LockNo.{LockNo}
-use Rattle.lock_model.specs.Words.{is_turnstile}
-use Rattle.lock_model.specs.declared.event.Entry.{Entry}
-use Rattle.lock_model.specs.declared.event.Event.{Event}
 use Rattle.lock_model.specs.declared.event.Event.TheVariants as event
-use Rattle.lock_model.specs.declared.event.Held.{Held}
-use Rattle.lock_model.specs.declared.event.Refused.{Refused}
 use Rattle.lock_model.specs.declared.event.Refused.TheVariants as refused
-use Rattle.lock_model.specs.declared.plan.Kind.{Kind}
-use Rattle.lock_model.specs.declared.plan.Kind.TheVariants.{Mtx, Rw, Sx}
-use Rattle.lock_model.specs.declared.plan.Mode.{Mode}
-use Rattle.lock_model.specs.declared.plan.Op.{Op}
-use Rattle.lock_model.specs.declared.plan.Op.TheVariants.{Take, Sleep}
-use Rattle.lock_model.specs.declared.plan.OfLocks.{OfLocks}
-use Rattle.lock_model.specs.declared.plan.OfLocks.TheVariants.{NoLock, Acquires, ClosesBlock, Releases, EditsAt, ReadsAt, SleepsOn, WakesOn}
-use Rattle.lock_model.specs.declared.plan.Plan.{Plan}
-use Rattle.lock_laws.proofs.HeldLists.{gained_order-push, next_leads, held_none, held_are_locks}
-use Rattle.lock_state.specs.State.{HeldLock, gained_order}
-use Rattle.lock_state.specs.Steps.LockWords.{without_held}
-use Rattle.run_laws.proofs.LastHeld.{GivesLast, gives_last}
-use Rattle.floor_table.specs.Descriptions.{IsFor}
-use Rattle.floor_table.specs.Views.{Knowledge}
-use Rattle.floor_table.specs.declared.description.Description.{Description}
-use Rattle.lock_floor.specs.Floors.{Floor, Pass}
-use Rattle.lock_floor.specs.Passes.{IsReady, MakesEntry}
-use Rattle.lock_floor.specs.Views.{entry_by}
-use Rattle.lock_calls.specs.Steps.{MayRelease}
-use Rattle.lock_calls.specs.Takes.{WasNotTaken}
-use Rattle.floor_run.specs.Progress.{IsBefore, IsCut}
-use Rattle.floor_run.specs.Workers.{WereStamped}
 use Rattle.floor_run.proofs.Operating.{was_stamped, is_covered, same_kind, lies_asleep, both_stamped}
 use Rattle.floor_run.proofs.Waiting.{none_past}
-use Rattle.floor_run.specs.Sleeps.{HasSlept}
 
 -- 1. A thread holds as many locks as it has operations left, or fewer
 

@@ -1,30 +1,14 @@
 -- Worked histories, held against the law of a run of threads as its text has it: what no run prints. There are two
 -- threads, p and q, and two sx locks, a and b, each with a class of its own, and a channel c of a. What the threads'
 -- operations are is left open: with none does a run print such a history.
-use Rattle.std.proofs.Common.{◌≡◌, ℕ, zero, suc, ◌≤◌, true, false, List, [], ◌∷◌, reverse, refl, sym, ap, subst, ◌∙◌, arith}
-use Rattle.std.proofs.lemmas.List.{reverse-reverse}
-use Rattle.lock_model.specs.BusyWords.{BusyWordsHaveHolders, has_section}
-use Rattle.lock_model.specs.Config.{Config}
-use Rattle.lock_model.specs.Counts.{any_below, has_bit}
-use Rattle.lock_model.specs.Halts.{HaltsAreHonest, HaltsComeSince, is_honest_to, entries_below, entries_since}
-use Rattle.lock_model.specs.History.{sections_in}
-use Rattle.lock_model.specs.Law.{WakingsNameSleepers, is_asleep, is_named}
-use Rattle.lock_model.specs.Legal.{IsLegal}
-use Rattle.lock_model.specs.Orders.{forbids}
-use Rattle.lock_model.specs.Plans.{config_of}
-use Rattle.lock_model.specs.Takes.{ReversalsHaveCause, classes_open, take_edges}
-use Rattle.lock_model.specs.Text.{Outcome}
-use Rattle.lock_model.specs.declared.numbers.ChanNo.{ChanNo}
-use Rattle.lock_model.specs.declared.plan.Kind.TheVariants.{Sx}
-use Rattle.lock_model.specs.declared.plan.LockDecl.{LockDecl}
-use Rattle.lock_model.specs.declared.plan.Mode.TheVariants.{Excl}
-use Rattle.lock_model.specs.declared.plan.Op.{Op}
-use Rattle.lock_model.specs.declared.plan.Plan.{Plan}
-use Rattle.lock_model.specs.declared.plan.ThreadDecl.{ThreadDecl}
-use Rattle.lock_model.specs.declared.event.Entry.{Entry}
-use Rattle.lock_model.specs.declared.event.Event.TheVariants.{Locked, Busy, Unlocked, Sleeps, Woke, HaltedChan, HaltedLock, WokeOne, Reversed}
-use Rattle.run_laws.proofs.Histories.{entry, lock}
-use Rattle.floor_run.specs.Runs.{IsOutcome, outcome_of}
+use Rattle.floor_run.proofs.Names
+use Names.{ℕ, zero, suc, true, false, List, [], reverse, refl, sym, ap, subst, arith, reverse-reverse}
+use Names.{BusyWordsHaveHolders, has_section, Config, any_below, has_bit, HaltsAreHonest, HaltsComeSince, is_honest_to}
+use Names.{entries_below, entries_since, sections_in, WakingsNameSleepers, is_asleep, is_named, IsLegal, forbids}
+use Names.{config_of, ReversalsHaveCause, classes_open, take_edges, Outcome, ChanNo, Sx, LockDecl, Excl, Op, Plan}
+use Names.{ThreadDecl, Entry, Locked, Busy, Unlocked, Sleeps, Woke, HaltedChan, HaltedLock, WokeOne, Reversed, entry}
+use Names.{lock, IsOutcome, outcome_of}
+use Rattle.std.proofs.Common.{◌≡◌, ◌≤◌, ◌∷◌, ◌∙◌}
 
 abbrev chan : ℕ → ChanNo
 chan k = record { 0 = k }

@@ -1,3 +1,4 @@
+pub mod Names
 pub mod Waiting
 pub mod Operating
 pub mod Cutting

@@ -1,56 +1,22 @@
 -- What a thread's next operation finds, and where its entries lead the thread.
-use Rattle.std.proofs.Common.{◌≡◌, ◌≢◌, ℕ, zero, suc, ◌^◌, ◌<◌, ◌≤◌, Bool, true, false, ◌&&◌, arith, List, [], ◌∷◌, ◌++◌, length, slice_get, map, sum, Option, Some, None, option_map, refl, sym, ap, eq-eqb, ◌∙◌, subst}
-use Rattle.std.specs.Prelude.{IsTrue, unwrap_or, ◌==◌}
-use Rattle.std.specs.List.{Contains, list_any}
-use Rattle.std.proofs.lemmas.Bool.{not-true}
-use Rattle.std.proofs.lemmas.List.Sums.{sum_by-cons}
-use Rattle.std.proofs.lemmas.Map.Keys.{any_passes_from_place}
-use Rattle.std.proofs.lemmas.Option.{none-some, slice_get-map, slice_get_within}
-use Rattle.lock_model.proofs.LeastCodes.{passed}
-use Rattle.lock_model.specs.Holds.{Hold, NotHeld, Holds, is_exclusive}
-use Rattle.lock_model.specs.Keys.{op_names, plan_names}
-use Rattle.lock_model.specs.Law.{LeadsTo, Gives, Before, Asleep}
+use Rattle.floor_run.proofs.Names
+use Names.{ℕ, zero, suc, Bool, true, false, arith, List, [], length, slice_get, map, sum, Option, Some, None}
+use Names.{option_map, refl, sym, ap, eq-eqb, subst, IsTrue, unwrap_or, Contains, list_any, not-true, sum_by-cons}
+use Names.{any_passes_from_place, none-some, slice_get-map, slice_get_within, passed, Hold, NotHeld, Holds}
+use Names.{is_exclusive, op_names, plan_names, LeadsTo, Gives, Before, Asleep, most_held, IsProper, held_of}
+use Names.{held_behind, hold_in, is_last, without_lock, acquiring_tests, edit_tests, chan_lock, config_of}
+use Names.{operations_of, lock_kind, Cause, BySignal, Passes, admits, is_turnstile, word_of, LockNo, ChanNo, Prio}
+use Names.{Entry, Event, Held, Mtx, Mode, Excl, Op, Take, Try, EndTry, Release, Set, Add, Get, Base, Show, Sleep}
+use Names.{WakeOne, WakeAll, Plan, ThreadDecl, held_is, gain_passes, release_fits, wait_fits, wake_fits, next_leads}
+use Names.{held_are_locks, held_few, try_passes, Stamps, config_in, room_for, keys_in, IsFor, Description, Makes}
+use Names.{Knowledge, same_config, its_room, keys_are_named, found_key, Floor, Pass, IsReady, MakesEntry, first_pass}
+use Names.{entry_by, ready_first, IsCovered, MayTake, MayRelease, as_taken, WasBusyFor, as_tried, MayWait, ended_by}
+use Names.{lock_of, MayWakeUp, IsBefore, HasSlept, HasWokenAll, HasWokenOne, WasStamped, WereStamped}
+use Rattle.std.proofs.Common.{◌≡◌, ◌≢◌, ◌^◌, ◌<◌, ◌≤◌, ◌&&◌, ◌∷◌, ◌++◌, ◌∙◌}
+use Rattle.std.specs.Prelude.{◌==◌}
 use Rattle.lock_model.specs.Law as law
-use Rattle.lock_model.specs.Limits.{most_held}
-use Rattle.lock_model.specs.Operations.{IsProper, held_of, held_behind, hold_in, is_last, without_lock, acquiring_tests, edit_tests}
-use Rattle.lock_model.specs.Plans.{chan_lock, config_of, operations_of, lock_kind}
-use Rattle.lock_model.specs.Queues.{Cause, BySignal}
-use Rattle.lock_model.specs.Tests.{Passes}
-use Rattle.lock_model.specs.Words.{admits, is_turnstile, word_of}
-use Rattle.lock_model.specs.declared.numbers.LockNo.{LockNo}
-use Rattle.lock_model.specs.declared.numbers.ChanNo.{ChanNo}
-use Rattle.lock_model.specs.declared.numbers.Prio.{Prio}
-use Rattle.lock_model.specs.declared.event.Entry.{Entry}
-use Rattle.lock_model.specs.declared.event.Event.{Event}
 use Rattle.lock_model.specs.declared.event.Event.TheVariants as event
-use Rattle.lock_model.specs.declared.event.Held.{Held}
-use Rattle.lock_model.specs.declared.plan.Kind.TheVariants.{Mtx}
-use Rattle.lock_model.specs.declared.plan.Mode.{Mode}
-use Rattle.lock_model.specs.declared.plan.Mode.TheVariants.{Excl}
-use Rattle.lock_model.specs.declared.plan.Op.{Op}
-use Rattle.lock_model.specs.declared.plan.Op.TheVariants.{Take, Try, EndTry, Release, Set, Add, Get, Base, Show, Sleep, WakeOne, WakeAll}
-use Rattle.lock_model.specs.declared.plan.Plan.{Plan}
-use Rattle.lock_model.specs.declared.plan.ThreadDecl.{ThreadDecl}
-use Rattle.lock_laws.proofs.HeldLists.{held_is, gain_passes, release_fits, wait_fits, wake_fits, next_leads, held_are_locks, held_few, try_passes}
-use Rattle.lock_state.specs.Steps.{Stamps}
-use Rattle.floor_table.specs.Descriptions.{config_in, room_for, keys_in, IsFor}
-use Rattle.floor_table.specs.declared.description.Description.{Description}
-use Rattle.floor_table.specs.Steps.{Makes}
-use Rattle.floor_table.specs.Views.{Knowledge}
-use Rattle.floor_table.proofs.Descriptions.{same_config, its_room}
-use Rattle.floor_table.proofs.PlanKeys.{keys_are_named, found_key}
-use Rattle.lock_floor.specs.Floors.{Floor, Pass}
-use Rattle.lock_floor.specs.Passes.{IsReady, MakesEntry, first_pass}
-use Rattle.lock_floor.specs.Views.{entry_by}
-use Rattle.lock_calls.proofs.First.{ready_first}
-use Rattle.lock_calls.specs.Steps.{IsCovered, MayTake, MayRelease, as_taken}
-use Rattle.lock_calls.specs.Tries.{WasBusyFor, as_tried}
-use Rattle.cond_vars.specs.Waits.{MayWait, ended_by, lock_of}
-use Rattle.cond_vars.specs.Wakes.{MayWakeUp}
-use Rattle.floor_run.specs.Progress.{IsBefore}
 use Rattle.floor_run.proofs.Waiting.{others_sleepable}
-use Rattle.floor_run.specs.Sleeps.{HasSlept, HasWokenAll, HasWokenOne}
-use Rattle.floor_run.specs.Workers.{WasStamped, WereStamped}
 
 -- 1. The begin and the end
 

@@ -1,12 +1,6 @@
 -- A run of an ordered plan's threads is done: no take of it was refused, and nobody was halted.
-use Rattle.std.proofs.Common.{◌≡◌, refl, ap, ◌∙◌}
-use Rattle.lock_model.specs.Operations.{IsProper}
-use Rattle.lock_model.specs.OrderedPlans.{IsOrdered}
-use Rattle.lock_model.specs.Text.{Outcome, IsDone}
-use Rattle.lock_model.specs.declared.plan.Plan.{Plan}
-use Rattle.ordered_plan_laws.proofs.Unhalted.{unhalted}
-use Rattle.ordered_plan_laws.proofs.Unrefused.{unrefused}
-use Rattle.floor_run.specs.Runs.{IsOutcome}
+use Rattle.floor_run.proofs.Names.{refl, ap, IsProper, IsOrdered, Outcome, IsDone, Plan, unhalted, unrefused, IsOutcome}
+use Rattle.std.proofs.Common.{◌≡◌, ◌∙◌}
 
 pub ordered_done : (plan : Plan) (o : Outcome) → IsProper plan → IsOrdered plan → IsOutcome plan o → o.ending ≡ IsDone
 ordered_done plan o p i run =

@@ -1,42 +1,19 @@
 -- What a run leaves, by what its workers leave.
-use Rattle.std.proofs.Common.{◌≡◌, ◌≢◌, ℕ, zero, suc, ◌+◌, ◌<◌, ◌≤◌, Bool, true, false, ◌||◌, eqb, List, [], ◌∷◌, ◌++◌, length, map, get_or, take, drop, reverse, refl, sym, ap, subst, ◌∙◌, arith, inl, inr}
-use Rattle.std.specs.FinMap.{entries}
+use Rattle.floor_run.proofs.Names
+use Names.{ℕ, zero, suc, Bool, true, false, eqb, List, [], length, map, get_or, take, drop, reverse, refl, sym, ap}
+use Names.{subst, arith, inl, inr, entries, range_with_len, list_any, cases_lt, ne_eqb, append-nil, take_all, drop_all}
+use Names.{reverse-reverse, get_or-map, length-map, map-id, length-map-range_with_len, get_or-map-range_with_len}
+use Names.{IsPermutation-reverse, list_any-IsPermutation, BusyIsExplained, Config, one, times, HaltsAreHonest, base_in}
+use Names.{entries_of, LeadsTo, Before, is_halt, FollowsOperations, EntriesFollowOperations, IsLegalSoFar, IsLegal}
+use Names.{config_of, operations_of, OrdersAreLegal, is_reversal, has_reversal, Entry, Op, Plan, NobodyIsHalted}
+use Names.{threads_of, whole_ending, no_operations, config_in, thread_part, description_of, Description, Share}
+use Names.{Knowledge, same_config, IsClosing, Floor, Pass, first_pass, Closing, bases_of, ending_left, outcome_left}
+use Names.{IsRunOf, has_halt, ending_of_run, outcome_of, IsWhole}
+use Rattle.std.proofs.Common.{◌≡◌, ◌≢◌, ◌+◌, ◌<◌, ◌≤◌, ◌||◌, ◌∷◌, ◌++◌, ◌∙◌}
 use Rattle.std.specs.Prelude.{if◌then◌else◌}
-use Rattle.std.specs.List.{range_with_len, list_any}
-use Rattle.std.proofs.lemmas.Bool.{cases_lt, ne_eqb}
-use Rattle.std.proofs.lemmas.List.{append-nil, take_all, drop_all, reverse-reverse, get_or-map, length-map, map-id}
-use Rattle.std.proofs.lemmas.List.FromFn.{length-map-range_with_len, get_or-map-range_with_len}
-use Rattle.std.proofs.lemmas.List.Sorted.{IsPermutation-reverse, list_any-IsPermutation}
-use Rattle.lock_model.specs.BusyWords.{BusyIsExplained}
-use Rattle.lock_model.specs.Config.{Config}
-use Rattle.lock_model.specs.Counts.{one, times}
-use Rattle.lock_model.specs.Halts.{HaltsAreHonest}
-use Rattle.lock_model.specs.History.{base_in, entries_of}
-use Rattle.lock_model.specs.Law.{LeadsTo, Before, is_halt, FollowsOperations, EntriesFollowOperations}
-use Rattle.lock_model.specs.Legal.{IsLegalSoFar, IsLegal}
 use Rattle.lock_model.specs.Law as law
-use Rattle.lock_model.specs.Plans.{config_of, operations_of}
-use Rattle.lock_model.specs.Takes.{OrdersAreLegal, is_reversal, has_reversal}
 use Rattle.lock_model.specs.Text as text
-use Rattle.lock_model.specs.declared.event.Entry.{Entry}
-use Rattle.lock_model.specs.declared.plan.Op.{Op}
-use Rattle.lock_model.specs.declared.plan.Plan.{Plan}
-use Rattle.lock_state.specs.Facts.Halts.{NobodyIsHalted}
-use Rattle.lock_state.specs.Run.{threads_of, whole_ending}
-use Rattle.ordered_plan_laws.proofs.Unhalted.{no_operations}
-use Rattle.floor_table.specs.Descriptions.{config_in, thread_part, description_of}
-use Rattle.floor_table.specs.declared.description.Description.{Description}
-use Rattle.floor_table.specs.Shares.{Share}
-use Rattle.floor_table.specs.Views.{Knowledge}
-use Rattle.floor_table.proofs.Descriptions.{same_config}
-use Rattle.lock_floor.specs.Closings.{IsClosing}
-use Rattle.lock_floor.specs.Floors.{Floor, Pass}
-use Rattle.lock_floor.specs.Passes.{first_pass}
-use Rattle.lock_floor.specs.declared.closing.Closing.{Closing}
-use Rattle.floor_ends.specs.Outcomes.{bases_of, ending_left, outcome_left}
 use Rattle.floor_run.specs.Progress.{IsDone}
-use Rattle.floor_run.specs.Runs.{IsRunOf, has_halt, ending_of_run, outcome_of}
-use Rattle.floor_run.specs.Workers.{IsWhole}
 
 -- 1. Threads
 

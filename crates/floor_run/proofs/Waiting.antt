@@ -1,33 +1,14 @@
 -- A wait of a script is made under no other lock that blocks on a turnstile; and what a worker has of the calls of a
 -- wait and of a waking.
-use Rattle.std.proofs.Common.{◌≡◌, ℕ, zero, suc, ◌≤◌, Bool, true, false, ◌||◌, cond, eqb, arith, List, [], ◌∷◌, length, slice_get, Option, Some, None, option_map, refl, sym, ap, ◌∙◌}
-use Rattle.std.specs.Prelude.{unwrap_or, ◌==◌}
-use Rattle.std.specs.List.{list_all}
-use Rattle.std.proofs.lemmas.Bool.{and_parts, eqb-true, ltb-true}
-use Rattle.std.proofs.lemmas.Option.{slice_get-map}
-use Rattle.lock_model.proofs.LeastCodes.{passed}
-use Rattle.lock_model.specs.Holds.{NotHeld, Holds}
-use Rattle.lock_model.specs.Operations.{hold_in, is_kind, is_of_kind, operation_tests, wait_tests}
-use Rattle.lock_model.specs.Plans.{chan_lock, lock_kind}
-use Rattle.lock_model.specs.Queues.{Cause}
-use Rattle.lock_model.specs.Tests.{Passes, where_some}
-use Rattle.lock_model.specs.Words.{is_turnstile}
-use Rattle.lock_model.specs.declared.event.Held.{Held}
-use Rattle.lock_model.specs.declared.numbers.ChanNo.{ChanNo}
-use Rattle.lock_model.specs.declared.numbers.ThreadNo.{ThreadNo}
-use Rattle.lock_model.specs.declared.plan.ChanDecl.{ChanDecl}
-use Rattle.lock_model.specs.declared.plan.Kind.{Kind}
-use Rattle.lock_model.specs.declared.plan.Kind.TheVariants.{Mtx, Rw, Sx}
-use Rattle.lock_model.specs.declared.plan.LockDecl.{LockDecl}
-use Rattle.lock_model.specs.declared.plan.Mode.{Mode}
-use Rattle.lock_model.specs.declared.plan.Op.TheVariants.{Sleep}
-use Rattle.lock_model.specs.declared.plan.Plan.{Plan}
-use Rattle.lock_state.specs.Steps.LockWords.{bits_of_threads}
-use Rattle.floor_table.specs.Views.{Knowledge}
-use Rattle.floor_table.specs.declared.description.Description.{Description}
-use Rattle.cond_vars.specs.Waits.{Waits}
-use Rattle.cond_vars.specs.Wakes.{Broadcasts, Signals, threads_woken}
-use Rattle.floor_run.specs.Sleeps.{HasSlept, HasWokenAll, HasWokenOne}
+use Rattle.floor_run.proofs.Names
+use Names.{ℕ, zero, suc, Bool, true, false, cond, eqb, arith, List, [], length, slice_get, Option, Some, None}
+use Names.{option_map, refl, sym, ap, unwrap_or, list_all, and_parts, eqb-true, ltb-true, slice_get-map, passed}
+use Names.{NotHeld, Holds, hold_in, is_kind, is_of_kind, operation_tests, wait_tests, chan_lock, lock_kind, Cause}
+use Names.{Passes, where_some, is_turnstile, Held, ChanNo, ThreadNo, ChanDecl, Kind, Mtx, Rw, Sx, LockDecl, Mode, Sleep}
+use Names.{Plan, bits_of_threads, Knowledge, Description, Waits, Broadcasts, Signals, threads_woken, HasSlept}
+use Names.{HasWokenAll, HasWokenOne}
+use Rattle.std.proofs.Common.{◌≡◌, ◌≤◌, ◌||◌, ◌∷◌, ◌∙◌}
+use Rattle.std.specs.Prelude.{◌==◌}
 
 pub none_past : {A : Type 0} (xs : List A) (i : ℕ) → slice_get xs i ≡ None → length xs ≤ i
 none_past [] i e = omega arith

@@ -127,7 +127,6 @@ module _ (floor : Description) (v a : Knowledge) (mine : v.description ≡ floor
 
       module _ (g : Knowledge) (home : g ≡ seeing g.seen (gave e (RecordOf v.thread)))
           (give_step : Makes floor (GivesItem e.thread (RecordOf v.thread) ∷ []) e g) where
-
         g_out : g.out ≡ []
         g_out = ap (λ (k : Knowledge). k.out) home ∙ ap rest e_out
 

@@ -90,7 +90,6 @@ module _ (floor : Description) (over : ℕ) (itself : Bool) (v : Knowledge) (h :
 
   -- it was taken
   module _ (a : Knowledge) (taken : Takes floor (RecordOf u) u v a) where
-
     a_there : IsOffTheWay a.pose
     a_there = subst IsOffTheWay (sym (ap (λ (k : Knowledge). k.pose) taken.view)) there
 

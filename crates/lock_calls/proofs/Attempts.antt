@@ -1,34 +1,14 @@
 -- A blocking call before it takes the lock's chain: its exchanges and looks may be made, and what it knows behind them.
-use Rattle.std.proofs.Common.{◌≡◌, ◌≢◌, ◌⊎◌, ℕ, suc, ◌+◌, ◌<◌, ◌≤◌, true, false, cond, Some, None, List, [], ◌∷◌, length, replicate, refl, sym, ap, ◌∙◌, subst, inl, inr, arith}
-use Rattle.std.proofs.lemmas.List.{replicate-append-replicate}
-use Rattle.std.proofs.lemmas.Option.{same_Some}
-use Rattle.lock_model.specs.Holds.{NotHeld}
-use Rattle.lock_model.specs.declared.event.Held.{Held}
-use Rattle.lock_model.specs.Limits.{most_held}
-use Rattle.lock_model.specs.Operations.{hold_in}
-use Rattle.lock_model.specs.Queues.{lock_queue}
-use Rattle.lock_model.specs.Words.{Word, word_of, admits, is_plain}
-use Rattle.lock_model.specs.declared.numbers.LockNo.{LockNo}
-use Rattle.lock_model.specs.declared.plan.Kind.{Kind}
-use Rattle.lock_model.specs.declared.plan.Kind.TheVariants.{Mtx, Rw, Sx}
-use Rattle.lock_model.specs.declared.plan.Mode.{Mode}
-use Rattle.lock_model.specs.declared.plan.Mode.TheVariants.{Excl, Shared}
-use Rattle.lock_state.specs.State.{Look, Round, SleepHalted}
-use Rattle.lock_state.specs.Steps.{Step, Seeks, Looks, Gains, FitsRound}
-use Rattle.lock_state.specs.Steps.LockWords.{round_of}
-use Rattle.floor_table.specs.Descriptions.{config_in}
-use Rattle.floor_table.specs.declared.description.Description.{Description}
-use Rattle.floor_table.specs.Steps.{Makes, MakesEach, MayMake}
-use Rattle.floor_table.specs.Views.{Knowledge, seeing}
-use Rattle.lock_floor.specs.Views.{counts, looked, gained}
-use Rattle.lock_floor.proofs.May.{BeginsCall, BeginsRound, IsUnhalted, WantsItsRound, counts_there, may_look, may_seek_gain, may_gain}
-use Rattle.lock_calls.specs.Choices.{course}
-use Rattle.lock_calls.specs.declared.courses.Course.{Course}
-use Rattle.lock_calls.specs.declared.courses.Course.TheVariants.{Plainly, ByClaim, MustWait}
-use Rattle.lock_calls.specs.Steps.{IsCovered, FirstMisses, most_missed, as_taken}
-use Rattle.lock_calls.specs.Rounds.{LooksOn, looks_alone, tries_too, HasSeen}
-use Rattle.lock_calls.specs.Waiting.{Kept, kept_of, IsCalling, CanAcquire, MayGain, IsChecking, IsSeeking, HasMissed, HasSpun, SpinsThenGains, IsGaining, HasGained, with_looks_counted}
-use Rattle.lock_floor.specs.Passes.{IsAtRest}
+use Rattle.lock_calls.proofs.Names
+use Names.{ℕ, suc, true, false, cond, Some, None, List, [], length, replicate, refl, sym, ap, subst, inl, inr, arith}
+use Names.{replicate-append-replicate, same_Some, NotHeld, Held, most_held, hold_in, lock_queue, Word, word_of, admits}
+use Names.{is_plain, LockNo, Kind, Mtx, Rw, Sx, Mode, Excl, Shared, Look, Round, SleepHalted, Step, Seeks, Looks, Gains}
+use Names.{FitsRound, round_of, config_in, Description, Makes, MakesEach, MayMake, Knowledge, seeing, counts, looked}
+use Names.{gained, BeginsCall, BeginsRound, IsUnhalted, WantsItsRound, counts_there, may_look, may_seek_gain, may_gain}
+use Names.{course, Course, Plainly, ByClaim, MustWait, IsCovered, FirstMisses, most_missed, as_taken, LooksOn}
+use Names.{looks_alone, tries_too, HasSeen, Kept, kept_of, IsCalling, CanAcquire, MayGain, IsChecking, IsSeeking}
+use Names.{HasMissed, HasSpun, SpinsThenGains, IsGaining, HasGained, with_looks_counted, IsAtRest}
+use Rattle.std.proofs.Common.{◌≡◌, ◌≢◌, ◌⊎◌, ◌+◌, ◌<◌, ◌≤◌, ◌∷◌, ◌∙◌}
 use Rattle.lock_calls.proofs.Looks.{each_append, last_step, rest_looks}
 use Rattle.lock_calls.proofs.Words.{other_word}
 

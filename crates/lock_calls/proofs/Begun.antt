@@ -1,20 +1,10 @@
 -- A take has begun: by its first exchange it gained the lock, or the lock's order is to be checked.
-use Rattle.std.proofs.Common.{◌≡◌, [], ◌∷◌, sym, ap, ◌∙◌, subst, arith}
-use Rattle.lock_model.specs.declared.event.Event.TheVariants.{Locked}
-use Rattle.lock_model.specs.declared.numbers.LockNo.{LockNo}
-use Rattle.lock_model.specs.declared.plan.Mode.{Mode}
-use Rattle.lock_state.specs.Steps.{Stamps}
-use Rattle.floor_table.specs.declared.description.Description.{Description}
-use Rattle.floor_table.specs.Steps.{Makes}
-use Rattle.floor_table.specs.Views.{Knowledge}
+use Rattle.lock_calls.proofs.Names
+use Names.{[], sym, ap, subst, arith, Locked, LockNo, Mode, Stamps, Description, Makes, Knowledge, Checks, Pass}
+use Names.{IsAtRest, Done, Again, MayTake, HasMissedFirst, IsUnderTake, HasTaken, HasBegunTake, Kept, kept_of}
+use Names.{IsCalling, HasGainedFirst, HasMissed}
+use Rattle.std.proofs.Common.{◌≡◌, ◌∷◌, ◌∙◌}
 use Rattle.lock_floor.specs.declared.calls.Call.TheVariants as calls
-use Rattle.lock_floor.specs.declared.calls.TakeAt.TheVariants.{Checks}
-use Rattle.lock_floor.specs.Floors.{Pass}
-use Rattle.lock_floor.specs.Passes.{IsAtRest}
-use Rattle.lock_calls.specs.declared.answers.Next.TheVariants.{Done, Again}
-use Rattle.lock_calls.specs.Steps.{MayTake, HasMissedFirst}
-use Rattle.lock_calls.specs.Takes.{IsUnderTake, HasTaken, HasBegunTake}
-use Rattle.lock_calls.specs.Waiting.{Kept, kept_of, IsCalling, HasGainedFirst, HasMissed}
 use Rattle.lock_calls.proofs.Attempts.{is_checking}
 use Rattle.lock_calls.proofs.Calls.{call_noted, view_noted}
 

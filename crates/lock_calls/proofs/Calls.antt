@@ -1,22 +1,11 @@
 -- The call that a pass is in the middle of: which one it is, and that it is noted in the pass where it stands.
-use Rattle.std.proofs.Common.{◌≡◌, [], Option, Some, None, IfSome, IfNone, sym, ap, ◌∙◌, subst, ◌⊎◌, inl, inr, refl}
-use Rattle.lock_model.specs.declared.numbers.LockNo.{LockNo}
-use Rattle.lock_model.specs.declared.plan.Mode.{Mode}
-use Rattle.floor_table.specs.declared.description.Description.{Description}
-use Rattle.floor_table.specs.Views.{Knowledge}
-use Rattle.lock_floor.specs.declared.calls.Call.{Call}
+use Rattle.lock_calls.proofs.Names
+use Names.{[], Option, Some, None, IfSome, IfNone, sym, ap, subst, inl, inr, refl, LockNo, Mode, Description, Knowledge}
+use Names.{Call, ReleaseAt, TakeAt, Checks, Spins, ComesIn, Contends, Walks, Hops, Halts, Sleeps, Floor, Pass, IsOf}
+use Names.{WakesNoOther, Next, Done, Again, Sleep, Wake, Reversed, Halted, IsInRelease, IsUnderRelease, GoesOnReleasing}
+use Names.{IsInTake, IsUnderTake, TakeEnd, TakesOn, TakesPart, GoesOnTaking, marked_at, next_at, stands_at, HasGained}
+use Rattle.std.proofs.Common.{◌≡◌, ◌∙◌, ◌⊎◌}
 use Rattle.lock_floor.specs.declared.calls.Call.TheVariants as calls
-use Rattle.lock_floor.specs.declared.calls.ReleaseAt.{ReleaseAt}
-use Rattle.lock_floor.specs.declared.calls.TakeAt.{TakeAt}
-use Rattle.lock_floor.specs.declared.calls.TakeAt.TheVariants.{Checks, Spins, ComesIn, Contends, Walks, Hops, Halts, Sleeps}
-use Rattle.lock_floor.specs.Floors.{Floor, Pass}
-use Rattle.lock_floor.specs.Passes.{IsOf}
-use Rattle.halting.specs.Halts.{WakesNoOther}
-use Rattle.lock_calls.specs.declared.answers.Next.{Next}
-use Rattle.lock_calls.specs.declared.answers.Next.TheVariants.{Done, Again, Sleep, Wake, Reversed, Halted}
-use Rattle.lock_calls.specs.Releases.{IsInRelease, IsUnderRelease, GoesOnReleasing}
-use Rattle.lock_calls.specs.Takes.{IsInTake, IsUnderTake, TakeEnd, TakesOn, TakesPart, GoesOnTaking, marked_at, next_at, stands_at}
-use Rattle.lock_calls.specs.Waiting.{HasGained}
 
 -- 1. Where the pass notes it
 

@@ -1,25 +1,12 @@
 -- A take has the order of its lock checked: admitted, a round of the lock begins; refused, that is noted, and the call
 -- is over. A thread that holds nothing is never refused.
-use Rattle.std.proofs.Common.{◌≡◌, ◌≢◌, ℕ, suc, ◌-◌, ◌<◌, ◌≤◌, length, true, false, cond, [], ◌∷◌, Some, None, refl, sym, ap, ◌∙◌, subst, inl, arith}
-use Rattle.lock_model.specs.Words.{Word, word_of}
-use Rattle.lock_model.specs.declared.numbers.LockNo.{LockNo}
-use Rattle.lock_model.specs.declared.plan.Mode.{Mode}
-use Rattle.lock_state.specs.State.{Look}
-use Rattle.lock_state.specs.Steps.{Seeks, Looks, Gains}
-use Rattle.lock_state.specs.Steps.Items.{ClassGraph}
-use Rattle.lock_state.specs.Steps.LockWords.{round_of, taking_from}
-use Rattle.floor_table.specs.Descriptions.{config_in}
-use Rattle.floor_table.specs.declared.description.Description.{Description}
-use Rattle.floor_table.specs.Steps.{Makes, MayMake}
-use Rattle.floor_table.specs.Views.{Knowledge, seeing}
-use Rattle.lock_floor.specs.declared.calls.TakeAt.TheVariants.{Checks, Spins}
-use Rattle.lock_floor.specs.Latches.{FindsOut}
-use Rattle.lock_floor.specs.Ordering.{ChecksOrder, checks}
-use Rattle.lock_floor.specs.Views.{counts, looked, sought}
-use Rattle.lock_floor.proofs.May.{BeginsRound, counts_there, may_seek, may_seek_gain}
-use Rattle.lock_calls.specs.Steps.{IsCovered, as_taken, gains_at_once}
-use Rattle.lock_calls.specs.Takes.{LeavesLooks, TakesOn, TakeEnd, admitted, at_check, finds_out}
-use Rattle.lock_calls.specs.Waiting.{kept_of, IsChecking, MaySeek, IsSeeking, HasBegun, GainsAtOnce, HasGained}
+use Rattle.lock_calls.proofs.Names
+use Names.{ℕ, suc, length, true, false, cond, [], Some, None, refl, sym, ap, subst, inl, arith, Word, word_of, LockNo}
+use Names.{Mode, Look, Seeks, Looks, Gains, ClassGraph, round_of, taking_from, config_in, Description, Makes, MayMake}
+use Names.{Knowledge, seeing, Checks, Spins, FindsOut, ChecksOrder, checks, counts, looked, sought, BeginsRound}
+use Names.{counts_there, may_seek, may_seek_gain, IsCovered, as_taken, gains_at_once, LeavesLooks, TakesOn, TakeEnd}
+use Names.{admitted, at_check, finds_out, kept_of, IsChecking, MaySeek, IsSeeking, HasBegun, GainsAtOnce, HasGained}
+use Rattle.std.proofs.Common.{◌≡◌, ◌≢◌, ◌-◌, ◌<◌, ◌≤◌, ◌∷◌, ◌∙◌}
 use Rattle.lock_calls.proofs.Attempts.{free_admits, plainly, unhalted}
 use Rattle.lock_calls.proofs.Looks.{each_append}
 use Rattle.lock_calls.proofs.Spun.{fewer_left, leaving_waits}

@@ -1,17 +1,10 @@
 -- What follows from the course that a thread takes, of the word of a lock that it doesn't hold.
-use Rattle.std.proofs.Common.{◌≡◌, Bool, true, false, refl}
+use Rattle.lock_calls.proofs.Names
+use Names.{Bool, true, false, refl, Word, Holder, Free, HeldBy, SharedBy, admits, is_plain, Kind, Mtx, Rw, Sx, Mode}
+use Names.{Excl, Shared, HasRoom, CanBeSeen, IsClaim, is_claim, course, Course, Plainly, ByClaim, MustWait}
+use Rattle.std.proofs.Common.{◌≡◌}
 use Rattle.std.specs.Prelude.{if◌then◌else◌}
-use Rattle.lock_model.specs.Words.{Word, Holder, Free, HeldBy, SharedBy, admits, is_plain}
-use Rattle.lock_model.specs.declared.plan.Kind.{Kind}
-use Rattle.lock_model.specs.declared.plan.Kind.TheVariants.{Mtx, Rw, Sx}
-use Rattle.lock_model.specs.declared.plan.Mode.{Mode}
-use Rattle.lock_model.specs.declared.plan.Mode.TheVariants.{Excl, Shared}
-use Rattle.lock_laws.specs.Words.{HasRoom, CanBeSeen}
-use Rattle.lock_laws.proofs.Words.{IsClaim, is_claim}
 use Rattle.lock_words.specs.Views.{MayGain}
-use Rattle.lock_calls.specs.Choices.{course}
-use Rattle.lock_calls.specs.declared.courses.Course.{Course}
-use Rattle.lock_calls.specs.declared.courses.Course.TheVariants.{Plainly, ByClaim, MustWait}
 
 -- 1. What the word admits then
 

@@ -1,32 +1,15 @@
 -- A take as it leaves the section of the lock's chain: it gained the lock there, runs on and gives both back; or it
 -- stands on the lock's queue, and gives both back.
-use Rattle.std.proofs.Common.{◌≡◌, ℕ, ◌<◌, ◌≤◌, Bool, true, false, Option, Some, None, [], ◌∷◌, length, refl, sym, ap, ◌∙◌, subst}
-use Rattle.lock_model.specs.Queues.{lock_queue}
-use Rattle.lock_model.specs.Words.{is_turnstile}
-use Rattle.lock_model.specs.declared.event.Held.{Held}
-use Rattle.lock_model.specs.declared.numbers.LockNo.{LockNo}
-use Rattle.lock_model.specs.declared.plan.Mode.{Mode}
-use Rattle.lock_objects.specs.Represents.{walk_of}
-use Rattle.lock_state.specs.Steps.{Looks, Unreadies}
-use Rattle.lock_state.specs.Steps.Items.{is_bound}
-use Rattle.lock_state.specs.Steps.LockWords.{is_taking_back}
-use Rattle.lock_state.specs.Steps.Turnstiles.{walk_up}
+use Rattle.lock_calls.proofs.Names
+use Names.{ℕ, Bool, true, false, Option, Some, None, [], length, refl, sym, ap, subst, lock_queue, is_turnstile, Held}
+use Names.{LockNo, Mode, walk_of, Looks, Unreadies, is_bound, is_taking_back, walk_up, Description, config_in, Record}
+use Names.{Makes, MakesEach, MayMake, Runs, IsReady, StandsOn, Knowledge, seeing, Contends, Walks, IsGoing, gained}
+use Names.{readied, entered, IsOnFloor, CanWalk, HasRecordAndChain, IsCovered, as_taken, gives_both, IsStanding}
+use Names.{TakesOn, TakeEnd, in_section, enters, looks_there, kept_of, CanAcquire, IsThere, GainsStep, EntersStep}
+use Names.{MissesThere, HasGained, with_none_out}
+use Rattle.std.proofs.Common.{◌≡◌, ◌<◌, ◌≤◌, ◌∷◌, ◌∙◌}
 use Rattle.prio_lending.specs.declared.walk.Walk as run_time
-use Rattle.floor_table.specs.declared.description.Description.{Description}
-use Rattle.floor_table.specs.Descriptions.{config_in}
-use Rattle.floor_table.specs.declared.slot.Slot.TheVariants.{Record}
-use Rattle.floor_table.specs.Steps.{Makes, MakesEach, MayMake}
-use Rattle.floor_table.specs.Views.{Runs, IsReady, StandsOn, Knowledge, seeing}
-use Rattle.lock_floor.specs.declared.calls.TakeAt.TheVariants.{Contends, Walks}
-use Rattle.lock_floor.specs.Passes.{IsGoing}
-use Rattle.lock_floor.specs.Views.{gained}
-use Rattle.lock_floor.specs.Waits.{readied, entered}
-use Rattle.lock_floor.specs.Walks.{IsOnFloor, CanWalk}
 use Rattle.lock_floor.proofs.MayWait as wait
-use Rattle.lock_calls.specs.Sections.{HasRecordAndChain}
-use Rattle.lock_calls.specs.Steps.{IsCovered, as_taken, gives_both}
-use Rattle.lock_calls.specs.Takes.{IsStanding, TakesOn, TakeEnd, in_section, enters, looks_there}
-use Rattle.lock_calls.specs.Waiting.{kept_of, CanAcquire, IsThere, GainsStep, EntersStep, MissesThere, HasGained, with_none_out}
 use Rattle.lock_calls.proofs.There.{quiet_there, contends}
 
 -- 1. It gained the lock

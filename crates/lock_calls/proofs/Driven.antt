@@ -1,31 +1,15 @@
 -- A take and a release that wait, part after part.
-use Rattle.std.proofs.Common.{◌≡◌, ◌⊎◌, inl, inr, ◌<◌, false, [], ◌∷◌, length, refl, ap, ◌∙◌, subst, arith}
-use Rattle.lock_model.specs.declared.event.Event.{Event}
-use Rattle.lock_model.specs.declared.event.Reversal.{Reversal}
-use Rattle.lock_model.specs.declared.numbers.LockNo.{LockNo}
-use Rattle.lock_model.specs.declared.numbers.ThreadNo.{ThreadNo}
-use Rattle.lock_model.specs.declared.plan.Mode.{Mode}
-use Rattle.lock_model.specs.declared.plan.Mode.TheVariants.{Excl, Shared}
-use Rattle.lock_model.specs.Operations.{without_lock}
-use Rattle.floor_table.specs.declared.description.Description.{Description}
-use Rattle.lock_state.specs.Steps.{Stamps}
-use Rattle.floor_table.specs.Steps.{Makes, MakesEach}
-use Rattle.floor_table.specs.Views.{Knowledge}
+use Rattle.lock_calls.proofs.Names
+use Names.{inl, inr, false, [], length, refl, ap, subst, arith, Event, Reversal, LockNo, ThreadNo, Mode, Excl, Shared}
+use Names.{without_lock, Description, Stamps, Makes, MakesEach, Knowledge, ReleaseAt, Wakes, TakeAt, Checks, Pass}
+use Names.{IsAtRest, MakesEntry, Next, Done, Again, Sleep, Wake, Reversed, Halted, IsUnderRelease, HasBegunRelease}
+use Names.{StandsInRelease, ReleasesAtOnce, EndsRelease, WakesOne, GoesOnReleasing, outside, Locks, Release, ByDrop}
+use Names.{IsReleaseIn, unlocks, at_once, IsUnderTake, HasTaken, IsRefused, HasBegunTake, TakesAtOnce, BeginsTake}
+use Names.{StandsInTake, StandsAndWakes, TakesOn, EndsRefused, EndsHalted, WasHalted, GoesOnTaking, kept_at, Kept}
+use Names.{kept_of}
+use Rattle.std.proofs.Common.{◌≡◌, ◌⊎◌, ◌<◌, ◌∷◌, ◌∙◌}
 use Rattle.lock_floor.specs.declared.calls.Call.TheVariants as calls
-use Rattle.lock_floor.specs.declared.calls.ReleaseAt.{ReleaseAt}
-use Rattle.lock_floor.specs.declared.calls.ReleaseAt.TheVariants.{Wakes}
-use Rattle.lock_floor.specs.declared.calls.TakeAt.{TakeAt}
-use Rattle.lock_floor.specs.declared.calls.TakeAt.TheVariants.{Checks}
-use Rattle.lock_floor.specs.Floors.{Pass}
-use Rattle.lock_floor.specs.Passes.{IsAtRest, MakesEntry}
-use Rattle.lock_calls.specs.declared.answers.Next.{Next}
-use Rattle.lock_calls.specs.declared.answers.Next.TheVariants.{Done, Again, Sleep, Wake, Reversed, Halted}
 use Rattle.lock_calls.specs.Releases as released
-use Rattle.lock_calls.specs.Releases.{IsUnderRelease, HasBegunRelease, StandsInRelease, ReleasesAtOnce, EndsRelease, WakesOne, GoesOnReleasing}
-use Rattle.lock_calls.specs.Choices.{outside}
-use Rattle.lock_calls.specs.Steps.{Locks, Release, ByDrop, IsReleaseIn, unlocks, at_once}
-use Rattle.lock_calls.specs.Takes.{IsUnderTake, HasTaken, IsRefused, HasBegunTake, TakesAtOnce, BeginsTake, StandsInTake, StandsAndWakes, TakesOn, EndsRefused, EndsHalted, WasHalted, GoesOnTaking, kept_at}
-use Rattle.lock_calls.specs.Waiting.{Kept, kept_of}
 use Rattle.lock_calls.proofs.Let as let_go
 use Rattle.lock_calls.proofs.Let.{HasNoted, Noted, noted_of}
 use Rattle.lock_calls.proofs.Taken as taken

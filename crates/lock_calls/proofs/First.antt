@@ -1,9 +1,6 @@
 -- A pass is ready as it is made.
-use Rattle.std.proofs.Common.{ℕ, refl}
-use Rattle.lock_model.specs.History.{sections_in}
-use Rattle.floor_table.specs.declared.description.Description.{Description}
-use Rattle.lock_floor.specs.Floors.{Floor}
-use Rattle.lock_floor.specs.Passes.{IsReady, first_pass}
+use Rattle.lock_calls.proofs.Names.{ℕ, refl, sections_in, Description, Floor, first_pass}
+use Rattle.lock_floor.specs.Passes.{IsReady}
 
 pub ready_first : (f : Floor Description) (t : ℕ) → IsReady f (first_pass f.table f.description t)
 unfolding sections_in

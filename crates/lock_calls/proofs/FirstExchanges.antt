@@ -1,28 +1,14 @@
 -- The first exchanges of a call whose thread holds nothing: from the free word, and of a lock that can be shared a
 -- second one, from the word that the first found. They may be made; and what the thread knows behind those that missed,
 -- or where one of them gained the lock.
-use Rattle.std.proofs.Common.{◌≡◌, ◌≢◌, ℕ, suc, ◌<◌, ◌≤◌, Bool, true, false, cond, Option, Some, None, [], ◌∷◌, refl, sym, ap, ◌∙◌, subst, inr, arith}
-use Rattle.lock_model.specs.Operations.{hold_in}
-use Rattle.lock_model.specs.Words.{word_of}
-use Rattle.lock_model.specs.declared.numbers.LockNo.{LockNo}
-use Rattle.lock_model.specs.declared.plan.Kind.{Kind}
-use Rattle.lock_model.specs.declared.plan.Kind.TheVariants.{Mtx, Rw, Sx}
-use Rattle.lock_model.specs.declared.plan.Mode.{Mode}
-use Rattle.lock_state.specs.State.{Look}
-use Rattle.lock_state.specs.Steps.{Seeks, Looks, Gains}
-use Rattle.lock_state.specs.Steps.LockWords.{taking_from}
-use Rattle.floor_table.specs.Descriptions.{config_in}
-use Rattle.floor_table.specs.declared.description.Description.{Description}
-use Rattle.floor_table.specs.Steps.{Makes, MayMake}
-use Rattle.floor_table.specs.Views.{Knowledge, seeing}
-use Rattle.lock_floor.specs.Passes.{IsGoing}
-use Rattle.lock_floor.specs.Rounds.{gained_first}
-use Rattle.lock_floor.specs.Views.{counts, looked, sought}
-use Rattle.lock_floor.proofs.May.{BeginsRound, ExchangesAgain, counts_first, may_look, may_seek_gain}
-use Rattle.lock_calls.specs.Choices.{course}
-use Rattle.lock_calls.specs.declared.courses.Course.TheVariants.{Plainly}
-use Rattle.lock_calls.specs.Steps.{IsCovered, FirstMisses, MissesFirst, none_missed, one_missed, most_missed, as_taken, gains_at_once}
-use Rattle.lock_calls.specs.Waiting.{kept_of, MayGain, HasMissed, HasGainedFirst, IsGaining, HasGained, with_looks_counted}
+use Rattle.lock_calls.proofs.Names
+use Names.{ℕ, suc, Bool, true, false, cond, Option, Some, None, [], refl, sym, ap, subst, inr, arith, hold_in, word_of}
+use Names.{LockNo, Kind, Mtx, Rw, Sx, Mode, Look, Seeks, Looks, Gains, taking_from, config_in, Description, Makes}
+use Names.{MayMake, Knowledge, seeing, IsGoing, gained_first, counts, looked, sought, BeginsRound, ExchangesAgain}
+use Names.{counts_first, may_look, may_seek_gain, course, Plainly, IsCovered, FirstMisses, MissesFirst, none_missed}
+use Names.{one_missed, most_missed, as_taken, gains_at_once, kept_of, MayGain, HasMissed, HasGainedFirst, IsGaining}
+use Names.{HasGained, with_looks_counted}
+use Rattle.std.proofs.Common.{◌≡◌, ◌≢◌, ◌<◌, ◌≤◌, ◌∷◌, ◌∙◌}
 use Rattle.lock_calls.proofs.Attempts.{free_plainly, one_may_miss, unhalted}
 use Rattle.lock_calls.proofs.Chosen.{gains_plainly}
 use Rattle.lock_calls.proofs.Looks.{wants_none}

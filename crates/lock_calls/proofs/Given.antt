@@ -1,22 +1,10 @@
 -- The own record goes home, and then the lock's chain.
-use Rattle.std.proofs.Common.{◌≡◌, ◌⊎◌, ℕ, false, [], ◌∷◌, refl, sym, ap, ◌∙◌, subst}
-use Rattle.atomic_table.specs.Table.{rest}
-use Rattle.lock_model.specs.Queues.{lock_queue}
-use Rattle.lock_model.specs.declared.plan.QueueName.{QueueName}
-use Rattle.lock_state.specs.Steps.{GivesItem}
-use Rattle.lock_state.specs.Steps.Items.{RecordOf, is_bound, seen_after}
-use Rattle.floor_table.specs.declared.description.Description.{Description}
-use Rattle.floor_table.specs.declared.slot.Slot.TheVariants.{Record}
-use Rattle.floor_table.specs.Steps.{Makes, MakesEach, MayMake}
-use Rattle.floor_table.specs.Views.{Runs, StandsOn, Knowledge, seeing}
-use Rattle.lock_floor.specs.Passes.{IsGoing}
-use Rattle.lock_floor.specs.Views.{gave}
-use Rattle.lock_floor.specs.Waits.{its_chain, chain_place}
+use Rattle.lock_calls.proofs.Names
+use Names.{ℕ, false, [], refl, sym, ap, subst, rest, lock_queue, QueueName, GivesItem, RecordOf, is_bound, seen_after}
+use Names.{Description, Record, Makes, MakesEach, MayMake, Runs, StandsOn, Knowledge, seeing, IsGoing, gave, its_chain}
+use Names.{chain_place, is_a_chain, HasRecordAndChain, gives_both, with_none_out}
+use Rattle.std.proofs.Common.{◌≡◌, ◌⊎◌, ◌∷◌, ◌∙◌}
 use Rattle.lock_floor.proofs.MayWait as wait
-use Rattle.lock_floor.proofs.MayWait.{is_a_chain}
-use Rattle.lock_calls.specs.Sections.{HasRecordAndChain}
-use Rattle.lock_calls.specs.Steps.{gives_both}
-use Rattle.lock_calls.specs.Waiting.{with_none_out}
 
 module _ (floor : Description) (l : ℕ) (v : Knowledge) (both : HasRecordAndChain floor l v)
     (settled : (v.pose ≡ Runs) ⊎ ((q : QueueName) × (v.pose ≡ StandsOn q)))

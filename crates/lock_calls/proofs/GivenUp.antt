@@ -1,28 +1,14 @@
 -- A lock is given up within a wait: a release that isn't noted, and begins with a look.
-use Rattle.std.proofs.Common.{◌≡◌, ◌≢◌, ℕ, Bool, true, false, List, [], ◌∷◌, ◌++◌, eqb, eq-eqb, refl, sym, ap, ◌∙◌, subst, arith}
+use Rattle.lock_calls.proofs.Names
+use Names.{ℕ, Bool, true, false, List, [], eqb, eq-eqb, refl, sym, ap, subst, arith, NotHeld, Holds, hold_in, word_of}
+use Names.{IsWellFormed, is_drop, Held, LockNo, Mode, Excl, Shared, Looks, Description, Makes, MakesEach, Knowledge}
+use Names.{seeing, ReleaseAt, ComesTo, Wakes, GivesUp, counts, looked, counts_not, waits_none, by_word, BeginsGivingUp}
+use Names.{HasWokenOne, IsReleased, IsReleasing, ReleasesOn, once_released, Release, ByDrop, InSection, IsGivingUpIn}
+use Names.{releases_by, IsOwn, MayPutDown}
+use Rattle.std.proofs.Common.{◌≡◌, ◌≢◌, ◌∷◌, ◌++◌, ◌∙◌}
 use Rattle.std.specs.Prelude.{if◌then◌else◌}
-use Rattle.lock_model.specs.Holds.{NotHeld, Holds}
-use Rattle.lock_model.specs.Operations.{hold_in}
-use Rattle.lock_model.specs.Words.{word_of, IsWellFormed, is_drop}
-use Rattle.lock_model.specs.declared.event.Held.{Held}
-use Rattle.lock_model.specs.declared.numbers.LockNo.{LockNo}
-use Rattle.lock_model.specs.declared.plan.Mode.{Mode}
-use Rattle.lock_model.specs.declared.plan.Mode.TheVariants.{Excl, Shared}
-use Rattle.lock_state.specs.Steps.{Looks}
-use Rattle.floor_table.specs.declared.description.Description.{Description}
-use Rattle.floor_table.specs.Steps.{Makes, MakesEach}
-use Rattle.floor_table.specs.Views.{Knowledge, seeing}
-use Rattle.lock_floor.specs.declared.calls.ReleaseAt.{ReleaseAt}
 use Rattle.lock_floor.specs.declared.calls.ReleaseAt.TheVariants as places
-use Rattle.lock_floor.specs.declared.calls.ReleaseAt.TheVariants.{ComesTo, Wakes}
-use Rattle.lock_floor.specs.Relocks.{MayRelease, GivesUp}
-use Rattle.lock_floor.specs.Views.{counts, looked}
-use Rattle.lock_floor.proofs.May.{counts_not}
-use Rattle.lock_floor.proofs.Taking.{waits_none}
-use Rattle.lock_calls.specs.Choices.{by_word}
-use Rattle.lock_calls.specs.Releases.{BeginsGivingUp, HasWokenOne, IsReleased, IsReleasing, ReleasesOn, once_released}
-use Rattle.lock_calls.specs.Steps.{Release, ByDrop, InSection, IsGivingUpIn, releases_by}
-use Rattle.lock_calls.specs.Waiting.{IsOwn, MayPutDown}
+use Rattle.lock_floor.specs.Relocks.{MayRelease}
 use Rattle.lock_calls.proofs.Leaving.{leaving_behind, looks_on}
 use Rattle.lock_calls.proofs.Let as let_go
 use Rattle.lock_calls.proofs.Let.{IsSoOften}

@@ -1,32 +1,13 @@
 -- A take whose sleep an abort ended: it notes that, and the thread is at rest again. No sleep on a turnstile is ended
 -- so.
-use Rattle.std.proofs.Common.{◌≡◌, ℕ, ◌+◌, ◌≤◌, Bool, true, false, None, [], ◌∷◌, refl, sym, ap, ◌∙◌, subst, arith}
-use Rattle.std.proofs.lemmas.Option.{same_Some}
-use Rattle.lock_model.specs.Config.{Config}
-use Rattle.lock_model.specs.Queues.{Cause, BySignal, ByAbort, lock_queue}
-use Rattle.lock_model.specs.Words.{is_turnstile}
-use Rattle.lock_model.specs.declared.event.Event.{Event}
-use Rattle.lock_model.specs.declared.event.Event.TheVariants.{HaltedLock}
-use Rattle.lock_model.specs.declared.numbers.LockNo.{LockNo}
-use Rattle.lock_model.specs.declared.plan.QueueName.{QueueName}
-use Rattle.lock_state.specs.Facts.Sleeps.{NoSleepIsHalted}
-use Rattle.lock_state.specs.State.{State, Awake}
-use Rattle.lock_state.specs.Steps.{Stamps, Resumes, HasOutForEntry}
-use Rattle.lock_state.specs.Steps.LockWords.{Asks}
-use Rattle.lock_state.specs.Steps.Turnstiles.{called_after, wanted_after, noted_after, taking_by, woken_from_by, round_for}
-use Rattle.floor_table.specs.Descriptions.{config_in}
-use Rattle.floor_table.specs.declared.description.Description.{Description}
-use Rattle.floor_table.specs.Shares.{Doing}
-use Rattle.floor_table.specs.Steps.{Fits, Makes, MayMake}
-use Rattle.floor_table.specs.Views.{Runs, StandsOn, Knowledge, seeing}
-use Rattle.lock_floor.specs.declared.calls.TakeAt.TheVariants.{Sleeps}
-use Rattle.lock_floor.specs.Passes.{IsAtRest}
-use Rattle.lock_floor.specs.Resumes.{cause_of, resumed, RunsAgain}
-use Rattle.lock_floor.specs.Views.{entry_by, stamped}
-use Rattle.lock_floor.proofs.May.{doing_it, holds_it, may_stamp_end}
-use Rattle.lock_floor.proofs.Resting.{rest_noted, rest_seeing}
-use Rattle.lock_calls.specs.Takes.{IsParked, IsHalted, kept_at}
-use Rattle.lock_calls.specs.Waiting.{IsCalling}
+use Rattle.lock_calls.proofs.Names
+use Names.{ℕ, Bool, true, false, None, [], refl, sym, ap, subst, arith, same_Some, Config, Cause, BySignal, ByAbort}
+use Names.{lock_queue, is_turnstile, Event, HaltedLock, LockNo, QueueName, NoSleepIsHalted, State, Awake, Stamps}
+use Names.{Resumes, HasOutForEntry, Asks, called_after, wanted_after, noted_after, taking_by, woken_from_by, round_for}
+use Names.{config_in, Description, Doing, Fits, Makes, MayMake, Runs, StandsOn, Knowledge, seeing, Sleeps, IsAtRest}
+use Names.{cause_of, resumed, RunsAgain, entry_by, stamped, doing_it, holds_it, may_stamp_end, rest_noted, rest_seeing}
+use Names.{IsParked, IsHalted, kept_at, IsCalling}
+use Rattle.std.proofs.Common.{◌≡◌, ◌+◌, ◌≤◌, ◌∷◌, ◌∙◌}
 use Rattle.lock_calls.proofs.Standing.{by_signal}
 
 -- at the moment of such an entry the halt word is 1

@@ -1,42 +1,21 @@
 -- A release from its first exchange on: it comes to the section of the lock's chain, makes the lock free there, gives
 -- both back, and wakes those whom it took off. Where it stands behind each part.
-use Rattle.std.proofs.Common.{◌≡◌, ◌≢◌, ℕ, ◌<◌, suc, Bool, true, false, cond, Option, Some, None, List, [], ◌∷◌, length, inl, inr, refl, sym, ap, ◌∙◌, subst}
-use Rattle.std.proofs.lemmas.List.Elements.{All-tail}
-use Rattle.std.specs.List.{All}
+use Rattle.lock_calls.proofs.Names
+use Names.{ℕ, suc, Bool, true, false, cond, Option, Some, None, List, [], length, inl, inr, refl, sym, ap, subst}
+use Names.{All-tail, All, NotHeld, Holds, hold_in, Mark, lock_queue, Word, word_of, IsWellFormed, is_drop, LockNo, Mode}
+use Names.{Excl, Shared, Look, Step, Looks, TakesItem, IsOfRound, RecordOf, item_with, in_its_chain, is_bound}
+use Names.{config_in, Description, Makes, MakesEach, MayMake, Knowledge, seeing, ReleaseAt, ComesTo, Frees, Wakes}
+use Names.{FindsOut, Takes, CanMark, WakesFirst, opened_up, IsGoing, IsAtRest, IsOffTheWay, MayGiveUp, counts, looked}
+use Names.{its_chain, chain_place, is_a_chain, counts_not, runners_mark, sleepers_mark, outside, LeavesWithChain}
+use Names.{LeavesWithBoth, HasPutDown, IsReleasing, IsUnderRelease, IsReleased, HasWokenOne, ReleasesOn, held_once}
+use Names.{once_released, makes_free, HasRecordAndChain, gives_both, with_looks, with_none_out, MayPutDown, MayLetGo}
+use Names.{IsOwn, LetsGo, MissesOwn}
+use Rattle.std.proofs.Common.{◌≡◌, ◌≢◌, ◌<◌, ◌∷◌, ◌∙◌}
 use Rattle.std.specs.Prelude.{if◌then◌else◌}
-use Rattle.lock_model.specs.Holds.{NotHeld, Holds}
-use Rattle.lock_model.specs.Operations.{hold_in}
-use Rattle.lock_model.specs.Queues.{Mark, lock_queue}
-use Rattle.lock_model.specs.Words.{Word, word_of, IsWellFormed, is_drop}
-use Rattle.lock_model.specs.declared.numbers.LockNo.{LockNo}
-use Rattle.lock_model.specs.declared.plan.Mode.{Mode}
-use Rattle.lock_model.specs.declared.plan.Mode.TheVariants.{Excl, Shared}
-use Rattle.lock_state.specs.State.{Look}
-use Rattle.lock_state.specs.Steps.{Step, Looks, TakesItem, IsOfRound}
-use Rattle.lock_state.specs.Steps.Items.{RecordOf, item_with, in_its_chain, is_bound}
-use Rattle.floor_table.specs.Descriptions.{config_in}
-use Rattle.floor_table.specs.declared.description.Description.{Description}
-use Rattle.floor_table.specs.Steps.{Makes, MakesEach, MayMake}
-use Rattle.floor_table.specs.Views.{Knowledge, seeing}
-use Rattle.lock_floor.specs.declared.calls.ReleaseAt.{ReleaseAt}
 use Rattle.lock_floor.specs.declared.calls.ReleaseAt.TheVariants as places
-use Rattle.lock_floor.specs.declared.calls.ReleaseAt.TheVariants.{ComesTo, ComesIn, Frees, Wakes}
-use Rattle.lock_floor.specs.Latches.{FindsOut, Takes}
-use Rattle.lock_floor.specs.Marks.{CanMark, WakesFirst}
-use Rattle.lock_floor.specs.Opens.{opened_up}
-use Rattle.lock_floor.specs.Passes.{IsGoing, IsAtRest, IsOffTheWay}
-use Rattle.lock_floor.specs.Relocks.{MayGiveUp}
-use Rattle.lock_floor.specs.Views.{counts, looked}
-use Rattle.lock_floor.specs.Waits.{its_chain, chain_place}
+use Rattle.lock_floor.specs.declared.calls.ReleaseAt.TheVariants.{ComesIn}
 use Rattle.lock_floor.proofs.MayWait as wait
-use Rattle.lock_floor.proofs.MayWait.{is_a_chain}
-use Rattle.lock_floor.proofs.May.{counts_not}
-use Rattle.lock_floor.proofs.MayWake.{runners_mark, sleepers_mark}
-use Rattle.lock_calls.specs.Choices.{outside}
-use Rattle.lock_calls.specs.Releases.{LeavesWithChain, LeavesWithBoth, HasPutDown, IsReleasing, IsUnderRelease, IsReleased, HasWokenOne, ReleasesOn, held_once, once_released, takes_chain, comes_in, looks, makes_free, finds_out}
-use Rattle.lock_calls.specs.Sections.{HasRecordAndChain}
-use Rattle.lock_calls.specs.Steps.{gives_both}
-use Rattle.lock_calls.specs.Waiting.{with_looks, with_none_out, MayPutDown, MayLetGo, IsOwn, LetsGo, MissesOwn}
+use Rattle.lock_calls.specs.Releases.{takes_chain, comes_in, looks, finds_out}
 use Rattle.lock_calls.proofs.Looks.{look_knows, wants_none}
 use Rattle.lock_calls.proofs.Owned.{off_the_way, saw_own}
 use Rattle.lock_calls.proofs.Sections.{chain_out, both_out}

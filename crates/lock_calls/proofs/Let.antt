@@ -1,34 +1,17 @@
 -- A release from its begin on: what the thread has made so far where the release stands, and that its parts together
 -- are a release.
-use Rattle.std.proofs.Common.{◌≡◌, ℕ, ◌+◌, ◌≤◌, Bool, true, false, List, [], ◌∷◌, ◌++◌, replicate, refl, sym, ap, ◌∙◌, subst, arith}
+use Rattle.lock_calls.proofs.Names
+use Names.{ℕ, Bool, true, false, List, [], replicate, refl, sym, ap, subst, arith, replicate-append-replicate}
+use Names.{without_lock, Mark, lock_queue, word_of, is_drop, Entry, Event, Held, LockNo, Kind, Mode, Excl, Shared, Step}
+use Names.{Looks, Drops, TakesItem, GivesItem, CountsIn, Marks, Item, RecordOf, config_in, Description, Makes}
+use Names.{MakesEach, Knowledge, seeing, ReleaseAt, ComesTo, Frees, Wakes, WakesFirst, wakes, marking, MakesEntry}
+use Names.{its_chain, HasWaited, waits_none, waits_on, outside, AwaitsInRelease, ReleaseLeg, misses, makes_free}
+use Names.{ReleaseEnd, puts_down, nobody_left, Release, ByDrop, InSection, IsReleaseIn, frees, gives_both, releases_by}
+use Rattle.std.proofs.Common.{◌≡◌, ◌+◌, ◌≤◌, ◌∷◌, ◌++◌, ◌∙◌}
 use Rattle.std.specs.Prelude.{if◌then◌else◌}
-use Rattle.std.proofs.lemmas.List.{replicate-append-replicate}
-use Rattle.lock_model.specs.Operations.{without_lock}
-use Rattle.lock_model.specs.Queues.{Mark, lock_queue}
-use Rattle.lock_model.specs.Words.{word_of, is_drop}
-use Rattle.lock_model.specs.declared.event.Entry.{Entry}
-use Rattle.lock_model.specs.declared.event.Event.{Event}
-use Rattle.lock_model.specs.declared.event.Held.{Held}
-use Rattle.lock_model.specs.declared.numbers.LockNo.{LockNo}
-use Rattle.lock_model.specs.declared.plan.Kind.{Kind}
-use Rattle.lock_model.specs.declared.plan.Mode.{Mode}
-use Rattle.lock_model.specs.declared.plan.Mode.TheVariants.{Excl, Shared}
-use Rattle.lock_state.specs.Steps.{Step, Looks, Drops, TakesItem, GivesItem, CountsIn, Marks}
-use Rattle.lock_state.specs.Steps.Items.{Item, RecordOf}
-use Rattle.floor_table.specs.Descriptions.{config_in}
-use Rattle.floor_table.specs.declared.description.Description.{Description}
-use Rattle.floor_table.specs.Steps.{Makes, MakesEach}
-use Rattle.floor_table.specs.Views.{Knowledge, seeing}
-use Rattle.lock_floor.specs.declared.calls.ReleaseAt.{ReleaseAt}
 use Rattle.lock_floor.specs.declared.calls.ReleaseAt.TheVariants as places
-use Rattle.lock_floor.specs.declared.calls.ReleaseAt.TheVariants.{ComesTo, ComesIn, Frees, Wakes}
-use Rattle.lock_floor.specs.Marks.{WakesFirst, wakes, marking}
-use Rattle.lock_floor.specs.Passes.{MakesEntry}
-use Rattle.lock_floor.specs.Waits.{its_chain}
-use Rattle.lock_floor.proofs.Taking.{HasWaited, waits_none, waits_on}
-use Rattle.lock_calls.specs.Choices.{outside}
-use Rattle.lock_calls.specs.Releases.{AwaitsInRelease, ReleaseLeg, misses, takes_chain, comes_in, looks, makes_free, finds_out, ReleaseEnd, puts_down, nobody_left}
-use Rattle.lock_calls.specs.Steps.{Release, ByDrop, InSection, IsReleaseIn, frees, gives_both, releases_by}
+use Rattle.lock_floor.specs.declared.calls.ReleaseAt.TheVariants.{ComesIn}
+use Rattle.lock_calls.specs.Releases.{takes_chain, comes_in, looks, finds_out}
 use Rattle.lock_calls.proofs.Looks.{each_append}
 use Rattle.lock_calls.proofs.Waited.{makes_sooner, each_sooner}
 

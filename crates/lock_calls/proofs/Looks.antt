@@ -1,19 +1,11 @@
 -- Looks at a lock outside acquiring rounds, which change only what the thread saw last: those of a release. And the
 -- first exchange of a call, which missed, may be made.
-use Rattle.std.proofs.Common.{◌≡◌, ℕ, suc, ◌+◌, ◌<◌, false, true, cond, Option, Some, None, List, [], ◌∷◌, ◌++◌, length, replicate, refl, sym, ap, ◌∙◌, subst, inl, arith}
-use Rattle.std.proofs.lemmas.List.{replicate-append-replicate}
-use Rattle.lock_model.specs.Holds.{Hold, NotHeld, Holds}
-use Rattle.lock_model.specs.Operations.{hold_in}
-use Rattle.lock_model.specs.Words.{Word}
-use Rattle.lock_state.specs.State.{Look}
-use Rattle.lock_state.specs.Steps.{Step, Looks}
-use Rattle.floor_table.specs.declared.description.Description.{Description}
-use Rattle.floor_table.specs.Steps.{Makes, MakesEach, MayMake}
-use Rattle.floor_table.specs.Views.{Knowledge, seeing}
-use Rattle.lock_floor.specs.Passes.{IsAtRest}
-use Rattle.lock_floor.specs.Views.{counts, looked}
-use Rattle.lock_floor.proofs.May.{BeginsCall, WantsItsRound, counts_not, may_look}
-use Rattle.lock_calls.specs.Waiting.{CanLook, with_looks, HasLooked}
+use Rattle.lock_calls.proofs.Names
+use Names.{ℕ, suc, false, true, cond, Option, Some, None, List, [], length, replicate, refl, sym, ap, subst, inl, arith}
+use Names.{replicate-append-replicate, Hold, NotHeld, Holds, hold_in, Word, Look, Step, Looks, Description, Makes}
+use Names.{MakesEach, MayMake, Knowledge, seeing, IsAtRest, counts, looked, BeginsCall, WantsItsRound, counts_not}
+use Names.{may_look, CanLook, with_looks, HasLooked}
+use Rattle.std.proofs.Common.{◌≡◌, ◌+◌, ◌<◌, ◌∷◌, ◌++◌, ◌∙◌}
 
 -- 1. Steps one behind the other
 

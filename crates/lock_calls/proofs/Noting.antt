@@ -1,24 +1,11 @@
 -- A take notes that it gained the lock: the entry may be made, and the thread is at rest again.
-use Rattle.std.proofs.Common.{◌≡◌, ℕ, ◌+◌, ◌≤◌, [], ◌∷◌, ◌++◌, refl, sym, ap, ◌∙◌, subst, arith}
-use Rattle.lock_model.specs.declared.event.Event.{Event}
-use Rattle.lock_model.specs.declared.event.Event.TheVariants.{Locked}
-use Rattle.lock_model.specs.declared.event.Held.{Held}
-use Rattle.lock_model.specs.declared.numbers.LockNo.{LockNo}
-use Rattle.lock_model.specs.declared.plan.Mode.{Mode}
-use Rattle.lock_state.specs.Steps.{Stamps}
-use Rattle.floor_table.specs.Descriptions.{config_in}
-use Rattle.floor_table.specs.declared.description.Description.{Description}
-use Rattle.floor_table.specs.Steps.{Makes, MayMake}
-use Rattle.floor_table.specs.Views.{Knowledge, seeing}
-use Rattle.lock_floor.specs.declared.calls.TakeAt.{TakeAt}
-use Rattle.lock_floor.specs.Passes.{IsAtRest}
-use Rattle.lock_floor.specs.Views.{gained, entry_by, stamped}
+use Rattle.lock_calls.proofs.Names
+use Names.{ℕ, [], refl, sym, ap, subst, arith, Event, Locked, Held, LockNo, Mode, Stamps, config_in, Description, Makes}
+use Names.{MayMake, Knowledge, seeing, TakeAt, IsAtRest, gained, entry_by, stamped, may_note_locked, rest_locked}
+use Names.{rest_seeing, as_taken, HasTaken, TakeEnd, at_check, in_round, in_section, kept_at, Kept, kept_of, IsCalling}
+use Names.{HasGained}
+use Rattle.std.proofs.Common.{◌≡◌, ◌+◌, ◌≤◌, ◌∷◌, ◌++◌, ◌∙◌}
 use Rattle.lock_floor.proofs.Calling as floor_calling
-use Rattle.lock_floor.proofs.Calling.{may_note_locked, rest_locked}
-use Rattle.lock_floor.proofs.Resting.{rest_seeing}
-use Rattle.lock_calls.specs.Steps.{as_taken}
-use Rattle.lock_calls.specs.Takes.{HasTaken, TakeEnd, at_check, in_round, in_section, kept_at}
-use Rattle.lock_calls.specs.Waiting.{Kept, kept_of, IsCalling, HasGained}
 
 -- where a take gains, it isn't asleep
 pub calling_at_end : (floor : Description) (l : LockNo) (mode : Mode) (at : TakeAt) (old new : Knowledge)

@@ -1,24 +1,12 @@
 -- A release outside the section of the lock's chain: what allows its exchange there, and where it stands behind it.
-use Rattle.std.proofs.Common.{◌≡◌, ◌≢◌, ℕ, ◌<◌, false, [], ◌∷◌, length, inl, inr, sym, ap, ◌∙◌, subst}
-use Rattle.lock_model.specs.Words.{word_of, IsWellFormed}
-use Rattle.lock_model.specs.declared.numbers.LockNo.{LockNo}
-use Rattle.lock_model.specs.declared.plan.Mode.{Mode}
-use Rattle.lock_state.specs.Steps.{Looks, Drops}
-use Rattle.floor_table.specs.declared.description.Description.{Description}
-use Rattle.floor_table.specs.Steps.{Makes, MayMake}
-use Rattle.floor_table.specs.Views.{Knowledge, seeing}
+use Rattle.lock_calls.proofs.Names
+use Names.{ℕ, false, [], length, inl, inr, sym, ap, subst, word_of, IsWellFormed, LockNo, Mode, Looks, Drops}
+use Names.{Description, Makes, MayMake, Knowledge, seeing, ComesTo, Wakes, CanMark, IsGoing, MayGiveUp, counts, looked}
+use Names.{put_down, dropped_unheld, counts_not, may_drop_settled, may_look_settled, runners_mark, sleepers_mark}
+use Names.{outside, LeavesByDrop, HasPutDown, IsReleased, ReleasesOn, once_released, misses, puts_down, IsOwn}
+use Names.{MayPutDown}
+use Rattle.std.proofs.Common.{◌≡◌, ◌≢◌, ◌<◌, ◌∷◌, ◌∙◌}
 use Rattle.lock_floor.specs.declared.calls.ReleaseAt.TheVariants as places
-use Rattle.lock_floor.specs.declared.calls.ReleaseAt.TheVariants.{ComesTo, Wakes}
-use Rattle.lock_floor.specs.Marks.{CanMark}
-use Rattle.lock_floor.specs.Passes.{IsGoing}
-use Rattle.lock_floor.specs.Relocks.{MayGiveUp}
-use Rattle.lock_floor.specs.Views.{counts, looked, put_down}
-use Rattle.lock_floor.proofs.Gaining.{dropped_unheld}
-use Rattle.lock_floor.proofs.May.{counts_not, may_drop_settled, may_look_settled}
-use Rattle.lock_floor.proofs.MayWake.{runners_mark, sleepers_mark}
-use Rattle.lock_calls.specs.Choices.{outside}
-use Rattle.lock_calls.specs.Releases.{LeavesByDrop, HasPutDown, IsReleased, ReleasesOn, once_released, misses, puts_down}
-use Rattle.lock_calls.specs.Waiting.{IsOwn, MayPutDown}
 use Rattle.lock_calls.proofs.Leaving.{leaving_behind, stands_outside, looks_on, holds_outside}
 use Rattle.lock_calls.proofs.Owned.{off_the_way, saw_own}
 

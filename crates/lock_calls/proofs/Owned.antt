@@ -1,45 +1,17 @@
 -- A release in the section of the lock's chain: what allows its steps there, and what each leaves.
-use Rattle.std.proofs.Common.{◌≡◌, ◌≢◌, ℕ, ◌<◌, ◌≤◌, arith, Bool, true, false, Some, List, [], ◌∷◌, length, map, refl, sym, ap, ◌∙◌, subst, inl, inr}
-use Rattle.std.proofs.lemmas.Bool.{cases_eq, ne_eqb}
-use Rattle.lock_model.specs.Holds.{Hold, NotHeld, Holds, is_exclusive}
-use Rattle.lock_model.specs.Operations.{hold_in}
-use Rattle.lock_model.specs.Queues.{lock_queue, chan_queue}
-use Rattle.lock_model.specs.Words.{Word, word_of, IsWellFormed, is_turnstile, Holder, Free, HeldBy, SharedBy, is_free, is_drop, sharers}
-use Rattle.lock_model.specs.declared.plan.Mode.{Mode}
-use Rattle.lock_model.specs.declared.plan.Mode.TheVariants.{Excl, Shared}
-use Rattle.chain_table.specs.Chains.{head_of}
-use Rattle.lock_objects.specs.Opens.{record_opened, chain_opened, woken_of}
-use Rattle.lock_objects.specs.Represents.{mark_of}
-use Rattle.lock_objects.specs.Sleeps.{chain_woken}
-use Rattle.lock_laws.proofs.Kit.{sum_below-at, put_at_same}
-use Rattle.lock_state.specs.Facts.{WordsMatchHolders, OnlyThreadsHold}
-use Rattle.lock_state.specs.Facts.Words.{owns, shares}
-use Rattle.lock_state.specs.State.{State}
-use Rattle.lock_state.specs.Steps.{Step, Looks, Drops, Opens, OpensSleepQueue}
-use Rattle.lock_state.specs.Steps.SleepQueues.{after_open_sleep}
-use Rattle.lock_words.specs.Views.{IsHeldIn}
-use Rattle.std.specs.Box.{with_value}
-use Rattle.floor_table.specs.Descriptions.{config_in}
-use Rattle.floor_table.specs.declared.description.Description.{Description}
-use Rattle.floor_table.specs.declared.slot.Slot.TheVariants.{Record}
-use Rattle.floor_table.specs.Represents.{IsSeatOf, RepresentsShare, thread_in}
-use Rattle.floor_table.specs.Shares.{ShareColumns}
-use Rattle.floor_table.specs.Steps.{IsSound, Makes, MayMake}
-use Rattle.floor_table.specs.Views.{Knowledge, seeing}
-use Rattle.lock_floor.specs.Passes.{IsOffTheWay}
-use Rattle.lock_floor.specs.Relocks.{MayGiveUp}
-use Rattle.lock_floor.specs.Opens.{HasBothOut, MayOpenUp, OpensUp, out_opened, marks_opened}
-use Rattle.lock_floor.specs.SleepLocks.{MayOpenSleepers, OpensSleepers, sleepers_opened}
-use Rattle.lock_floor.specs.Sleeps.{HasSleeperOut, sleeper_out}
-use Rattle.lock_floor.specs.Views.{counts, looked, put_down}
-use Rattle.lock_floor.proofs.Finding.{finds_word, share_behind}
-use Rattle.lock_floor.proofs.Gaining.{dropped_unheld, opened_unheld}
-use Rattle.lock_floor.proofs.May.{may_drop_settled}
+use Rattle.lock_calls.proofs.Names
+use Names.{ℕ, arith, Bool, true, false, Some, List, [], length, map, refl, sym, ap, subst, inl, inr, cases_eq, ne_eqb}
+use Names.{Hold, NotHeld, Holds, is_exclusive, hold_in, lock_queue, chan_queue, Word, word_of, IsWellFormed}
+use Names.{is_turnstile, Holder, Free, HeldBy, SharedBy, is_free, is_drop, sharers, Mode, Excl, Shared, head_of}
+use Names.{record_opened, chain_opened, woken_of, mark_of, chain_woken, sum_below-at, put_at_same, WordsMatchHolders}
+use Names.{OnlyThreadsHold, owns, shares, State, Step, Looks, Drops, Opens, OpensSleepQueue, after_open_sleep, IsHeldIn}
+use Names.{with_value, config_in, Description, Record, IsSeatOf, RepresentsShare, thread_in, ShareColumns, IsSound}
+use Names.{Makes, MayMake, Knowledge, seeing, IsOffTheWay, MayGiveUp, HasBothOut, MayOpenUp, OpensUp, out_opened}
+use Names.{marks_opened, MayOpenSleepers, OpensSleepers, sleepers_opened, HasSleeperOut, sleeper_out, counts, looked}
+use Names.{put_down, finds_word, share_behind, dropped_unheld, opened_unheld, may_drop_settled, may_open_up_settled}
+use Names.{may_open_sleepers, last_shown, HasRecordAndChain, MayLetGo, IsOwn, LetsGo, MissesOwn}
+use Rattle.std.proofs.Common.{◌≡◌, ◌≢◌, ◌<◌, ◌≤◌, ◌∷◌, ◌∙◌}
 use Rattle.lock_floor.proofs.MayWait as wait
-use Rattle.lock_floor.proofs.MayWake.{may_open_up_settled, may_open_sleepers}
-use Rattle.lock_floor.proofs.Opened.{last_shown}
-use Rattle.lock_calls.specs.Sections.{HasRecordAndChain}
-use Rattle.lock_calls.specs.Waiting.{MayLetGo, IsOwn, LetsGo, MissesOwn}
 use Rattle.lock_calls.proofs.Sections.{as_both, as_sleeper, from_both, from_sleeper, opens_turnstile, opens_asleep}
 use Rattle.lock_calls.proofs.Words.{look_at, word_seen}
 

@@ -1,33 +1,14 @@
 -- A take that was refused by the order of locks: it notes that, and the thread is at rest again. A thread that holds
 -- nothing is never refused.
-use Rattle.std.proofs.Common.{◌≡◌, ℕ, zero, suc, ◌+◌, ◌≤◌, true, false, List, Some, None, [], ◌∷◌, refl, sym, ap, ◌∙◌, subst, arith}
-use Rattle.std.proofs.lemmas.List.Elements.{All-head}
-use Rattle.lock_model.specs.Config.{Config}
-use Rattle.lock_model.specs.Orders.{IsFirstToForbid}
-use Rattle.lock_model.specs.declared.event.Event.{Event}
+use Rattle.lock_calls.proofs.Names
+use Names.{ℕ, zero, suc, true, false, List, Some, None, [], refl, sym, ap, subst, arith, All-head, Config}
+use Names.{IsFirstToForbid, Event, Reversal, ClassNo, LockNo, State, HeldLock, gained_order, Step, Stamps, TakesItem}
+use Names.{Refuses, NotesInRound, HasOutForEntry, maker, ClassGraph, after_take, Asks, held_classes, config_in}
+use Names.{Description, Doing, ShareColumns, Fits, Makes, MakesEach, MayMake, Knowledge, seeing, settled, checks}
+use Names.{ChecksOrder, IsAtRest, entry_by, stamped, share_then, share_behind, may_stamp, rest_seeing, rest_stamped}
+use Names.{refuses, IsRefused, kept_of, IsCalling, IsChecking}
+use Rattle.std.proofs.Common.{◌≡◌, ◌+◌, ◌≤◌, ◌∷◌, ◌∙◌}
 use Rattle.lock_model.specs.declared.event.Event.TheVariants as event
-use Rattle.lock_model.specs.declared.event.Reversal.{Reversal}
-use Rattle.lock_model.specs.declared.numbers.ClassNo.{ClassNo}
-use Rattle.lock_model.specs.declared.numbers.LockNo.{LockNo}
-use Rattle.lock_state.specs.State.{State, HeldLock, gained_order}
-use Rattle.lock_state.specs.Steps.{Step, Stamps, TakesItem, Refuses, NotesInRound, HasOutForEntry, maker}
-use Rattle.lock_state.specs.Steps.Items.{ClassGraph, after_take}
-use Rattle.lock_state.specs.Steps.LockWords.{Asks}
-use Rattle.lock_state.specs.Steps.Orders.{held_classes}
-use Rattle.floor_table.specs.Descriptions.{config_in}
-use Rattle.floor_table.specs.declared.description.Description.{Description}
-use Rattle.floor_table.specs.Shares.{Doing, ShareColumns}
-use Rattle.floor_table.specs.Steps.{Fits, Makes, MakesEach, MayMake}
-use Rattle.floor_table.specs.Views.{Knowledge, seeing}
-use Rattle.lock_floor.specs.Ordering.{settled, checks, ChecksOrder}
-use Rattle.lock_floor.specs.Passes.{IsAtRest}
-use Rattle.lock_floor.specs.Views.{entry_by, stamped}
-use Rattle.lock_floor.proofs.Finding.{share_then, share_behind}
-use Rattle.lock_floor.proofs.May.{may_stamp}
-use Rattle.lock_floor.proofs.Resting.{rest_seeing, rest_stamped}
-use Rattle.lock_calls.specs.Steps.{refuses}
-use Rattle.lock_calls.specs.Takes.{IsRefused}
-use Rattle.lock_calls.specs.Waiting.{kept_of, IsCalling, IsChecking}
 use Rattle.lock_calls.proofs.Looks.{each_append}
 
 -- 1. Nothing is refused a thread that holds nothing

@@ -1,34 +1,15 @@
 -- A release is noted, and then it makes one exchange: each step may be made. Where the exchange hits, the thread is at
 -- rest again; where it misses, the release is under way.
-use Rattle.std.proofs.Common.{◌≡◌, ◌≢◌, ℕ, ◌+◌, ◌<◌, ◌≤◌, Bool, true, false, [], ◌∷◌, length, inl, refl, sym, ap, ◌∙◌, subst, arith}
-use Rattle.lock_model.specs.Holds.{NotHeld, Holds}
-use Rattle.lock_model.specs.Operations.{hold_in, without_lock}
-use Rattle.lock_model.specs.Words.{Word, word_of, IsWellFormed, gained, is_drop}
-use Rattle.lock_model.specs.declared.event.Event.{Event}
-use Rattle.lock_model.specs.declared.event.Event.TheVariants.{Unlocked}
-use Rattle.lock_model.specs.declared.numbers.LockNo.{LockNo}
-use Rattle.lock_model.specs.declared.plan.Mode.{Mode}
-use Rattle.lock_model.specs.declared.plan.Mode.TheVariants.{Excl, Shared}
-use Rattle.lock_state.specs.State.{State}
-use Rattle.lock_state.specs.Steps.{Looks, Drops, Stamps, HasOutForEntry, NotesInRound}
-use Rattle.lock_state.specs.Steps.LockWords.{Asks}
-use Rattle.floor_table.specs.Descriptions.{config_in}
-use Rattle.floor_table.specs.declared.description.Description.{Description}
-use Rattle.floor_table.specs.Steps.{Fits, Makes, MakesEach, MayMake}
-use Rattle.floor_table.specs.Views.{Knowledge, seeing}
+use Rattle.lock_calls.proofs.Names
+use Names.{ℕ, Bool, true, false, [], length, inl, refl, sym, ap, subst, arith, NotHeld, Holds, hold_in, without_lock}
+use Names.{Word, word_of, IsWellFormed, is_drop, Event, Unlocked, LockNo, Mode, Excl, Shared, State, Looks, Drops}
+use Names.{Stamps, HasOutForEntry, NotesInRound, Asks, config_in, Description, Fits, Makes, MakesEach, MayMake}
+use Names.{Knowledge, seeing, ComesTo, Pass, IsAtRest, MakesEntry, counts, looked, entry_by, stamped, put_down}
+use Names.{dropped_unheld, own_log, counts_not, may_drop_settled, may_stamp, leaves, rest_left, rest_seeing, IsHeldIn}
+use Names.{outside, IsReleasing, BeginsRelease, ReleasesAtOnce, held_once, once_released, MayRelease, IsOwn, MayPutDown}
+use Rattle.std.proofs.Common.{◌≡◌, ◌≢◌, ◌+◌, ◌<◌, ◌≤◌, ◌∷◌, ◌∙◌}
+use Rattle.lock_model.specs.Words.{gained}
 use Rattle.lock_floor.specs.declared.calls.Call.TheVariants as calls
-use Rattle.lock_floor.specs.declared.calls.ReleaseAt.TheVariants.{ComesTo}
-use Rattle.lock_floor.specs.Floors.{Pass}
-use Rattle.lock_floor.specs.Passes.{IsAtRest, MakesEntry}
-use Rattle.lock_floor.specs.Views.{counts, looked, entry_by, stamped, put_down}
-use Rattle.lock_floor.proofs.Gaining.{dropped_unheld}
-use Rattle.lock_floor.proofs.May.{own_log, counts_not, may_drop_settled, may_stamp}
-use Rattle.lock_floor.proofs.Resting.{leaves, rest_left, rest_seeing}
-use Rattle.lock_words.specs.Views.{IsHeldIn}
-use Rattle.lock_calls.specs.Choices.{outside}
-use Rattle.lock_calls.specs.Releases.{IsReleasing, BeginsRelease, ReleasesAtOnce, held_once, once_released}
-use Rattle.lock_calls.specs.Steps.{MayRelease}
-use Rattle.lock_calls.specs.Waiting.{IsOwn, MayPutDown}
 use Rattle.lock_calls.proofs.Calls.{call_noted, view_noted}
 use Rattle.lock_calls.proofs.Leaving.{leaving_behind, stands_outside, looks_on, holds_outside}
 use Rattle.lock_calls.proofs.Owned.{off_the_way, saw_own}

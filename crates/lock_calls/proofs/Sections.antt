@@ -1,31 +1,13 @@
 -- A thread takes the chain in which a lock's queue stands, and then its own record, in which its turnstile and its
 -- sleep queue are. By the lock's kind the chain is one of turnstiles, or one of sleep queues.
-use Rattle.std.proofs.Common.{◌≡◌, ℕ, ◌%◌, Bool, true, false, cond, Option, Some, None, IsSome, List, [], ◌∷◌, refl, sym, ap, ◌∙◌, subst}
-use Rattle.std.specs.declared.alloc.Global.{Global}
-use Rattle.std.specs.declared.boxed.Box.{Box}
-use Rattle.lock_model.specs.Queues.{lock_queue}
-use Rattle.lock_model.specs.Words.{is_turnstile}
-use Rattle.lock_model.specs.declared.plan.Kind.{Kind}
-use Rattle.lock_model.specs.declared.plan.Kind.TheVariants.{Mtx, Rw, Sx}
-use Rattle.lock_model.specs.declared.plan.Mode.{Mode}
-use Rattle.lock_model.specs.declared.plan.QueueName.{QueueName}
-use Rattle.lock_state.specs.Steps.{Enters, EntersSleepQueue, Opens, OpensSleepQueue}
-use Rattle.lock_state.specs.Steps.Items.{RecordOf, TurnstileChain, SleepChain}
-use Rattle.sleep_queues.specs.Seen.{SleepQueue}
-use Rattle.thread_records.specs.declared.record.ThreadRec.{ThreadRec}
-use Rattle.turnstile_core.specs.Seen.{Turnstile}
-use Rattle.floor_table.specs.Descriptions.{config_in}
-use Rattle.floor_table.specs.declared.description.Description.{Description}
-use Rattle.floor_table.specs.declared.slot.Slot.{Slot}
-use Rattle.floor_table.specs.declared.slot.Slot.TheVariants.{Record, Cell, Turnstiles, SleepQueues, Graph}
-use Rattle.floor_table.specs.Views.{is_off_queues, Knowledge}
-use Rattle.lock_floor.specs.Latches.{IsOfKind, Takes}
-use Rattle.lock_floor.specs.Opens.{HasBothOut}
-use Rattle.lock_floor.specs.Sleeps.{HasSleeperOut}
-use Rattle.lock_floor.specs.Waits.{its_chain, chain_place}
-use Rattle.lock_floor.proofs.OwnRecords.{own_turnstile, own_sleep_queue}
-use Rattle.lock_calls.specs.Sections.{IsItsChain, section_out, HasRecordAndChain}
-use Rattle.lock_calls.specs.Steps.{enters_by, opens_by}
+use Rattle.lock_calls.proofs.Names
+use Names.{ℕ, Bool, true, false, cond, Option, Some, None, IsSome, List, [], refl, sym, ap, subst, Global, Box}
+use Names.{lock_queue, is_turnstile, Kind, Mtx, Rw, Sx, Mode, QueueName, Enters, EntersSleepQueue, Opens}
+use Names.{OpensSleepQueue, RecordOf, TurnstileChain, SleepChain, SleepQueue, ThreadRec, Turnstile, config_in}
+use Names.{Description, Slot, Record, Cell, Turnstiles, SleepQueues, Graph, is_off_queues, Knowledge, IsOfKind, Takes}
+use Names.{HasBothOut, HasSleeperOut, its_chain, chain_place, own_turnstile, own_sleep_queue, IsItsChain, section_out}
+use Names.{HasRecordAndChain, enters_by, opens_by}
+use Rattle.std.proofs.Common.{◌≡◌, ◌%◌, ◌∷◌, ◌∙◌}
 
 -- 1. Steps by the kind
 

@@ -1,27 +1,13 @@
 -- A take in its round, and as it takes the lock's chain and then its own record: where it stands behind each part.
-use Rattle.std.proofs.Common.{◌≡◌, ℕ, ◌+◌, ◌-◌, ◌<◌, ◌≤◌, Bool, true, false, [], ◌∷◌, length, replicate, refl, ap, ◌∙◌, subst, arith}
-use Rattle.lock_model.specs.Queues.{lock_queue}
-use Rattle.lock_model.specs.Words.{Word, word_of}
-use Rattle.lock_model.specs.declared.plan.Kind.{Kind}
-use Rattle.lock_model.specs.declared.numbers.LockNo.{LockNo}
-use Rattle.lock_model.specs.declared.plan.Mode.{Mode}
-use Rattle.lock_state.specs.Steps.{Looks, Gains, Readies}
-use Rattle.lock_state.specs.Steps.Items.{RecordOf}
-use Rattle.floor_table.specs.Descriptions.{config_in}
-use Rattle.floor_table.specs.declared.description.Description.{Description}
-use Rattle.floor_table.specs.Steps.{Makes, MakesEach}
-use Rattle.floor_table.specs.Views.{Knowledge, seeing}
-use Rattle.lock_floor.specs.declared.calls.TakeAt.TheVariants.{Spins, ComesIn, Contends}
-use Rattle.lock_floor.specs.Latches.{FindsOut, Takes}
-use Rattle.lock_floor.specs.Passes.{IsGoing}
-use Rattle.lock_floor.specs.Views.{counts, looked}
-use Rattle.lock_floor.specs.Waits.{its_chain, chain_place, readied}
-use Rattle.lock_floor.proofs.FoundQueued.{found_waits}
-use Rattle.lock_floor.proofs.Taking.{HasWaited, waits_none}
-use Rattle.lock_calls.specs.Steps.{IsCovered, as_taken}
-use Rattle.lock_calls.specs.Rounds.{AsksOwner, asks, nobody, LooksOn, looks_alone, tries_too, LooksAgain, of_mutex, of_shareable}
-use Rattle.lock_calls.specs.Takes.{HasChainOut, LeavesLooks, again, for_claim, owner_queued, TakesOn, TakeEnd, looks, takes_chain, comes_in, finds_out, in_round}
-use Rattle.lock_calls.specs.Waiting.{kept_of, IsSeeking, HasSpun, SpinsThenGains, IsThere}
+use Rattle.lock_calls.proofs.Names
+use Names.{ℕ, Bool, true, false, [], length, replicate, refl, ap, subst, arith, lock_queue, Word, word_of, Kind, LockNo}
+use Names.{Mode, Looks, Gains, Readies, RecordOf, config_in, Description, Makes, MakesEach, Knowledge, seeing, Spins}
+use Names.{ComesIn, Contends, FindsOut, Takes, IsGoing, counts, looked, its_chain, chain_place, readied, found_waits}
+use Names.{HasWaited, waits_none, IsCovered, as_taken, AsksOwner, asks, nobody, LooksOn, looks_alone, tries_too}
+use Names.{LooksAgain, of_mutex, of_shareable, HasChainOut, LeavesLooks, again, for_claim, owner_queued, TakesOn}
+use Names.{TakeEnd, looks, takes_chain, comes_in, finds_out, in_round, kept_of, IsSeeking, HasSpun, SpinsThenGains}
+use Names.{IsThere}
+use Rattle.std.proofs.Common.{◌≡◌, ◌+◌, ◌-◌, ◌<◌, ◌≤◌, ◌∷◌, ◌∙◌}
 use Rattle.lock_calls.proofs.Attempts.{seeking_on, looks_spun}
 use Rattle.lock_calls.proofs.Looks.{each_append}
 use Rattle.lock_calls.proofs.There.{seeking_still, chain_still, has_chain, come_kept, come_there, come_steps, quiet_there, contends}

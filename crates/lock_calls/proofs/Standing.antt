@@ -1,42 +1,21 @@
 -- A take whose thread stands on the lock's queue: it makes hop after hop of its walk, counts itself out, halts others
 -- where that left nobody awake, and runs again where it was woken.
-use Rattle.std.proofs.Common.{◌≡◌, ◌≢◌, ℕ, ◌<◌, ◌≤◌, Bool, true, false, Option, Some, None, [], ◌∷◌, length, refl, sym, ap, ◌∙◌, subst, inl, arith}
-use Rattle.lock_model.specs.Limits.{most_held}
-use Rattle.lock_model.specs.Operations.{hold_in}
-use Rattle.lock_model.specs.Queues.{Cause, BySignal, ByAbort, lock_queue}
-use Rattle.lock_model.specs.Words.{is_turnstile}
-use Rattle.lock_model.specs.declared.numbers.LockNo.{LockNo}
-use Rattle.lock_model.specs.declared.plan.Mode.{Mode}
-use Rattle.lock_model.specs.declared.plan.QueueName.{QueueName}
-use Rattle.lock_objects.specs.Represents.{walk_of}
-use Rattle.lock_state.specs.State.{Woken, NoWalk, AtLock, AtThread, Awake}
-use Rattle.lock_state.specs.Steps.{CountsOut, Resumes}
-use Rattle.lock_state.specs.Steps.Items.{RecordOf}
-use Rattle.lock_state.specs.Steps.LockWords.{is_taking_back}
-use Rattle.lock_state.specs.Steps.Turnstiles.{called_after, wanted_after, noted_after, taking_by, woken_from_by, round_for}
-use Rattle.lock_laws.specs.Signals.{WakesFitQueues}
+use Rattle.lock_calls.proofs.Names
+use Names.{ℕ, Bool, true, false, Option, Some, None, [], length, refl, sym, ap, subst, inl, arith, most_held, hold_in}
+use Names.{Cause, BySignal, ByAbort, lock_queue, is_turnstile, LockNo, Mode, QueueName, walk_of, Woken, NoWalk, AtLock}
+use Names.{AtThread, Awake, CountsOut, Resumes, RecordOf, is_taking_back, called_after, wanted_after, noted_after}
+use Names.{taking_by, woken_from_by, round_for, WakesFitQueues, config_in, Description, Makes, MayMake, Doing, Runs}
+use Names.{StandsOn, Knowledge, seeing, Spins, Walks, Hops, Halts, Sleeps, Out, HaltAt, counted, FindsOut, Takes}
+use Names.{cause_of, resumed, FindsQueued, MayRunAgain, RunsAgain, CanWalk, HasTurnstilesOut, HopsOn, NeedsRecord}
+use Names.{turnstiles, turnstiles_place, may_run_again, EndsHalting, HaltsOn, IsAt, MayCountOut, WakesOther}
+use Names.{wakes_of_floor, is_counted_out, is_last_of, may_count, IsStanding, IsHaltingThere, IsParked, TakesOn}
+use Names.{WakesInTake, kept_at, takes_turnstiles, hops, counts_out, is_last, halts_on, has_halted, resumes, finds_out}
+use Names.{is_queued, Kept, kept_of, CanAcquire}
+use Rattle.std.proofs.Common.{◌≡◌, ◌≢◌, ◌<◌, ◌≤◌, ◌∷◌, ◌∙◌}
 use Rattle.prio_lending.specs.declared.walk.Walk as run_time
 use Rattle.prio_lending.specs.declared.walk.Walk.TheVariants as walk
-use Rattle.floor_table.specs.Descriptions.{config_in}
-use Rattle.floor_table.specs.declared.description.Description.{Description}
-use Rattle.floor_table.specs.Steps.{Makes, MayMake}
-use Rattle.floor_table.specs.Shares.{Doing}
-use Rattle.floor_table.specs.Views.{Runs, StandsOn, Knowledge, seeing}
-use Rattle.lock_floor.specs.declared.calls.TakeAt.TheVariants.{Spins, Walks, Hops, Halts, Sleeps}
-use Rattle.lock_floor.specs.declared.counts.Count.TheVariants.{Out}
-use Rattle.lock_floor.specs.declared.queues.HaltAt.{HaltAt}
 use Rattle.lock_floor.specs.declared.queues.HaltAt.TheVariants as halts
-use Rattle.lock_floor.specs.Counts.{counted}
-use Rattle.lock_floor.specs.Latches.{FindsOut, Takes}
-use Rattle.lock_floor.specs.Resumes.{cause_of, resumed, FindsQueued, MayRunAgain, RunsAgain}
-use Rattle.lock_floor.specs.Walks.{CanWalk, HasTurnstilesOut, HopsOn, NeedsRecord, turnstiles, turnstiles_place}
-use Rattle.lock_floor.proofs.MayWake.{may_run_again}
 use Rattle.halting.specs.Halts as halting
-use Rattle.halting.specs.Halts.{EndsHalting, HaltsOn, IsAt, MayCountOut, WakesOther}
-use Rattle.halting.proofs.Coming.{wakes_of_floor}
-use Rattle.halting.proofs.Counted.{is_counted_out, is_last_of, may_count}
-use Rattle.lock_calls.specs.Takes.{IsStanding, IsHaltingThere, IsParked, TakesOn, WakesInTake, kept_at, takes_turnstiles, hops, counts_out, is_last, halts_on, has_halted, resumes, finds_out, is_queued}
-use Rattle.lock_calls.specs.Waiting.{Kept, kept_of, CanAcquire}
 
 -- 1. What stays
 

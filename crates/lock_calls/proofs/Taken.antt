@@ -1,43 +1,25 @@
 -- A take from its begin on: what the thread has made so far where the take stands, and that its parts together are a
 -- take.
-use Rattle.std.proofs.Common.{◌≡◌, ◌⊎◌, ℕ, ◌+◌, ◌-◌, ◌≤◌, Bool, true, false, List, [], ◌∷◌, ◌++◌, length, replicate, Option, Some, None, refl, sym, ap, ◌∙◌, subst, inl, inr, arith}
-use Rattle.std.proofs.lemmas.List.{replicate-append-replicate}
-use Rattle.lock_model.specs.Queues.{Cause, BySignal, ByAbort, lock_queue}
-use Rattle.lock_model.specs.Words.{Word}
-use Rattle.lock_model.specs.declared.event.Event.{Event}
-use Rattle.lock_model.specs.declared.event.Reversal.{Reversal}
-use Rattle.lock_model.specs.declared.numbers.LockNo.{LockNo}
-use Rattle.lock_model.specs.declared.plan.Kind.{Kind}
-use Rattle.lock_model.specs.declared.plan.Mode.{Mode}
-use Rattle.lock_objects.specs.Represents.{walk_of}
-use Rattle.lock_state.specs.State.{Walk, NoWalk, AtLock, AtThread, Last}
-use Rattle.lock_state.specs.Steps.{Step, Seeks, Looks, Gains, Admits, Refuses, Readies, CountsOut, Resumes, Stamps, TakesItem}
-use Rattle.lock_state.specs.Steps.Items.{Item, RecordOf, ClassGraph}
-use Rattle.lock_state.specs.Steps.LockWords.{is_taking_back}
-use Rattle.floor_table.specs.Descriptions.{config_in}
-use Rattle.floor_table.specs.declared.description.Description.{Description}
-use Rattle.floor_table.specs.Steps.{Makes, MakesEach}
-use Rattle.floor_table.specs.Views.{Knowledge, seeing}
-use Rattle.lock_floor.specs.declared.calls.TakeAt.{TakeAt}
-use Rattle.lock_floor.specs.declared.calls.TakeAt.TheVariants.{Checks, Spins, ComesIn, Contends, Walks, Hops, Halts, Sleeps}
-use Rattle.lock_floor.specs.Latches.{FindsOut, Takes}
-use Rattle.lock_floor.specs.Ordering.{checks}
-use Rattle.lock_floor.specs.Passes.{MakesEntry}
-use Rattle.lock_floor.specs.Views.{entry_by}
-use Rattle.lock_floor.specs.Waits.{its_chain}
+use Rattle.lock_calls.proofs.Names
+use Names.{ℕ, Bool, true, false, List, [], length, replicate, Option, Some, None, refl, sym, ap, subst, inl, inr, arith}
+use Names.{replicate-append-replicate, Cause, BySignal, ByAbort, lock_queue, Word, Event, Reversal, LockNo, Kind, Mode}
+use Names.{walk_of, Walk, NoWalk, AtLock, AtThread, Last, Step, Seeks, Looks, Gains, Admits, Refuses, Readies}
+use Names.{CountsOut, Resumes, Stamps, TakesItem, Item, RecordOf, ClassGraph, is_taking_back, config_in, Description}
+use Names.{Makes, MakesEach, Knowledge, seeing, TakeAt, Checks, Spins, ComesIn, Contends, Walks, Hops, Halts, Sleeps}
+use Names.{FindsOut, Takes, checks, MakesEntry, entry_by, its_chain, CanWalk, HopsOn, IsHop, turnstiles}
+use Names.{turnstiles_place, walked, no_hop, one_more, waits_queued, HasWaited, waits_none, waits_on, hops_all}
+use Names.{CountsItselfOut, somebody_is_awake, nobody_is_awake, HaltsSince, begins_whole, is_done, IsGain}
+use Names.{HasMissedFirst, MissesFirst, none_missed, one_missed, as_taken, begins_round, enters_by, gains_checked}
+use Names.{gains_at_once, refuses, comes_there, gives_both, runs_on, enters_there, IsInRound, Acquires, LooksOn}
+use Names.{looks_alone, tries_too, IsTaking, IsUnderTake, LeavesLooks, again, for_claim, owner_queued, AwaitsInTake}
+use Names.{TakesOn, TakeLeg, TakeEnd, IsRefused, IsHalted, WasHalted, kept_at, admitted, at_check, looks, takes_chain}
+use Names.{comes_in, looks_there, enters, takes_turnstiles, hops, counts_out, is_last, halts_on, has_halted, resumes}
+use Names.{finds_out, is_queued, in_round, in_section, Kept, kept_of, IsCalling}
+use Rattle.std.proofs.Common.{◌≡◌, ◌⊎◌, ◌+◌, ◌-◌, ◌≤◌, ◌∷◌, ◌++◌, ◌∙◌}
 use Rattle.lock_floor.specs.Walks as walks
-use Rattle.lock_floor.specs.Walks.{CanWalk, HopsOn, IsHop, turnstiles, turnstiles_place, walked, no_hop, one_more}
-use Rattle.lock_floor.proofs.Resuming.{waits_queued}
-use Rattle.lock_floor.proofs.Taking.{HasWaited, waits_none, waits_on}
-use Rattle.lock_floor.proofs.WalkHops.{hops_all}
-use Rattle.halting.specs.Halts.{CountsItselfOut, somebody_is_awake, nobody_is_awake}
 use Rattle.halting.proofs.Whole as whole
-use Rattle.halting.proofs.Whole.{HaltsSince, begins_whole, is_done}
 use Rattle.lock_calls.specs.Steps as steps
-use Rattle.lock_calls.specs.Steps.{IsGain, HasMissedFirst, MissesFirst, none_missed, one_missed, as_taken, begins_round, enters_by, gains_checked, gains_at_once, refuses, comes_there, gives_both, runs_on, enters_there, gains_there, IsInRound, Acquires, gains_in_round}
-use Rattle.lock_calls.specs.Rounds.{LooksOn, looks_alone, tries_too}
-use Rattle.lock_calls.specs.Takes.{IsTaking, IsUnderTake, LeavesLooks, again, for_claim, owner_queued, AwaitsInTake, TakesOn, TakeLeg, TakeEnd, IsRefused, IsHalted, WasHalted, kept_at, admitted, at_check, looks, takes_chain, comes_in, looks_there, enters, takes_turnstiles, hops, counts_out, is_last, halts_on, has_halted, resumes, finds_out, is_queued, in_round, in_section}
-use Rattle.lock_calls.specs.Waiting.{Kept, kept_of, IsCalling}
+use Rattle.lock_calls.specs.Steps.{gains_there, gains_in_round}
 use Rattle.lock_calls.proofs.Attempts.{misses_bare, misses_few}
 use Rattle.lock_calls.proofs.Halted.{halt_is_set}
 use Rattle.lock_calls.proofs.Looks.{each_append}

@@ -1,21 +1,13 @@
 -- A lock is taken back within a wait: a take that checks no order and makes no entry, part after part.
-use Rattle.std.proofs.Common.{◌≡◌, ◌≢◌, ℕ, ◌<◌, true, Some, None, [], ◌∷◌, ◌++◌, length, inl, inr, refl, sym, ap, ◌∙◌, subst, arith}
-use Rattle.lock_model.specs.Queues.{lock_queue, chan_queue}
-use Rattle.lock_model.specs.declared.numbers.LockNo.{LockNo}
-use Rattle.lock_model.specs.declared.plan.Mode.{Mode}
-use Rattle.lock_state.specs.State.{SleepHalted}
-use Rattle.lock_state.specs.Steps.LockWords.{is_taking_back}
-use Rattle.floor_table.specs.declared.description.Description.{Description}
-use Rattle.floor_table.specs.Shares.{is_among}
-use Rattle.floor_table.specs.Views.{Knowledge}
-use Rattle.lock_floor.specs.declared.calls.TakeAt.{TakeAt}
-use Rattle.lock_floor.specs.declared.calls.TakeAt.TheVariants.{Checks, Spins, ComesIn, Contends, Walks, Hops, Halts, Sleeps}
+use Rattle.lock_calls.proofs.Names
+use Names.{ℕ, true, Some, None, [], length, inl, inr, refl, sym, ap, subst, arith, lock_queue, chan_queue, LockNo, Mode}
+use Names.{SleepHalted, is_taking_back, Description, is_among, Knowledge, TakeAt, Checks, Spins, ComesIn, Contends}
+use Names.{Walks, Hops, Halts, Sleeps, MayRetake, TakesBack, WasEnded, among_stays, Acquires, as_taken}
+use Names.{IsUnderAcquiring, TakesOn, TakeLeg, TakeEnd, kept_at, admitted, looks, takes_chain, comes_in, looks_there}
+use Names.{enters, takes_turnstiles, hops, counts_out, is_last, halts_on, has_halted, resumes, finds_out, is_queued}
+use Names.{at_check, in_round, in_section, Kept, kept_of, CanAcquire, HasGained}
+use Rattle.std.proofs.Common.{◌≡◌, ◌≢◌, ◌<◌, ◌∷◌, ◌++◌, ◌∙◌}
 use Rattle.lock_floor.specs.declared.queues.HaltAt.TheVariants as halts
-use Rattle.lock_floor.specs.Relocks.{MayRetake, TakesBack, WasEnded}
-use Rattle.lock_floor.proofs.Shares.{among_stays}
-use Rattle.lock_calls.specs.Steps.{Acquires, as_taken}
-use Rattle.lock_calls.specs.Takes.{IsUnderAcquiring, TakesOn, TakeLeg, TakeEnd, kept_at, admitted, looks, takes_chain, comes_in, looks_there, enters, takes_turnstiles, hops, counts_out, is_last, halts_on, has_halted, resumes, finds_out, is_queued, at_check, in_round, in_section}
-use Rattle.lock_calls.specs.Waiting.{Kept, kept_of, CanAcquire, HasGained}
 use Rattle.lock_calls.proofs.Taken as taken
 use Rattle.lock_calls.proofs.Taken.{begins_back, goes_on, ends}
 

@@ -1,52 +1,19 @@
 -- A blocking call in the section of the lock's chain: what allows its steps there, and what each leaves.
-use Rattle.std.proofs.Common.{◌≡◌, ◌≢◌, ℕ, ◌<◌, ◌≤◌, Bool, true, false, cond, not, ◌&&◌, ◌||◌, Option, Some, None, List, [], ◌∷◌, length, refl, sym, ap, ◌∙◌, subst, inl, inr, eq-eqb}
-use Rattle.std.proofs.lemmas.Option.{same_Some}
-use Rattle.lock_model.specs.Operations.{hold_in}
-use Rattle.lock_model.specs.Queues.{lock_queue, side_of}
-use Rattle.lock_model.specs.Words.{Word, word_of, is_free, is_plain, is_turnstile, admits}
-use Rattle.lock_model.specs.declared.numbers.LockNo.{LockNo}
-use Rattle.lock_model.specs.declared.plan.Mode.{Mode}
-use Rattle.lock_model.specs.declared.plan.Mode.TheVariants.{Excl}
-use Rattle.lock_model.specs.declared.plan.QueueName.{QueueName}
-use Rattle.lock_objects.specs.Enters.{waiter_of, record_entered, chain_entered}
-use Rattle.lock_objects.specs.Hops.{record_claimed, chain_claimed}
-use Rattle.lock_objects.specs.Sleeps.{sleeper_of, record_asleep, chain_asleep}
-use Rattle.std.specs.Box.{with_value}
-use Rattle.std.specs.declared.alloc.Global.{Global}
-use Rattle.std.specs.declared.boxed.Box.{Box}
-use Rattle.thread_records.specs.declared.record.ThreadRec.{ThreadRec}
-use Rattle.turnstile_core.specs.Seen.{Turnstile}
-use Rattle.lock_laws.proofs.Words.{IsClaim}
-use Rattle.lock_state.specs.State.{Walk, NoWalk, AtLock}
-use Rattle.lock_state.specs.Steps.{Step, Looks, Gains, Claims, Enters, Readies, TakesItem, FitsRound, IsOfRound, seeks, is_first}
-use Rattle.lock_state.specs.Steps.Items.{RecordOf, item_with, in_its_chain, is_chain}
-use Rattle.lock_state.specs.Steps.Turnstiles.{walk_up}
-use Rattle.floor_table.specs.Descriptions.{config_in}
-use Rattle.floor_table.specs.declared.description.Description.{Description}
-use Rattle.floor_table.specs.declared.slot.Slot.TheVariants.{Record}
-use Rattle.floor_table.specs.Places.{slot_of}
-use Rattle.floor_table.specs.Shelves.{found}
-use Rattle.floor_table.specs.Steps.{Makes, MakesEach, MayMake}
-use Rattle.floor_table.specs.Views.{is_off_queues, Knowledge, seeing}
-use Rattle.floor_table.proofs.Items.{one_place}
-use Rattle.floor_table.proofs.Shelved.{found_first, found_later}
-use Rattle.lock_floor.specs.Claims.{MayClaimIt, ClaimsIt, out_claimed}
-use Rattle.lock_floor.specs.Latches.{Takes}
-use Rattle.lock_floor.specs.Opens.{HasBothOut}
-use Rattle.lock_floor.specs.SleepLocks.{MayEnterAsleep, EntersAsleep}
-use Rattle.lock_floor.specs.Sleeps.{HasSleeperOut, out_asleep}
-use Rattle.lock_floor.specs.Passes.{IsGoing}
-use Rattle.lock_floor.specs.Views.{counts, looked, gained, took, is_there, is_out}
-use Rattle.lock_floor.specs.Waits.{its_chain, chain_place, readied, out_entered, entered}
-use Rattle.lock_floor.proofs.ChainPlaces.{chain_at}
-use Rattle.lock_floor.proofs.MaySleep.{may_enter_asleep}
+use Rattle.lock_calls.proofs.Names
+use Names.{ℕ, Bool, true, false, cond, not, Option, Some, None, List, [], length, refl, sym, ap, subst, inl, inr}
+use Names.{eq-eqb, same_Some, hold_in, lock_queue, side_of, Word, word_of, is_free, is_plain, is_turnstile, admits}
+use Names.{LockNo, Mode, Excl, QueueName, waiter_of, record_entered, chain_entered, record_claimed, chain_claimed}
+use Names.{sleeper_of, record_asleep, chain_asleep, with_value, Global, Box, ThreadRec, Turnstile, IsClaim, Walk}
+use Names.{NoWalk, AtLock, Step, Looks, Gains, Claims, Enters, Readies, TakesItem, FitsRound, IsOfRound, seeks}
+use Names.{is_first, RecordOf, item_with, in_its_chain, is_chain, walk_up, config_in, Description, Record, slot_of}
+use Names.{found, Makes, MakesEach, MayMake, is_off_queues, Knowledge, seeing, one_place, found_first, found_later}
+use Names.{MayClaimIt, ClaimsIt, out_claimed, Takes, HasBothOut, MayEnterAsleep, EntersAsleep, HasSleeperOut}
+use Names.{out_asleep, IsGoing, counts, looked, gained, took, is_there, is_out, its_chain, chain_place, readied}
+use Names.{out_entered, entered, chain_at, may_enter_asleep, IsNoSleeper, is_a_chain, record_at, section_out}
+use Names.{HasRecordAndChain, IsCovered, as_taken, HasChainOut, IsContending, kept_of, CanAcquire, IsSeeking, HasLooked}
+use Names.{IsThere, Saw, GainsStep, EntersStep, MissesThere}
+use Rattle.std.proofs.Common.{◌≡◌, ◌≢◌, ◌<◌, ◌≤◌, ◌&&◌, ◌||◌, ◌∷◌, ◌∙◌}
 use Rattle.lock_floor.proofs.MayWait as wait
-use Rattle.lock_floor.proofs.MayWait.{IsNoSleeper, is_a_chain}
-use Rattle.lock_floor.proofs.Taking.{record_at}
-use Rattle.lock_calls.specs.Sections.{section_out, HasRecordAndChain}
-use Rattle.lock_calls.specs.Steps.{IsCovered, as_taken}
-use Rattle.lock_calls.specs.Takes.{HasChainOut, IsContending}
-use Rattle.lock_calls.specs.Waiting.{kept_of, CanAcquire, IsSeeking, HasLooked, IsThere, Saw, GainsStep, EntersStep, MissesThere}
 use Rattle.lock_calls.proofs.Attempts.{wants_it}
 use Rattle.lock_calls.proofs.Words.{word_seen, saw_others}
 use Rattle.lock_calls.proofs.Looks.{look_once}

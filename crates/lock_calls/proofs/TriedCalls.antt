@@ -1,15 +1,8 @@
 -- The call that a pass is in the middle of is a try: of which lock, in which mode, and where it stands.
-use Rattle.std.proofs.Common.{◌≡◌, sym, ap, ◌∙◌, subst}
-use Rattle.lock_model.specs.declared.numbers.LockNo.{LockNo}
-use Rattle.lock_model.specs.declared.plan.Mode.{Mode}
-use Rattle.floor_table.specs.declared.description.Description.{Description}
-use Rattle.floor_table.specs.Views.{Knowledge}
-use Rattle.lock_floor.specs.declared.calls.Call.{Call}
+use Rattle.lock_calls.proofs.Names.{sym, ap, subst, LockNo, Mode, Description, Knowledge, Call, TryAt, Pass, TryNext}
+use Rattle.lock_calls.proofs.Names.{IsInTry, IsUnderTry, GoesOnTrying}
+use Rattle.std.proofs.Common.{◌≡◌, ◌∙◌}
 use Rattle.lock_floor.specs.declared.calls.Call.TheVariants as calls
-use Rattle.lock_floor.specs.declared.calls.TryAt.{TryAt}
-use Rattle.lock_floor.specs.Floors.{Pass}
-use Rattle.lock_calls.specs.declared.trying.TryNext.{TryNext}
-use Rattle.lock_calls.specs.Tries.{IsInTry, IsUnderTry, GoesOnTrying}
 
 module _ (l m : LockNo) (x y : Mode) (a b : TryAt) where
   same_try : calls.Try l x a ≡ calls.Try m y b → (l ≡ m) × (x ≡ y) × (a ≡ b)

@@ -1,37 +1,15 @@
 -- A try notes what it found, that it gained the lock or that the lock is busy: the entry may be made, and the thread is
 -- at rest again.
-use Rattle.std.proofs.Common.{◌≡◌, ℕ, ◌+◌, ◌≤◌, true, false, cond, Some, None, [], ◌∷◌, ◌++◌, refl, sym, ap, ◌∙◌, subst, arith, eq-eqb}
-use Rattle.lock_laws.proofs.HeldLists.{gained_order-push, hold_in-push}
-use Rattle.lock_laws.proofs.Words.{refused_held}
-use Rattle.lock_model.specs.Config.{Config}
-use Rattle.lock_model.specs.Holds.{NotHeld, Holds}
-use Rattle.lock_model.specs.Operations.{hold_in}
-use Rattle.lock_model.specs.Words.{word_of, IsWellFormed}
-use Rattle.lock_model.specs.declared.event.Event.{Event}
-use Rattle.lock_model.specs.declared.event.Event.TheVariants.{Tried, Busy}
-use Rattle.lock_model.specs.declared.event.Held.{Held}
-use Rattle.lock_model.specs.declared.numbers.LockNo.{LockNo}
-use Rattle.lock_model.specs.declared.plan.Mode.{Mode}
-use Rattle.lock_state.specs.State.{State, Round, gained_order}
-use Rattle.lock_state.specs.Steps.{Stamps, NotesInRound, HasOutForEntry}
-use Rattle.lock_state.specs.Steps.Items.{is_bound}
-use Rattle.lock_state.specs.Steps.LockWords.{Asks, Begins, IsGainedLast, round_of}
-use Rattle.floor_table.specs.Descriptions.{config_in}
-use Rattle.floor_table.specs.declared.description.Description.{Description}
-use Rattle.floor_table.specs.Shares.{Doing, ShareColumns}
-use Rattle.floor_table.specs.Steps.{Fits, Makes, MayMake}
-use Rattle.floor_table.specs.Views.{Runs, Knowledge, seeing}
-use Rattle.lock_floor.specs.Passes.{IsGoing, IsAtRest}
-use Rattle.lock_floor.specs.Rounds.{gained_first}
-use Rattle.lock_floor.specs.Views.{looked, sought, gained, entry_by, stamped}
-use Rattle.lock_floor.proofs.May.{own_log, may_stamp}
-use Rattle.lock_floor.proofs.Resting.{rest_seeing, rest_stamped, rest_gained}
-use Rattle.lock_calls.specs.Choices.{course}
-use Rattle.lock_calls.specs.declared.courses.Course.TheVariants.{MustWait}
-use Rattle.lock_calls.specs.Steps.{IsCovered}
-use Rattle.lock_calls.specs.Tries.{About, about_of, nothing_else, as_tried, tried_under, SeeksByTry, IsThereByTry, IsDeciding, IsBusyFor, GainsThere, HasTried, HasFoundBusy}
-use Rattle.lock_calls.specs.Rounds.{HasSeen}
-use Rattle.lock_calls.specs.Waiting.{Kept, kept_of, IsCalling, HasSpun, SpinsThenGains, with_none_out}
+use Rattle.lock_calls.proofs.Names
+use Names.{ℕ, true, false, cond, Some, None, [], refl, sym, ap, subst, arith, eq-eqb, gained_order-push, hold_in-push}
+use Names.{refused_held, Config, NotHeld, Holds, hold_in, word_of, IsWellFormed, Event, Tried, Busy, Held, LockNo, Mode}
+use Names.{State, Round, gained_order, Stamps, NotesInRound, HasOutForEntry, is_bound, Asks, Begins, IsGainedLast}
+use Names.{round_of, config_in, Description, Doing, ShareColumns, Fits, Makes, MayMake, Runs, Knowledge, seeing}
+use Names.{IsGoing, IsAtRest, gained_first, looked, sought, gained, entry_by, stamped, own_log, may_stamp, rest_seeing}
+use Names.{rest_stamped, rest_gained, course, MustWait, IsCovered, About, about_of, nothing_else, as_tried, tried_under}
+use Names.{SeeksByTry, IsThereByTry, IsDeciding, IsBusyFor, GainsThere, HasTried, HasFoundBusy, HasSeen, Kept, kept_of}
+use Names.{IsCalling, HasSpun, SpinsThenGains, with_none_out}
+use Rattle.std.proofs.Common.{◌≡◌, ◌+◌, ◌≤◌, ◌∷◌, ◌++◌, ◌∙◌}
 use Rattle.lock_calls.proofs.Chosen.{must_wait}
 use Rattle.lock_calls.proofs.TriedRound.{about_nothing}
 
@@ -252,7 +230,6 @@ busy_in_round floor l n seen old v m x saw looked = record {
 -- or in the section of the lock's chain, and then it gives both back
 module _ (floor : Description) (l seen : ℕ) (v : Knowledge) (k : IsCalling floor (kept_of v))
     (d : IsDeciding floor l seen v) where
-
   pub busy_in_section : (z : Knowledge) → z ≡ seeing z.seen (with_none_out v) → HasSeenBusy l seen v z
   busy_in_section z given = record {
     kept = ap kept_of given;

@@ -1,35 +1,20 @@
 -- A part of a try: where the try stands behind it, or how it ends.
-use Rattle.std.proofs.Common.{◌≡◌, ◌≢◌, ◌⊎◌, inl, inr, ℕ, ◌+◌, ◌<◌, ◌≤◌, Bool, true, false, Some, None, [], ◌∷◌, length, replicate, refl, sym, ap, ◌∙◌, subst, arith}
-use Rattle.std.proofs.lemmas.Option.{same_Some}
+use Rattle.lock_calls.proofs.Names
+use Names.{inl, inr, ℕ, Bool, true, false, Some, None, [], length, replicate, refl, sym, ap, subst, arith, same_Some}
+use Names.{lock_queue, Word, word_of, admits, is_plain, Tried, Busy, LockNo, Kind, Mode, Seeks, Looks, Gains, Stamps}
+use Names.{RecordOf, config_in, Description, Makes, MakesEach, Knowledge, seeing, Tries, Decides, Pass, FindsOut, Takes}
+use Names.{IsAtRest, counts, looked, sought, its_chain, chain_place, course, Course, Plainly, ByClaim, MustWait}
+use Names.{MayTake, gives_both, LooksOn, HasSeen, tries_left, as_tried, looks_in_round, SeeksByTry, HasChainInTry}
+use Names.{IsThereByTry, IsDeciding, IsUnderTry, IsBusyFor, TriesOn, GainsThere, GainsAt, gains_in_round, gains_there}
+use Names.{FindsBusyAt, busy_there, HasTried, HasFoundBusy, HasBegunTry, Kept, kept_of, IsCalling, HasSpun}
+use Names.{SpinsThenGains, MissesThere}
+use Rattle.std.proofs.Common.{◌≡◌, ◌≢◌, ◌⊎◌, ◌+◌, ◌<◌, ◌≤◌, ◌∷◌, ◌∙◌}
 use Rattle.std.specs.Prelude.{◌-◌, if◌then◌else◌}
-use Rattle.lock_model.specs.Queues.{lock_queue}
-use Rattle.lock_model.specs.Words.{Word, word_of, admits, is_plain}
-use Rattle.lock_model.specs.declared.event.Event.TheVariants.{Tried, Busy}
-use Rattle.lock_model.specs.declared.numbers.LockNo.{LockNo}
-use Rattle.lock_model.specs.declared.plan.Kind.{Kind}
-use Rattle.lock_model.specs.declared.plan.Mode.{Mode}
-use Rattle.lock_state.specs.Steps.{Seeks, Looks, Gains, Stamps}
-use Rattle.lock_state.specs.Steps.Items.{RecordOf}
-use Rattle.floor_table.specs.Descriptions.{config_in}
-use Rattle.floor_table.specs.declared.description.Description.{Description}
-use Rattle.floor_table.specs.Steps.{Makes, MakesEach}
-use Rattle.floor_table.specs.Views.{Knowledge, seeing}
 use Rattle.lock_floor.specs.declared.calls.Call.TheVariants as calls
-use Rattle.lock_floor.specs.declared.calls.TryAt.TheVariants.{Tries, ComesIn, Decides}
-use Rattle.lock_floor.specs.Floors.{Pass}
-use Rattle.lock_floor.specs.Latches.{FindsOut, Takes}
-use Rattle.lock_floor.specs.Passes.{IsAtRest}
-use Rattle.lock_floor.specs.Views.{counts, looked, sought}
-use Rattle.lock_floor.specs.Waits.{its_chain, chain_place}
-use Rattle.lock_calls.specs.Choices.{course}
-use Rattle.lock_calls.specs.declared.courses.Course.{Course}
-use Rattle.lock_calls.specs.declared.courses.Course.TheVariants.{Plainly, ByClaim, MustWait}
+use Rattle.lock_floor.specs.declared.calls.TryAt.TheVariants.{ComesIn}
 use Rattle.lock_calls.specs.declared.trying.TryNext.TheVariants as next
-use Rattle.lock_calls.specs.Steps.{MayTake, gives_both}
-use Rattle.lock_calls.specs.Rounds.{LooksOn, HasSeen}
 use Rattle.lock_calls.specs.Tries as tries
-use Rattle.lock_calls.specs.Tries.{tries_left, as_tried, at_once, looks_in_round, SeeksByTry, HasChainInTry, IsThereByTry, IsDeciding, IsUnderTry, IsBusyFor, TriesOn, looks, takes_chain, comes_in, looks_there, finds_out, GainsThere, GainsAt, gains_in_round, gains_there, FindsBusyAt, busy_there, HasTried, HasFoundBusy, HasBegunTry}
-use Rattle.lock_calls.specs.Waiting.{Kept, kept_of, IsCalling, HasSpun, SpinsThenGains, MissesThere}
+use Rattle.lock_calls.specs.Tries.{at_once, looks, takes_chain, comes_in, looks_there, finds_out}
 use Rattle.lock_calls.proofs.Attempts.{looks_spun}
 use Rattle.lock_calls.proofs.Calls.{call_noted, view_noted}
 use Rattle.lock_calls.proofs.Looks.{each_append}

@@ -1,31 +1,14 @@
 -- A try before it takes the lock's chain: its exchanges and looks may be made, and what it knows behind them.
-use Rattle.std.proofs.Common.{◌≡◌, ℕ, suc, ◌%◌, ◌<◌, ◌≤◌, Bool, true, false, cond, Some, None, [], ◌∷◌, length, refl, sym, ap, ◌∙◌, subst, inr, arith}
-use Rattle.std.proofs.lemmas.Option.{same_Some}
-use Rattle.lock_model.specs.Holds.{NotHeld}
-use Rattle.lock_model.specs.Limits.{most_held}
-use Rattle.lock_model.specs.Operations.{hold_in}
-use Rattle.lock_model.specs.Queues.{lock_queue}
-use Rattle.lock_model.specs.Words.{Word, word_of, admits, is_plain, is_turnstile}
-use Rattle.lock_model.specs.declared.numbers.LockNo.{LockNo}
-use Rattle.lock_model.specs.declared.plan.Mode.{Mode}
-use Rattle.lock_state.specs.State.{Look, Round}
-use Rattle.lock_state.specs.Steps.{Seeks, Looks, Gains, TakesItem, FitsRound, IsItem, IsOfRound}
-use Rattle.lock_state.specs.Steps.Items.{TurnstileChain, SleepChain, item_with, in_its_chain}
-use Rattle.lock_state.specs.Steps.LockWords.{round_of}
-use Rattle.floor_table.specs.Descriptions.{config_in}
-use Rattle.floor_table.specs.declared.description.Description.{Description}
-use Rattle.floor_table.specs.Steps.{Makes, MayMake}
-use Rattle.floor_table.specs.Views.{Runs, Knowledge, seeing}
-use Rattle.lock_floor.specs.Latches.{Takes}
-use Rattle.lock_floor.specs.Passes.{IsAtRest}
-use Rattle.lock_floor.specs.Views.{counts, looked, sought, gained}
-use Rattle.lock_floor.specs.Waits.{its_chain, chain_place}
-use Rattle.lock_floor.proofs.May.{BeginsRound, WantsItsRound, counts_there, may_look, may_seek, may_seek_gain, may_gain}
+use Rattle.lock_calls.proofs.Names
+use Names.{ℕ, suc, Bool, true, false, cond, Some, None, [], length, refl, sym, ap, subst, inr, arith, same_Some}
+use Names.{NotHeld, most_held, hold_in, lock_queue, Word, word_of, admits, is_plain, is_turnstile, LockNo, Mode, Look}
+use Names.{Round, Seeks, Looks, Gains, TakesItem, FitsRound, IsItem, IsOfRound, TurnstileChain, SleepChain, item_with}
+use Names.{in_its_chain, round_of, config_in, Description, Makes, MayMake, Runs, Knowledge, seeing, Takes, IsAtRest}
+use Names.{counts, looked, sought, gained, its_chain, chain_place, BeginsRound, WantsItsRound, counts_there, may_look}
+use Names.{may_seek, may_seek_gain, may_gain, is_a_chain, IsCovered, About, about_of, nothing_else, as_tried}
+use Names.{SeeksByTry, HasChainInTry, kept_of, IsCalling, HasSpun, SpinsThenGains, with_looks_counted}
+use Rattle.std.proofs.Common.{◌≡◌, ◌%◌, ◌<◌, ◌≤◌, ◌∷◌, ◌∙◌}
 use Rattle.lock_floor.proofs.MayWait as wait
-use Rattle.lock_floor.proofs.MayWait.{is_a_chain}
-use Rattle.lock_calls.specs.Steps.{IsCovered}
-use Rattle.lock_calls.specs.Tries.{About, about_of, nothing_else, as_tried, SeeksByTry, HasChainInTry}
-use Rattle.lock_calls.specs.Waiting.{kept_of, IsCalling, HasSpun, SpinsThenGains, with_looks_counted}
 use Rattle.lock_calls.proofs.Sections.{chain_out}
 use Rattle.lock_calls.proofs.Attempts.{free_admits, plainly, unhalted}
 

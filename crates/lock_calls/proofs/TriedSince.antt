@@ -1,34 +1,18 @@
 -- A try from its begin on: what the thread has made so far where the try stands, and that its parts together are a try.
-use Rattle.std.proofs.Common.{◌≡◌, ℕ, zero, suc, ◌+◌, ◌<◌, ◌≤◌, true, false, List, [], ◌∷◌, ◌++◌, replicate, refl, sym, ap, ◌∙◌, subst, arith}
-use Rattle.std.proofs.lemmas.List.{replicate-append-replicate}
-use Rattle.lock_model.specs.Queues.{lock_queue}
-use Rattle.lock_model.specs.Words.{Word, word_of}
-use Rattle.lock_model.specs.declared.event.Event.{Event}
-use Rattle.lock_model.specs.declared.event.Held.{Held}
-use Rattle.lock_model.specs.declared.numbers.LockNo.{LockNo}
-use Rattle.lock_model.specs.declared.plan.Mode.{Mode}
-use Rattle.lock_state.specs.Steps.{Step, Looks, Gains, Stamps, TakesItem, GivesItem}
-use Rattle.lock_state.specs.Steps.Items.{RecordOf}
-use Rattle.floor_table.specs.Descriptions.{config_in}
-use Rattle.floor_table.specs.declared.description.Description.{Description}
-use Rattle.floor_table.specs.Steps.{Makes, MakesEach}
-use Rattle.floor_table.specs.Views.{Knowledge}
+use Rattle.lock_calls.proofs.Names
+use Names.{ℕ, zero, suc, true, false, List, [], replicate, refl, sym, ap, subst, arith, replicate-append-replicate}
+use Names.{lock_queue, Word, word_of, Event, Held, LockNo, Mode, Step, Looks, Gains, Stamps, TakesItem, GivesItem}
+use Names.{RecordOf, config_in, Description, Makes, MakesEach, Knowledge, TryAt, Tries, Decides, Pass, MakesEntry}
+use Names.{entry_by, its_chain, HasWaited, waits_none, waits_on, course, TryNext, IsGain, gives_both, LooksOn}
+use Names.{looks_alone, tries_too, HasSeen, as_tried, seeks_try, tries_there, GainsAndNotes, WasBusyFor, IsUnderTry}
+use Names.{TryLeg, TriesOn, GainsAt, gains_in_round, gains_there, FindsBusyAt, busy_in_round, busy_there, HasTried}
+use Names.{HasFoundBusy, BeginsTry, StandsInTry, HasBegunTry, GoesOnTrying, EndsBusy, Kept, kept_of, IsCalling}
+use Rattle.std.proofs.Common.{◌≡◌, ◌+◌, ◌<◌, ◌≤◌, ◌∷◌, ◌++◌, ◌∙◌}
 use Rattle.lock_floor.specs.declared.calls.Call.TheVariants as calls
-use Rattle.lock_floor.specs.declared.calls.TryAt.{TryAt}
-use Rattle.lock_floor.specs.declared.calls.TryAt.TheVariants.{Tries, ComesIn, Decides}
-use Rattle.lock_floor.specs.Floors.{Pass}
-use Rattle.lock_floor.specs.Passes.{MakesEntry}
-use Rattle.lock_floor.specs.Views.{entry_by}
-use Rattle.lock_floor.specs.Waits.{its_chain}
-use Rattle.lock_floor.proofs.Taking.{HasWaited, waits_none, waits_on}
-use Rattle.lock_calls.specs.Choices.{course}
-use Rattle.lock_calls.specs.declared.trying.TryNext.{TryNext}
+use Rattle.lock_floor.specs.declared.calls.TryAt.TheVariants.{ComesIn}
 use Rattle.lock_calls.specs.declared.trying.TryNext.TheVariants as next
-use Rattle.lock_calls.specs.Steps.{IsGain, gives_both}
-use Rattle.lock_calls.specs.Rounds.{LooksOn, looks_alone, tries_too, HasSeen}
 use Rattle.lock_calls.specs.Tries as tries
-use Rattle.lock_calls.specs.Tries.{as_tried, seeks_try, tries_there, GainsAndNotes, WasBusyFor, IsUnderTry, TryLeg, looks, takes_chain, comes_in, looks_there, finds_out, TriesOn, GainsAt, gains_in_round, gains_there, FindsBusyAt, busy_in_round, busy_there, HasTried, HasFoundBusy, BeginsTry, StandsInTry, HasBegunTry, GoesOnTrying, EndsBusy}
-use Rattle.lock_calls.specs.Waiting.{Kept, kept_of, IsCalling}
+use Rattle.lock_calls.specs.Tries.{looks, takes_chain, comes_in, looks_there, finds_out}
 use Rattle.lock_calls.proofs.Looks.{each_append}
 use Rattle.lock_calls.proofs.Spun.{looks_in_it}
 use Rattle.lock_calls.proofs.TriedOn.{fewer_left}

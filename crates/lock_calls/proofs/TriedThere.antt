@@ -1,37 +1,15 @@
 -- A try in the section of the lock's chain: what allows its steps there, and what each leaves.
-use Rattle.std.proofs.Common.{◌≡◌, ◌≢◌, ℕ, ◌<◌, Bool, true, false, not, ◌&&◌, ◌||◌, Some, None, [], ◌∷◌, length, refl, sym, ap, ◌∙◌, subst, inl, inr, eq-eqb}
-use Rattle.std.specs.Box.{with_value}
-use Rattle.lock_model.specs.Operations.{hold_in}
-use Rattle.lock_model.specs.Queues.{lock_queue}
-use Rattle.lock_model.specs.Words.{Word, word_of, is_plain, is_turnstile, admits}
-use Rattle.lock_model.specs.declared.numbers.LockNo.{LockNo}
-use Rattle.lock_model.specs.declared.plan.Mode.{Mode}
-use Rattle.lock_model.specs.declared.plan.Mode.TheVariants.{Excl}
-use Rattle.lock_objects.specs.Hops.{record_claimed, chain_claimed}
-use Rattle.lock_laws.proofs.Words.{IsClaim}
-use Rattle.lock_state.specs.Steps.{Step, Looks, Gains, Claims, TakesItem, FitsRound, seeks, is_first}
-use Rattle.lock_state.specs.Steps.Items.{RecordOf, is_chain}
-use Rattle.floor_table.specs.Descriptions.{config_in}
-use Rattle.floor_table.specs.declared.description.Description.{Description}
-use Rattle.floor_table.specs.declared.slot.Slot.TheVariants.{Record}
-use Rattle.floor_table.specs.Places.{slot_of}
-use Rattle.floor_table.specs.Shelves.{found}
-use Rattle.floor_table.specs.Steps.{Makes, MayMake}
-use Rattle.floor_table.specs.Views.{Runs, is_off_queues, Knowledge, seeing}
-use Rattle.floor_table.proofs.Items.{one_place}
-use Rattle.floor_table.proofs.Shelved.{found_first, found_later}
-use Rattle.lock_floor.specs.Claims.{MayClaimIt, ClaimsIt, out_claimed}
-use Rattle.lock_floor.specs.Latches.{Takes}
-use Rattle.lock_floor.specs.Opens.{HasBothOut}
-use Rattle.lock_floor.specs.Views.{counts, looked, gained, is_there, is_out}
-use Rattle.lock_floor.specs.Waits.{its_chain, chain_place}
-use Rattle.lock_floor.proofs.ChainPlaces.{chain_at}
+use Rattle.lock_calls.proofs.Names
+use Names.{ℕ, Bool, true, false, not, Some, None, [], length, refl, sym, ap, subst, inl, inr, eq-eqb, with_value}
+use Names.{hold_in, lock_queue, Word, word_of, is_plain, is_turnstile, admits, LockNo, Mode, Excl, record_claimed}
+use Names.{chain_claimed, IsClaim, Step, Looks, Gains, Claims, TakesItem, FitsRound, seeks, is_first, RecordOf}
+use Names.{is_chain, config_in, Description, Record, slot_of, found, Makes, MayMake, Runs, is_off_queues, Knowledge}
+use Names.{seeing, one_place, found_first, found_later, MayClaimIt, ClaimsIt, out_claimed, Takes, HasBothOut, counts}
+use Names.{looked, gained, is_there, is_out, its_chain, chain_place, chain_at, IsNoSleeper, is_a_chain, record_at}
+use Names.{HasRecordAndChain, About, about_of, as_tried, HasChainInTry, IsThereByTry, IsDeciding, GainsThere, kept_of}
+use Names.{IsCalling, Saw, MissesThere}
+use Rattle.std.proofs.Common.{◌≡◌, ◌≢◌, ◌<◌, ◌&&◌, ◌||◌, ◌∷◌, ◌∙◌}
 use Rattle.lock_floor.proofs.MayWait as wait
-use Rattle.lock_floor.proofs.MayWait.{IsNoSleeper, is_a_chain}
-use Rattle.lock_floor.proofs.Taking.{record_at}
-use Rattle.lock_calls.specs.Sections.{HasRecordAndChain}
-use Rattle.lock_calls.specs.Tries.{About, about_of, as_tried, HasChainInTry, IsThereByTry, IsDeciding, GainsThere}
-use Rattle.lock_calls.specs.Waiting.{kept_of, IsCalling, Saw, MissesThere}
 use Rattle.lock_calls.proofs.Attempts.{unhalted}
 use Rattle.lock_calls.proofs.Sections.{record_out, as_both, from_both}
 use Rattle.lock_calls.proofs.There.{saw_word}

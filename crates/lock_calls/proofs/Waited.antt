@@ -1,14 +1,8 @@
 -- A thread that found out what it needs, or that it is queued still, knows nothing else anew: its next steps lead on
 -- from what it knew before.
-use Rattle.std.proofs.Common.{◌≡◌, ℕ, List, ◌∷◌, ap, sym, subst}
-use Rattle.lock_state.specs.Steps.{Step}
-use Rattle.lock_state.specs.Steps.Items.{Item}
-use Rattle.floor_table.specs.declared.description.Description.{Description}
-use Rattle.floor_table.specs.Steps.{Makes, MakesEach}
-use Rattle.floor_table.specs.Views.{Knowledge, seeing}
-use Rattle.floor_table.proofs.Made.{sooner}
-use Rattle.lock_floor.specs.Latches.{Takes}
-use Rattle.lock_floor.proofs.Taking.{HasWaited, takes_then}
+use Rattle.lock_calls.proofs.Names.{ℕ, List, ap, sym, subst, Step, Item, Description, Makes, MakesEach, Knowledge}
+use Rattle.lock_calls.proofs.Names.{seeing, sooner, Takes, HasWaited, takes_then}
+use Rattle.std.proofs.Common.{◌≡◌, ◌∷◌}
 
 pub makes_sooner : (floor : Description) (steps : List Step) (old mid new : Knowledge) → HasWaited old mid
     → Makes floor steps mid new → Makes floor steps old new

@@ -1,19 +1,12 @@
 -- A release as it goes on: whom its last part wakes, and where it stands then is noted in the pass.
-use Rattle.std.proofs.Common.{◌≡◌, refl, sym, ap, subst}
-use Rattle.lock_model.specs.declared.numbers.LockNo.{LockNo}
-use Rattle.lock_model.specs.declared.numbers.ThreadNo.{ThreadNo}
-use Rattle.lock_model.specs.declared.plan.Mode.{Mode}
-use Rattle.lock_state.specs.Steps.Items.{RecordOf}
-use Rattle.floor_table.specs.declared.description.Description.{Description}
-use Rattle.floor_table.specs.Views.{Knowledge}
+use Rattle.lock_calls.proofs.Names
+use Names.{refl, sym, ap, subst, LockNo, ThreadNo, Mode, RecordOf, Description, Knowledge, ReleaseAt, Wakes, Pass, Done}
+use Names.{Again, Wake, ReleaseNext, HasPutDown, HasWokenOne, IsReleased, IsUnderRelease, ReleasesOn, ReleasesPart}
+use Names.{GoesOnReleasing, WakesNext, once_released, nobody_left}
+use Rattle.std.proofs.Common.{◌≡◌}
 use Rattle.lock_floor.specs.declared.calls.Call.TheVariants as calls
-use Rattle.lock_floor.specs.declared.calls.ReleaseAt.{ReleaseAt}
-use Rattle.lock_floor.specs.declared.calls.ReleaseAt.TheVariants.{Wakes}
-use Rattle.lock_floor.specs.Floors.{Pass}
-use Rattle.lock_calls.specs.declared.answers.Next.TheVariants.{Done, Again, Wake}
-use Rattle.lock_calls.specs.declared.answers.ReleaseNext.{ReleaseNext}
 use Rattle.lock_calls.specs.declared.answers.ReleaseNext.TheVariants as next
-use Rattle.lock_calls.specs.Releases.{HasPutDown, HasWokenOne, IsReleased, IsUnderRelease, ReleasesOn, ReleasesPart, GoesOnReleasing, WakesNext, once_released, nobody_left, finds_out}
+use Rattle.lock_calls.specs.Releases.{finds_out}
 use Rattle.lock_calls.proofs.Calls.{call_noted, view_noted}
 use Rattle.lock_calls.proofs.Leaving.{down_still, down_woken, rests_then, under_on, under_woken}
 

@@ -1,21 +1,11 @@
 -- The word of a lock that a thread doesn't hold, as a look saw it. Whoever sees that of a mutex, and not the free one,
 -- sees it held, since a free mutex shows no waiters.
-use Rattle.std.proofs.Common.{◌≡◌, ◌≢◌, ℕ, zero, suc, ◌/◌, ◌%◌, Bool, true, false, ◌||◌, Option, Some, None, [], ◌∷◌, refl, sym, ap, ◌∙◌, subst, arith, eq-eqb}
+use Rattle.lock_calls.proofs.Names
+use Names.{ℕ, zero, suc, Bool, true, false, Option, Some, None, [], refl, sym, ap, subst, arith, eq-eqb, NotHeld}
+use Names.{hold_in, Word, holder_of, word_of, bits_of, is_free, shows_waiters, Kind, Mtx, CanBeSeen, Look, Looks}
+use Names.{config_in, Description, Makes, Knowledge, seeing, counts, looked, finds_word, finds_of_others}
+use Rattle.std.proofs.Common.{◌≡◌, ◌≢◌, ◌/◌, ◌%◌, ◌||◌, ◌∷◌, ◌∙◌}
 use Rattle.std.specs.Prelude.{◌==◌}
-use Rattle.lock_model.specs.Holds.{NotHeld}
-use Rattle.lock_model.specs.Operations.{hold_in}
-use Rattle.lock_model.specs.Words.{Word, holder_of, word_of, bits_of, is_free, shows_waiters}
-use Rattle.lock_model.specs.declared.plan.Kind.{Kind}
-use Rattle.lock_model.specs.declared.plan.Kind.TheVariants.{Mtx}
-use Rattle.lock_laws.specs.Words.{CanBeSeen}
-use Rattle.lock_state.specs.State.{Look}
-use Rattle.lock_state.specs.Steps.{Looks}
-use Rattle.floor_table.specs.Descriptions.{config_in}
-use Rattle.floor_table.specs.declared.description.Description.{Description}
-use Rattle.floor_table.specs.Steps.{Makes}
-use Rattle.floor_table.specs.Views.{Knowledge, seeing}
-use Rattle.lock_floor.specs.Views.{counts, looked}
-use Rattle.lock_floor.proofs.Finding.{finds_word, finds_of_others}
 
 -- 1. Words that show neither a holder nor waiters
 

@@ -1,33 +1,13 @@
 -- What a call that takes a sleeper off a queue by an abort leaves of the pass, and tells of it.
-use Rattle.std.proofs.Common.{◌≡◌, ℕ, Bool, true, false, Option, Some, IsSomeAnd, List, [], ◌∷◌, map, refl, sym, ap, ◌∙◌, subst}
-use Rattle.std.specs.Global.{Vec}
-use Rattle.atomic_table.specs.Table.{Me, rest}
-use Rattle.chain_table.specs.Chains.{head_of}
-use Rattle.lock_history.specs.Books.{Book}
-use Rattle.lock_model.specs.Queues.{ByAbort, without}
-use Rattle.lock_model.specs.declared.event.Held.{Held}
-use Rattle.lock_model.specs.declared.plan.QueueName.{QueueName}
-use Rattle.lock_model.specs.declared.plan.Side.{Side}
-use Rattle.lock_objects.specs.Aborts.{aborted_from, chain_aborted}
-use Rattle.lock_objects.specs.Represents.{mark_by}
-use Rattle.lock_objects.specs.declared.marked.Marked.{Marked}
-use Rattle.lock_objects.specs.declared.marked.Marked.TheVariants.{AbortedSleepers}
-use Rattle.lock_state.specs.State.{Look}
-use Rattle.lock_state.specs.Steps.{Aborts}
-use Rattle.sleep_queues.specs.Changes.{waiters, waits}
-use Rattle.sleep_queues.specs.Seen.{SleepQueue, Place}
-use Rattle.floor_table.specs.Steps.{Makes}
-use Rattle.floor_table.specs.Views.{Knowledge, seeing}
-use Rattle.floor_table.specs.declared.description.Description.{Description}
-use Rattle.floor_table.specs.declared.slot.Slot.{Slot}
-use Rattle.floor_table.specs.declared.slot.Slot.TheVariants.{SleepQueues}
-use Rattle.lock_floor.specs.Aborts.{AbortsSleeper, KeepsWord, aborted_off, out_aborted}
-use Rattle.lock_floor.specs.Marks.{AreMarked}
-use Rattle.lock_floor.specs.Ties.{IsTied}
-use Rattle.lock_floor.specs.Waits.{chain_place}
+use Rattle.lock_floor.proofs.Names
+use Names.{ℕ, Bool, true, false, Option, Some, List, [], map, refl, sym, ap, subst, Vec, Me, rest, head_of, Book}
+use Names.{ByAbort, Held, QueueName, Side, aborted_from, chain_aborted, mark_by, Marked, AbortedSleepers, Look, Aborts}
+use Names.{waiters, waits, SleepQueue, Place, Makes, Knowledge, seeing, Description, Slot, SleepQueues, AbortsSleeper}
+use Names.{KeepsWord, aborted_off, out_aborted, AreMarked, IsTied, chain_place, arith}
+use Rattle.std.proofs.Common.{◌≡◌, ◌∷◌, ◌∙◌, IsSomeAnd}
+use Rattle.lock_model.specs.Queues.{without}
 use Rattle.lock_floor.proofs.AbortStep.{TakenOff}
 use Rattle.lock_floor.proofs.Tied.{tied_then}
-use Rattle.std.proofs.Common.{arith}
 
 module _ (floor : Description) (me behind : Me Slot Knowledge) (q : QueueName) (side : Side) (u : ℕ)
     {look : Option Look} (told : TakenOff floor q side u look me behind) (at : ℕ) (at_is : at ≡ chain_place floor q)

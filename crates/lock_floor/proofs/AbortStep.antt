@@ -1,52 +1,22 @@
 -- An abort: a load of the latch of a queue's chain, by which one sleeper is taken off the queue. The chain, which the
 -- thread has out, is then what the work on it will make of it. The word of an sx lock stays, since another sleeper
 -- stays on that side.
-use Rattle.std.proofs.Common.{◌≡◌, ◌≢◌, ℕ, ◌<◌, ◌%◌, Bool, true, false, cond, lt-ltb, Option, Some, IsSome, List, [], ◌∷◌, map, length, refl, sym, ap, ◌∙◌, subst, arith}
-use Rattle.std.specs.List.{All}
-use Rattle.atomic_table.specs.Table.{Me, keeps, rest, Allows}
-use Rattle.chain_table.specs.Chains.{head_of, without}
-use Rattle.chain_table.proofs.Lookups.{head_of-without_itself}
-use Rattle.lock_laws.proofs.ChangedWords.{some_there, word_stays}
-use Rattle.lock_laws.proofs.Derived.{once}
-use Rattle.lock_laws.proofs.Kit.{put_same, put_other}
-use Rattle.lock_model.specs.Config.{Config}
-use Rattle.lock_model.specs.Counts.{is_empty}
-use Rattle.lock_model.specs.Queues.{Waiter, ByAbort, is_turnstile_queue, list_of, times_waiting, without as without_waiter}
-use Rattle.lock_model.specs.declared.plan.QueueName.{QueueName}
-use Rattle.lock_model.specs.declared.plan.QueueName.TheVariants.{Lock, Chan}
-use Rattle.lock_model.specs.declared.plan.Side.{Side}
-use Rattle.lock_model.specs.declared.plan.Side.TheVariants.{X, S}
-use Rattle.lock_objects.specs.Aborts.{IsSleeper, aborted_from, chain_aborted, aborted, without_sleeper}
-use Rattle.lock_objects.specs.Represents.{SleepColumns, RepresentsSleepQueue, mark_by, sleepers_in, sleepers_of}
-use Rattle.lock_objects.proofs.Aborts.{shows_aborted, marks_aborted}
-use Rattle.lock_objects.proofs.StepsOfSleepers.{balanced, abort_changes}
-use Rattle.lock_state.specs.Facts.{Lawful, BitsShowWaiters}
-use Rattle.lock_state.specs.State.{State, Look, put}
-use Rattle.lock_state.specs.Steps.{Step, Aborts}
-use Rattle.lock_state.specs.Steps.Items.{Item, TurnstileChain, SleepChain, RecordOf, CellOf, ClassGraph}
-use Rattle.lock_state.specs.Steps.SleepQueues.{after_abort, look_leaving, phase_aborting, sleeper, word_showing}
-use Rattle.sleep_queues.specs.Changes.{all_waiters, waiters, waits}
-use Rattle.sleep_queues.specs.Seen.{SleepQueue, Place}
-use Rattle.floor_table.specs.Descriptions.{config_in}
-use Rattle.floor_table.specs.declared.description.Description.{Description}
-use Rattle.floor_table.specs.declared.slot.Slot.{Slot}
-use Rattle.floor_table.specs.declared.slot.Slot.TheVariants.{SleepQueues}
-use Rattle.floor_table.specs.Places.{spot, latch_line, latch_word, slots_for, slot_of, home_at}
-use Rattle.floor_table.specs.Represents.{Board, HasNames, RepresentsSleepChain, RepresentsObjects, RepresentsShare, StandsIn, objects_in, thread_in, words_in}
-use Rattle.floor_table.specs.Rule.{FloorHolds}
-use Rattle.floor_table.specs.Shares.{ShareColumns, columns_of, share_in}
-use Rattle.floor_table.specs.Shelves.{Shelves, found}
-use Rattle.floor_table.specs.Steps.{FitAll, IsSound, MayMake, Makes}
-use Rattle.floor_table.specs.Views.{Knowledge, OfThread, seeing}
-use Rattle.floor_table.proofs.Items.{place_low}
-use Rattle.floor_table.proofs.Made.{Finds, Steps, allows, latch_seen_with, own_out, OwnSteps}
-use Rattle.floor_table.proofs.Objects.{SaySame}
-use Rattle.floor_table.proofs.Seen.{one_own}
-use Rattle.floor_table.proofs.Shelved.{found_first, shelf_changed}
-use Rattle.floor_table.proofs.Sound.{sound_kept}
-use Rattle.lock_floor.specs.Aborts.{IsSleeping, KeepsWord, aborted_off, out_aborted}
-use Rattle.lock_floor.specs.Sleeps.{HasSleepersOut}
-use Rattle.lock_floor.specs.Waits.{its_chain, chain_place}
+use Rattle.lock_floor.proofs.Names
+use Names.{ℕ, Bool, true, false, cond, lt-ltb, Option, Some, IsSome, List, [], map, length, refl, sym, ap, subst, arith}
+use Names.{All, Me, keeps, rest, Allows, head_of, without, head_of-without_itself, some_there, word_stays, once}
+use Names.{put_same, put_other, Config, is_empty, Waiter, ByAbort, is_turnstile_queue, list_of, times_waiting}
+use Names.{without_waiter, QueueName, Lock, Chan, Side, X, S, IsSleeper, aborted_from, chain_aborted, aborted}
+use Names.{without_sleeper, SleepColumns, RepresentsSleepQueue, mark_by, sleepers_in, sleepers_of, shows_aborted}
+use Names.{marks_aborted, balanced, abort_changes, Lawful, BitsShowWaiters, State, Look, put, Step, Aborts, Item}
+use Names.{TurnstileChain, SleepChain, RecordOf, CellOf, ClassGraph, after_abort, look_leaving, phase_aborting, sleeper}
+use Names.{word_showing, all_waiters, waiters, waits, SleepQueue, Place, config_in, Description, Slot, SleepQueues}
+use Names.{spot, latch_line, latch_word, slots_for, slot_of, home_at, Board, HasNames, RepresentsSleepChain}
+use Names.{RepresentsObjects, RepresentsShare, StandsIn, objects_in, thread_in, words_in, FloorHolds, ShareColumns}
+use Names.{columns_of, share_in, Shelves, found, FitAll, IsSound, MayMake, Makes, Knowledge, OfThread, seeing}
+use Names.{place_low, Finds, Steps, allows, latch_seen_with, own_out, OwnSteps, SaySame, one_own, found_first}
+use Names.{shelf_changed, sound_kept, IsSleeping, KeepsWord, aborted_off, out_aborted, HasSleepersOut, its_chain}
+use Names.{chain_place}
+use Rattle.std.proofs.Common.{◌≡◌, ◌≢◌, ◌<◌, ◌%◌, ◌∷◌, ◌∙◌}
 use Rattle.lock_floor.proofs.Changing.{OnlyChanges, object_changed}
 use Rattle.lock_floor.proofs.ChainPlaces.{chain_at}
 use Rattle.lock_floor.proofs.OpenStep.{marked_low}

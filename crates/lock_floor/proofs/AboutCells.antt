@@ -1,33 +1,12 @@
 -- Entries about a cell of a lock that is held: a thread at rest may take the cell, make the entry, and give it back.
-use Rattle.std.proofs.Common.{◌≡◌, ◌≢◌, ℕ, ◌<◌, false, Option, Some, None, [], ◌∷◌, length, refl, sym, ap, ◌∙◌}
-use Rattle.atomic_table.specs.Table.{rest}
-use Rattle.lock_model.specs.Config.{Config}
-use Rattle.lock_model.specs.History.{open_in}
-use Rattle.lock_model.specs.Holds.{Hold, NotHeld, Holds}
-use Rattle.lock_model.specs.Operations.{hold_in}
-use Rattle.lock_model.specs.declared.event.Event.TheVariants.{Got}
-use Rattle.lock_model.specs.declared.numbers.LockNo.{LockNo}
-use Rattle.lock_model.specs.declared.plan.Mode.TheVariants.{Excl}
-use Rattle.lock_state.specs.State.{State}
-use Rattle.lock_state.specs.Steps.{TakesItem, Stamps}
-use Rattle.lock_state.specs.Steps.Items.{Item, CellOf, item_with}
-use Rattle.lock_state.specs.Steps.LockWords.{changes_sections}
-use Rattle.floor_table.specs.Descriptions.{config_in}
-use Rattle.floor_table.specs.declared.description.Description.{Description}
-use Rattle.floor_table.specs.declared.slot.Slot.{Slot}
-use Rattle.floor_table.specs.declared.slot.Slot.TheVariants.{Record, Cell, Turnstiles, SleepQueues, Graph}
-use Rattle.floor_table.specs.Places.{slot_of}
-use Rattle.floor_table.specs.Represents.{IsOf, objects_in}
-use Rattle.floor_table.specs.Steps.{Fits, MayMake}
-use Rattle.floor_table.specs.Views.{Knowledge}
-use Rattle.lock_floor.specs.declared.tables.Change.{Change}
-use Rattle.lock_floor.specs.declared.tables.Change.TheVariants.{Set, Add}
-use Rattle.lock_floor.specs.Changes.{IsChangeOf, event_of}
-use Rattle.lock_floor.specs.Passes.{IsAtRest}
-use Rattle.lock_floor.specs.Latches.{IsOfKind, Takes}
+use Rattle.lock_floor.proofs.Names
+use Names.{ℕ, false, Option, Some, None, [], length, refl, sym, ap, rest, Config, open_in, Hold, NotHeld, Holds}
+use Names.{hold_in, Got, LockNo, Excl, State, TakesItem, Stamps, Item, CellOf, item_with, changes_sections, config_in}
+use Names.{Description, Slot, Record, Cell, Turnstiles, SleepQueues, Graph, slot_of, IsOf, objects_in, Fits, MayMake}
+use Names.{Knowledge, Change, Set, Add, IsChangeOf, event_of, IsAtRest, IsOfKind, Takes, arith}
+use Rattle.std.proofs.Common.{◌≡◌, ◌≢◌, ◌<◌, ◌∷◌, ◌∙◌}
 use Rattle.lock_floor.proofs.May.{may_take, says_its, its_lock, own_log}
 use Rattle.lock_floor.proofs.Resting.{may_note, rest_with, taken_out}
-use Rattle.std.proofs.Common.{arith}
 
 -- what a change says is of the cell, and of no section
 pub change_of : (t : ℕ) (l : LockNo) (key : ℕ) (change : Change) → IsChangeOf t (event_of l key change) (CellOf l.0 key)

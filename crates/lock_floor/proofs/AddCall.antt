@@ -1,35 +1,14 @@
 -- What the call by which a thread goes to sleep on a channel leaves of the pass, and tells of it.
-use Rattle.std.proofs.Common.{◌≡◌, ℕ, Bool, false, Some, List, [], ◌∷◌, refl}
-use Rattle.std.specs.Box.{with_value}
-use Rattle.std.specs.Global.{Vec}
+use Rattle.lock_floor.proofs.Names
+use Names.{ℕ, Bool, false, Some, List, [], refl, with_value, Vec, Global, Box, Me, head_of, Book, chan_queue, Held}
+use Names.{QueueName, X, CanStand, sleeper_of, record_asleep, chain_asleep, Marked, Adds, SleepQueue, ThreadRec}
+use Names.{Knowledge, Description, Slot, Record, SleepQueues, AddsItself, added, out_asleep, IsTied, chain_place, arith}
+use Rattle.std.proofs.Common.{◌≡◌, ◌∷◌}
 use Rattle.std.specs.Prelude.{IsSome}
-use Rattle.std.specs.declared.alloc.Global.{Global}
-use Rattle.std.specs.declared.boxed.Box.{Box}
-use Rattle.atomic_table.specs.Table.{Me}
-use Rattle.chain_table.specs.Chains.{head_of}
-use Rattle.lock_history.specs.Books.{Book}
-use Rattle.lock_model.specs.Queues.{chan_queue}
-use Rattle.lock_model.specs.declared.event.Held.{Held}
-use Rattle.lock_model.specs.declared.plan.QueueName.{QueueName}
-use Rattle.lock_model.specs.declared.plan.Side.TheVariants.{X}
-use Rattle.lock_objects.specs.Enters.{CanStand}
-use Rattle.lock_objects.specs.Sleeps.{sleeper_of, record_asleep, chain_asleep}
-use Rattle.lock_objects.specs.declared.marked.Marked.{Marked}
-use Rattle.lock_state.specs.Steps.{Adds}
-use Rattle.sleep_queues.specs.Seen.{SleepQueue}
-use Rattle.thread_records.specs.declared.record.ThreadRec.{ThreadRec}
-use Rattle.floor_table.specs.Views.{Knowledge}
-use Rattle.floor_table.specs.declared.description.Description.{Description}
-use Rattle.floor_table.specs.declared.slot.Slot.{Slot}
-use Rattle.floor_table.specs.declared.slot.Slot.TheVariants.{Record, SleepQueues}
-use Rattle.lock_floor.specs.Sleeps.{AddsItself, added, out_asleep}
-use Rattle.lock_floor.specs.Ties.{IsTied}
-use Rattle.lock_floor.specs.Waits.{chain_place}
 use Rattle.lock_floor.proofs.AddStep.{AddedTo}
 use Rattle.lock_floor.proofs.BothChanged.{Worked}
 use Rattle.lock_floor.proofs.LieDownCall.{before_work, lain_down}
 use Rattle.lock_floor.proofs.Tied.{tied_on}
-use Rattle.std.proofs.Common.{arith}
 
 module _ (floor : Description) (me behind : Me Slot Knowledge) (d : ℕ) (told : AddedTo floor d me behind)
     (own at : ℕ) (own_is : own ≡ me.0.thread) (at_is : at ≡ chain_place floor (chan_queue d))

@@ -1,43 +1,15 @@
 -- An add: a load of the latch of a channel's chain, by which the thread comes to stand on the channel's queue. Its
 -- record and the chain, which it has out, are then what the work on them will make of them.
-use Rattle.std.proofs.Common.{◌≡◌, ◌≢◌, ℕ, ◌%◌, Some, None, List, [], ◌∷◌, refl, sym, ap, subst, inl}
-use Rattle.std.specs.Box.{with_value}
-use Rattle.std.specs.declared.alloc.Global.{Global}
-use Rattle.std.specs.declared.boxed.Box.{Box}
-use Rattle.atomic_table.specs.Table.{Me, keeps, Allows}
-use Rattle.chain_table.specs.Chains.{head_of}
-use Rattle.lock_laws.proofs.Kit.{put_same, put_other}
-use Rattle.lock_model.specs.Config.{Config}
-use Rattle.lock_model.specs.Queues.{Waiter, chan_queue}
-use Rattle.lock_model.specs.declared.plan.QueueName.{QueueName}
-use Rattle.lock_model.specs.declared.plan.Side.TheVariants.{X}
-use Rattle.lock_objects.specs.Enters.{CanStand}
-use Rattle.lock_objects.specs.Represents.{RecordColumns, RepresentsRecord, record_in, sleepers_in}
-use Rattle.lock_objects.specs.Sleeps.{sleeper_of, record_asleep, chain_asleep, slept}
-use Rattle.lock_objects.proofs.SleepChains.{chain_slept}
-use Rattle.lock_objects.proofs.StepsOfSleepers.{balanced, sleeper_is, add_changes}
-use Rattle.lock_state.specs.Facts.{Lawful}
-use Rattle.lock_state.specs.State.{State}
-use Rattle.lock_state.specs.Steps.{Step, Adds}
-use Rattle.lock_state.specs.Steps.Items.{Item, TurnstileChain, SleepChain, RecordOf, CellOf, ClassGraph}
-use Rattle.lock_state.specs.Steps.SleepQueues.{after_add}
-use Rattle.sleep_queues.specs.Seen.{SleepQueue}
-use Rattle.thread_records.specs.declared.record.ThreadRec.{ThreadRec}
-use Rattle.floor_table.specs.Descriptions.{config_in}
-use Rattle.floor_table.specs.declared.description.Description.{Description}
-use Rattle.floor_table.specs.declared.slot.Slot.{Slot}
-use Rattle.floor_table.specs.declared.slot.Slot.TheVariants.{SleepQueues}
-use Rattle.floor_table.specs.Places.{spot, latch_line, latch_word}
-use Rattle.floor_table.specs.Represents.{Board, RepresentsSleepChain, IsPosed, StandsIn, objects_in}
-use Rattle.floor_table.specs.Rule.{FloorHolds}
-use Rattle.floor_table.specs.Shares.{share_in}
-use Rattle.floor_table.specs.Steps.{FitAll, Makes}
-use Rattle.floor_table.specs.Views.{Knowledge, OfThread, seeing}
-use Rattle.floor_table.proofs.Made.{Finds, Steps, allows, OwnSteps}
-use Rattle.floor_table.proofs.Objects.{SaySame}
-use Rattle.floor_table.proofs.Seen.{one_own}
-use Rattle.lock_floor.specs.Sleeps.{MayAddItself, added, out_asleep}
-use Rattle.lock_floor.specs.Waits.{chain_place}
+use Rattle.lock_floor.proofs.Names
+use Names.{ℕ, Some, None, List, [], refl, sym, ap, subst, inl, with_value, Global, Box, Me, keeps, Allows, head_of}
+use Names.{put_same, put_other, Config, Waiter, chan_queue, QueueName, X, CanStand, RecordColumns, RepresentsRecord}
+use Names.{record_in, sleepers_in, sleeper_of, record_asleep, chain_asleep, slept, chain_slept, balanced, sleeper_is}
+use Names.{add_changes, Lawful, State, Step, Adds, Item, TurnstileChain, SleepChain, RecordOf, CellOf, ClassGraph}
+use Names.{after_add, SleepQueue, ThreadRec, config_in, Description, Slot, SleepQueues, spot, latch_line, latch_word}
+use Names.{Board, RepresentsSleepChain, IsPosed, StandsIn, objects_in, FloorHolds, share_in, FitAll, Makes, Knowledge}
+use Names.{OfThread, seeing, Finds, Steps, allows, OwnSteps, SaySame, one_own, MayAddItself, added, out_asleep}
+use Names.{chain_place}
+use Rattle.std.proofs.Common.{◌≡◌, ◌≢◌, ◌%◌, ◌∷◌}
 use Rattle.lock_floor.proofs.BothChanged.{record_says, chain_says, both_seen}
 use Rattle.lock_floor.proofs.SleepChanges.{turnstiles_same, sleepers_same, names_asleep, can_sleep_there, sleep_chain_shown}
 

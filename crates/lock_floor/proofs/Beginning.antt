@@ -1,25 +1,12 @@
 -- A round that begins with an exchange: it is gained in the same step, or the exchange misses and is a look.
-use Rattle.std.proofs.Common.{◌≡◌, ◌≢◌, ℕ, ◌<◌, eqb, true, List, [], ◌∷◌, length, refl, sym, ap, ◌∙◌}
+use Rattle.lock_floor.proofs.Names
+use Names.{ℕ, eqb, true, List, [], length, refl, sym, ap, Me, keeps, Allows, word_of, Held, State, Step, Looks, Seeks}
+use Names.{Gains, after_seek, after_gain, Description, Slot, past_with, spot, lock_line, lock_word, Board, FloorHolds}
+use Names.{MayMake, FitAll, Makes, Knowledge, OfThread, seeing, Finds, Steps, exchange_allows, lock_made, OwnSteps}
+use Names.{two_own, gained_first, counts, sought}
+use Rattle.std.proofs.Common.{◌≡◌, ◌≢◌, ◌<◌, ◌∷◌, ◌∙◌}
 use prog.Atomic.{either}
-use Rattle.atomic_table.specs.Table.{Me, keeps, Allows}
 use Rattle.lock_model.specs.Words as words
-use Rattle.lock_model.specs.Words.{word_of}
-use Rattle.lock_model.specs.declared.event.Held.{Held}
-use Rattle.lock_state.specs.State.{State}
-use Rattle.lock_state.specs.Steps.{Step, Looks, Seeks, Gains}
-use Rattle.lock_state.specs.Steps.LockWords.{after_seek, after_gain}
-use Rattle.floor_table.specs.declared.description.Description.{Description}
-use Rattle.floor_table.specs.declared.slot.Slot.{Slot}
-use Rattle.floor_table.specs.Past.{past_with}
-use Rattle.floor_table.specs.Places.{spot, lock_line, lock_word}
-use Rattle.floor_table.specs.Represents.{Board}
-use Rattle.floor_table.specs.Rule.{FloorHolds}
-use Rattle.floor_table.specs.Steps.{MayMake, FitAll, Makes}
-use Rattle.floor_table.specs.Views.{Knowledge, OfThread, seeing}
-use Rattle.floor_table.proofs.Made.{Finds, Steps, exchange_allows, lock_made, OwnSteps}
-use Rattle.floor_table.proofs.Seen.{two_own}
-use Rattle.lock_floor.specs.Rounds.{gained_first}
-use Rattle.lock_floor.specs.Views.{counts, sought}
 use Rattle.lock_floor.proofs.Gaining.{Changed, missed}
 use Rattle.lock_floor.proofs.Looking.{Sought, first_looks, found_word}
 use Rattle.lock_floor.proofs.Shares.{seek_own, seek_others, gain_own, gain_others}

@@ -1,31 +1,14 @@
 -- A step that works behind itself: the thread has its record and the chain of a queue out, and with the step they are
 -- what the work on them, which comes then, will make of them. So it is in an enter, an open and a claim of a lock, of
 -- whatever kind it is, and where a thread goes to sleep on a channel.
-use Rattle.std.proofs.Common.{◌≡◌, ◌≢◌, ℕ, suc, ◌<◌, Some, List, [], ◌∷◌, length, sym, ap, ◌∙◌, subst}
-use Rattle.std.specs.declared.alloc.Global.{Global}
-use Rattle.std.specs.declared.boxed.Box.{Box}
-use Rattle.atomic_table.specs.Table.{Me, keeps, stepped}
-use Rattle.lock_model.specs.Words.{Word, word_of}
-use Rattle.lock_model.specs.declared.plan.QueueName.{QueueName}
-use Rattle.lock_objects.specs.Represents.{RepresentsRecord, record_in}
-use Rattle.lock_state.specs.State.{State, put}
-use Rattle.lock_state.specs.Steps.{Step, after_all}
-use Rattle.lock_state.specs.Steps.Items.{Item, RecordOf, item_with}
-use Rattle.thread_records.specs.declared.record.ThreadRec.{ThreadRec}
-use Rattle.floor_table.specs.Descriptions.{config_in}
-use Rattle.floor_table.specs.declared.description.Description.{Description}
-use Rattle.floor_table.specs.declared.slot.Slot.{Slot}
-use Rattle.floor_table.specs.declared.slot.Slot.TheVariants.{Record}
-use Rattle.floor_table.specs.Places.{spot, lock_line, latch_line, latch_word, slots_for, slot_of, home_at}
-use Rattle.floor_table.specs.Represents.{Board, IsOf, RepresentsObjects, words_in, objects_in, thread_in}
-use Rattle.floor_table.specs.Rule.{FloorHolds}
-use Rattle.floor_table.specs.Shelves.{Shelves}
-use Rattle.floor_table.specs.Steps.{FitAll, Makes}
-use Rattle.floor_table.specs.Views.{Knowledge, OfThread, seeing}
-use Rattle.floor_table.proofs.Items.{place_low}
-use Rattle.floor_table.proofs.Made.{Finds, OwnSteps, lock_made_with, latch_seen_with, own_out}
-use Rattle.floor_table.proofs.Objects.{SaySame, still_of}
-use Rattle.lock_floor.specs.Waits.{its_chain, chain_place}
+use Rattle.lock_floor.proofs.Names
+use Names.{ℕ, suc, Some, List, [], length, sym, ap, subst, Global, Box, Me, keeps, stepped, Word, word_of, QueueName}
+use Names.{RepresentsRecord, record_in, State, put, Step, after_all, Item, RecordOf, item_with, ThreadRec, config_in}
+use Names.{Description, Slot, Record, spot, lock_line, latch_line, latch_word, slots_for, slot_of, home_at, Board, IsOf}
+use Names.{RepresentsObjects, words_in, objects_in, thread_in, FloorHolds, Shelves, FitAll, Makes, Knowledge, OfThread}
+use Names.{seeing, place_low, Finds, OwnSteps, lock_made_with, latch_seen_with, own_out, SaySame, still_of, its_chain}
+use Names.{chain_place}
+use Rattle.std.proofs.Common.{◌≡◌, ◌≢◌, ◌<◌, ◌∷◌, ◌∙◌}
 use Rattle.lock_floor.proofs.BothOut.{own_there, chain_there, apart}
 use Rattle.lock_floor.proofs.ChainPlaces.{chain_at}
 use Rattle.lock_floor.proofs.Taking.{record_at}

@@ -1,25 +1,12 @@
 -- A thread has its record out, which it took last, and before it the chain in which a queue stands: what both say of
 -- the state, of whatever sort the chain is.
-use Rattle.std.proofs.Common.{◌≡◌, ◌≢◌, ℕ, ◌%◌, Bool, true, false, cond, Some, [], ◌∷◌, ap, ◌∙◌}
-use Rattle.lock_model.specs.Words.{is_turnstile}
-use Rattle.lock_model.specs.declared.plan.QueueName.{QueueName}
-use Rattle.lock_model.specs.declared.plan.QueueName.TheVariants.{Lock, Chan}
-use Rattle.lock_state.specs.State.{State}
-use Rattle.lock_state.specs.Steps.{HasItem}
-use Rattle.lock_state.specs.Steps.Items.{TurnstileChain, SleepChain, RecordOf}
-use Rattle.floor_table.specs.Descriptions.{config_in}
-use Rattle.floor_table.specs.Represents.{IsOf, objects_in}
-use Rattle.floor_table.specs.Shelves.{found}
-use Rattle.floor_table.specs.Steps.{Fits}
-use Rattle.floor_table.specs.Views.{Knowledge}
-use Rattle.floor_table.specs.declared.description.Description.{Description}
-use Rattle.floor_table.specs.declared.slot.Slot.{Slot}
-use Rattle.floor_table.proofs.Items.{one_place}
-use Rattle.floor_table.proofs.Shelved.{found_first, found_later}
-use Rattle.lock_floor.specs.Waits.{its_chain, chain_place}
+use Rattle.lock_floor.proofs.Names
+use Names.{ℕ, Bool, true, false, cond, Some, [], ap, is_turnstile, QueueName, Lock, Chan, State, HasItem}
+use Names.{TurnstileChain, SleepChain, RecordOf, config_in, IsOf, objects_in, found, Fits, Knowledge, Description, Slot}
+use Names.{one_place, found_first, found_later, its_chain, chain_place, arith}
+use Rattle.std.proofs.Common.{◌≡◌, ◌≢◌, ◌%◌, ◌∷◌, ◌∙◌}
 use Rattle.lock_floor.proofs.ChainPlaces.{chain_at}
 use Rattle.lock_floor.proofs.Taking.{record_at}
-use Rattle.std.proofs.Common.{arith}
 
 -- a chain is no record
 no_record : (floor : Description) (t : ℕ) (q : QueueName) → RecordOf t ≢ its_chain floor q

@@ -1,27 +1,12 @@
 -- A thread at rest makes a blocking call that gains its lock outside the lock's chain: what stays through the call's
 -- looks and the begin of its round, and that the entry of its gain leaves the thread at rest again.
-use Rattle.std.proofs.Common.{◌≡◌, ℕ, false, true, cond, eqb, Some, None, List, [], ◌∷◌, refl, sym, ap, ◌∙◌, eq-eqb}
-use Rattle.std.proofs.lemmas.Option.{same_Some}
-use Rattle.lock_laws.proofs.HeldLists.{gained_order-push, hold_in-push}
-use Rattle.lock_model.specs.Config.{Config}
-use Rattle.lock_model.specs.Holds.{NotHeld, Holds}
-use Rattle.lock_model.specs.Operations.{hold_in}
-use Rattle.lock_model.specs.Words.{Word}
-use Rattle.lock_model.specs.declared.event.Event.{Event}
-use Rattle.lock_model.specs.declared.event.Event.TheVariants.{Locked}
-use Rattle.lock_model.specs.declared.event.Held.{Held}
-use Rattle.lock_model.specs.declared.numbers.LockNo.{LockNo}
-use Rattle.lock_model.specs.declared.plan.Mode.{Mode}
-use Rattle.lock_state.specs.State.{State, NoWalk, gained_order}
-use Rattle.lock_state.specs.Steps.{Step, Stamps, HasOutForEntry}
-use Rattle.lock_state.specs.Steps.LockWords.{Asks, Begins, IsGainedLast, is_taking_back}
-use Rattle.floor_table.specs.Descriptions.{config_in}
-use Rattle.floor_table.specs.declared.description.Description.{Description}
-use Rattle.floor_table.specs.Shares.{ShareColumns, is_among}
-use Rattle.floor_table.specs.Steps.{Fits, MayMake}
-use Rattle.floor_table.specs.Views.{Runs, Knowledge, seeing}
-use Rattle.lock_floor.specs.Passes.{IsGoing, IsAtRest}
-use Rattle.lock_floor.specs.Views.{looked, sought, gained, others, entry_by, stamped}
+use Rattle.lock_floor.proofs.Names
+use Names.{ℕ, false, true, cond, eqb, Some, None, List, [], refl, sym, ap, eq-eqb, same_Some, gained_order-push}
+use Names.{hold_in-push, Config, NotHeld, Holds, hold_in, Word, Event, Locked, Held, LockNo, Mode, State, NoWalk}
+use Names.{gained_order, Step, Stamps, HasOutForEntry, Asks, Begins, IsGainedLast, is_taking_back, config_in}
+use Names.{Description, ShareColumns, is_among, Fits, MayMake, Runs, Knowledge, seeing, IsGoing, IsAtRest, looked}
+use Names.{sought, gained, others, entry_by, stamped}
+use Rattle.std.proofs.Common.{◌≡◌, ◌∷◌, ◌∙◌}
 use Rattle.lock_floor.proofs.May.{own_log, may_stamp_end}
 use Rattle.lock_floor.proofs.Resting.{Sectioned, Begun, at_rest, gain_section, gain_begun, begun_gained}
 

@@ -1,18 +1,10 @@
 -- No two cells have the same key, so that a cell's place is its number.
-use Rattle.std.proofs.Common.{◌≡◌, ◌≢◌, ℕ, zero, suc, ◌+◌, ◌<◌, ltb, Bool, true, false, ◌&&◌, ◌||◌, cond, List, [], ◌∷◌, length, get_or, is_lt, Some, None, refl, sym, ap, ◌∙◌, arith, lt-ltb, le-ltb, eq-eqb}
-use Rattle.std.specs.Prelude.{option_map}
-use Rattle.std.proofs.lemmas.Cmp.{tied_itself}
-use Rattle.std.proofs.lemmas.List.Sums.{position_or_len_is}
-use Rattle.std.proofs.lemmas.Map.Keys.{Less-from_sorted}
-use Rattle.std.specs.List.{list_any, position_or_len}
-use Rattle.std.specs.List.Sorted.{IsStrictlySortedBy}
-use Rattle.lock_history.proofs.Places.{place_total}
-use Rattle.lock_model.specs.History.{place_cmp}
-use Rattle.lock_state.specs.Steps.Items.{CellOf}
-use Rattle.floor_table.specs.Descriptions.{IsSized}
-use Rattle.floor_table.specs.declared.description.Description.{Description}
-use Rattle.floor_table.specs.Places.{is_cell, slot_of}
-use Rattle.floor_table.proofs.Items.{its_cell}
+use Rattle.lock_floor.proofs.Names
+use Names.{ℕ, zero, suc, ltb, Bool, true, false, cond, List, [], length, get_or, is_lt, Some, None, refl, sym, ap}
+use Names.{arith, lt-ltb, le-ltb, eq-eqb, option_map, tied_itself, position_or_len_is, Less-from_sorted, list_any}
+use Names.{position_or_len, IsStrictlySortedBy, place_total, place_cmp, CellOf, IsSized, Description, is_cell, slot_of}
+use Names.{its_cell}
+use Rattle.std.proofs.Common.{◌≡◌, ◌≢◌, ◌+◌, ◌<◌, ◌&&◌, ◌||◌, ◌∷◌, ◌∙◌}
 
 -- 1. Keys that rise differ
 

@@ -1,23 +1,11 @@
 -- The chain of a lock's queue where the turnstile of the lock changes, and what the columns say of the other chains
 -- then: so it is in an enter, an open, a claim and each hop of a walk.
-use Rattle.std.proofs.Common.{◌≡◌, ◌≢◌, ℕ, ◌%◌, Bool, true, false, cond, Option, None, List, ◌∷◌, refl, sym, ap, ◌∙◌}
-use Rattle.chain_table.specs.Chains.{head_of, without}
-use Rattle.chain_table.proofs.Lookups.{head_of-without_itself}
-use Rattle.lock_model.specs.Queues.{lock_queue}
-use Rattle.lock_model.specs.Words.{is_turnstile}
-use Rattle.lock_model.specs.declared.plan.QueueName.{QueueName}
-use Rattle.lock_model.specs.declared.plan.QueueName.TheVariants.{Lock, Chan}
-use Rattle.lock_objects.specs.Represents.{RepresentsHead, RepresentsQueue, queue_in}
-use Rattle.lock_objects.proofs.Chains.{all_placed, all_gone}
-use Rattle.lock_objects.proofs.Queues.{SameQueue, queue_stays}
-use Rattle.lock_state.specs.State.{State}
-use Rattle.lock_state.specs.Steps.Items.{Item, TurnstileChain, SleepChain}
-use Rattle.turnstile_core.specs.Seen.{Turnstile}
-use Rattle.floor_table.specs.Descriptions.{config_in}
-use Rattle.floor_table.specs.Represents.{StandsIn, RepresentsTurnstiles, objects_in, sleepers}
-use Rattle.floor_table.specs.declared.description.Description.{Description}
-use Rattle.floor_table.proofs.Objects.{SaySame}
-use Rattle.lock_floor.specs.Waits.{its_chain}
+use Rattle.lock_floor.proofs.Names
+use Names.{ℕ, Bool, true, false, cond, Option, None, List, refl, sym, ap, head_of, without, head_of-without_itself}
+use Names.{lock_queue, is_turnstile, QueueName, Lock, Chan, RepresentsHead, RepresentsQueue, queue_in, all_placed}
+use Names.{all_gone, SameQueue, queue_stays, State, Item, TurnstileChain, SleepChain, Turnstile, config_in, StandsIn}
+use Names.{RepresentsTurnstiles, objects_in, sleepers, Description, SaySame, its_chain}
+use Rattle.std.proofs.Common.{◌≡◌, ◌≢◌, ◌%◌, ◌∷◌, ◌∙◌}
 use Rattle.lock_floor.proofs.ChainNames.{names_placed, names_without}
 
 -- what stands in a chain of turnstiles is the queue of a lock with one

@@ -1,18 +1,9 @@
 -- The names of a chain differ, and each queue stands there, also where the head of one queue changes.
-use Rattle.std.proofs.Common.{◌≡◌, true, false, List, [], ◌∷◌, cond}
-use Rattle.std.specs.List.{AllByRecursion, IsDistinct}
-use Rattle.std.specs.Map.{keys_of}
-use Rattle.std.proofs.lemmas.List.Elements.{All-cons}
-use Rattle.std.proofs.lemmas.Map.Keys.{IsDistinct-cons, IsDistinct-head, IsDistinct-tail}
-use Rattle.std.proofs.lemmas.Map.{NonePasses, none_passes_from_lookup}
-use Rattle.lock_model.specs.Queues.{is_queue}
-use Rattle.lock_model.specs.declared.plan.QueueName.{QueueName}
-use Rattle.lock_state.specs.Steps.Items.{Item}
-use Rattle.chain_table.specs.Chains.{without}
-use Rattle.chain_table.proofs.Kept.{All-without}
-use Rattle.chain_table.proofs.Lookups.{head_of-without_itself}
-use Rattle.floor_table.specs.Represents.{StandsIn, HasNames}
-use Rattle.floor_table.specs.declared.description.Description.{Description}
+use Rattle.lock_floor.proofs.Names
+use Names.{true, false, List, [], cond, AllByRecursion, IsDistinct, keys_of, All-cons, IsDistinct-cons, IsDistinct-head}
+use Names.{IsDistinct-tail, NonePasses, none_passes_from_lookup, is_queue, QueueName, Item, without, All-without}
+use Names.{head_of-without_itself, StandsIn, HasNames, Description}
+use Rattle.std.proofs.Common.{◌≡◌, ◌∷◌}
 
 module _ {H : Type 0} where
   keys_apart : (q : QueueName) (es : List (QueueName × H)) → NonePasses (is_queue q) es

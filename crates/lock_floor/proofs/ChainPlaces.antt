@@ -1,16 +1,9 @@
 -- Where chains lie: each queue's chain has its place among the values.
-use Rattle.std.proofs.Common.{◌≡◌, ℕ, ◌+◌, ◌%◌, ◌<◌, ◌≤◌, Bool, true, false, Some, None, cond, lt-ltb, sym, ap, ◌∙◌, arith}
-use Rattle.std.specs.Prelude.{unwrap_or}
-use Rattle.std.proofs.Math.Nat.{mod-lt}
-use Rattle.lock_model.specs.Words.{is_turnstile}
-use Rattle.lock_model.specs.declared.numbers.LockNo.{LockNo}
-use Rattle.lock_model.specs.declared.plan.QueueName.{QueueName}
-use Rattle.lock_model.specs.declared.plan.QueueName.TheVariants.{Lock, Chan}
-use Rattle.lock_state.specs.Steps.Items.{TurnstileChain, SleepChain}
-use Rattle.floor_table.specs.Descriptions.{config_in}
-use Rattle.floor_table.specs.Places.{first_turnstile_chain, first_sleep_chain, slot_of}
-use Rattle.floor_table.specs.declared.description.Description.{Description}
-use Rattle.lock_floor.specs.Waits.{its_chain, chain_place}
+use Rattle.lock_floor.proofs.Names
+use Names.{ℕ, Bool, true, false, Some, None, cond, lt-ltb, sym, ap, arith, unwrap_or, mod-lt, is_turnstile, LockNo}
+use Names.{QueueName, Lock, Chan, TurnstileChain, SleepChain, config_in, first_turnstile_chain, first_sleep_chain}
+use Names.{slot_of, Description, its_chain, chain_place}
+use Rattle.std.proofs.Common.{◌≡◌, ◌+◌, ◌%◌, ◌<◌, ◌≤◌, ◌∙◌}
 
 module _ (floor : Description) (some_chains : 1 ≤ floor.chains) where
   abbrev low : (n : ℕ) → n % floor.chains < floor.chains

@@ -1,40 +1,18 @@
 -- An entry that changes the value that was taken last: the value is changed first, and the step of the ticket word
 -- commits it together with the entry.
-use Rattle.std.proofs.Common.{◌≡◌, ◌≢◌, ℕ, suc, ◌+◌, ◌%◌, ◌≤◌, Option, Some, None, List, [], ◌∷◌, refl, sym, ap, ◌∙◌, subst, inl, inr}
-use Rattle.std.proofs.lemmas.Bool.{cases_eq}
-use Rattle.std.proofs.lemmas.Option.{same_Some}
-use Rattle.atomic_table.specs.Table.{Me, rest, Allows}
-use Rattle.lock_laws.proofs.Kit.{put_same, put_other, put_at_same, put_at_other, put_at_beside}
-use Rattle.lock_model.specs.Config.{Config}
+use Rattle.lock_floor.proofs.Names
+use Names.{ℕ, suc, Option, Some, None, List, [], refl, sym, ap, subst, inl, inr, cases_eq, same_Some, Me, rest, Allows}
+use Names.{put_same, put_other, put_at_same, put_at_other, put_at_beside, Config, Event, Added, Base, Prio}
+use Names.{with_other_base, none_beyond, RecordColumns, RepresentsRecord, record_in, Lawful, State, put, put_at, Stamps}
+use Names.{Item, TurnstileChain, SleepChain, RecordOf, CellOf, ClassGraph, after_stamp, effective_of, config_in}
+use Names.{Description, Slot, Record, Cell, Turnstiles, SleepQueues, Graph, spot, ticket_line, word_at, latch_word}
+use Names.{slots_for, slot_of, home_at, Board, Objects, IsOf, RepresentsObjects, objects_in, thread_in, FloorHolds}
+use Names.{found, Shelves, MayMake, Knowledge, OfThread, nothing, one_place, at_or, Finds, Steps, allows, SaySame}
+use Names.{still_of, found_first, shelf_changed, IsChangeOf, changed, last_changed, arith}
+use Rattle.std.proofs.Common.{◌≡◌, ◌≢◌, ◌+◌, ◌%◌, ◌≤◌, ◌∷◌, ◌∙◌}
 use Rattle.lock_model.specs.History.{added}
-use Rattle.lock_model.specs.declared.event.Event.{Event}
-use Rattle.lock_model.specs.declared.event.Event.TheVariants.{Set, Added, Base}
-use Rattle.lock_model.specs.declared.numbers.Prio.{Prio}
-use Rattle.lock_objects.proofs.Records.{with_other_base, none_beyond}
-use Rattle.lock_objects.specs.Represents.{RecordColumns, RepresentsRecord, record_in}
-use Rattle.lock_state.specs.Facts.{Lawful}
-use Rattle.lock_state.specs.State.{State, put, put_at}
-use Rattle.lock_state.specs.Steps.{Stamps}
-use Rattle.lock_state.specs.Steps.Items.{Item, TurnstileChain, SleepChain, RecordOf, CellOf, ClassGraph}
-use Rattle.lock_state.specs.Steps.LockWords.{after_stamp, effective_of}
-use Rattle.floor_table.specs.Descriptions.{config_in}
-use Rattle.floor_table.specs.declared.description.Description.{Description}
-use Rattle.floor_table.specs.declared.slot.Slot.{Slot}
-use Rattle.floor_table.specs.declared.slot.Slot.TheVariants.{Record, Cell, Turnstiles, SleepQueues, Graph}
-use Rattle.floor_table.specs.Places.{spot, ticket_line, word_at, latch_word, slots_for, slot_of, home_at}
-use Rattle.floor_table.specs.Represents.{Board, Objects, IsOf, RepresentsObjects, objects_in, thread_in}
-use Rattle.floor_table.specs.Rule.{FloorHolds}
-use Rattle.floor_table.specs.Shelves.{found, Shelves}
-use Rattle.floor_table.specs.Steps.{MayMake}
-use Rattle.floor_table.specs.Views.{Knowledge, OfThread, nothing}
-use Rattle.floor_table.proofs.Items.{one_place}
-use Rattle.floor_table.proofs.Lists.{at_or}
-use Rattle.floor_table.proofs.Made.{Finds, Steps, allows}
-use Rattle.floor_table.proofs.Objects.{SaySame, still_of}
-use Rattle.floor_table.proofs.Shelved.{found_first, shelf_changed}
-use Rattle.lock_floor.specs.Changes.{IsChangeOf, changed, last_changed}
+use Rattle.lock_model.specs.declared.event.Event.TheVariants.{Set}
 use Rattle.lock_floor.proofs.Stamping.{StampedWith, stamps}
-use Rattle.std.proofs.Common.{arith}
 
 -- 1. One object changes
 

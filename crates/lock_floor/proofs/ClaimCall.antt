@@ -1,26 +1,11 @@
 -- What the call that claims a lock needs of its parts, and what it was told.
-use Rattle.std.proofs.Common.{◌≡◌, ℕ, Bool, Some, List, [], ◌∷◌, refl}
-use Rattle.std.specs.Box.{with_value}
-use Rattle.std.specs.declared.alloc.Global.{Global}
-use Rattle.std.specs.declared.boxed.Box.{Box}
-use Rattle.atomic_table.specs.Table.{Me}
-use Rattle.chain_table.specs.Chains.{head_of}
-use Rattle.lock_model.specs.Queues.{lock_queue}
-use Rattle.lock_model.specs.declared.numbers.LockNo.{LockNo}
-use Rattle.lock_model.specs.declared.plan.QueueName.{QueueName}
-use Rattle.lock_objects.specs.Hops.{CanBeLent, record_claimed, chain_claimed}
-use Rattle.lock_state.specs.Steps.{Claims}
-use Rattle.thread_records.specs.declared.record.ThreadRec.{ThreadRec}
-use Rattle.turnstile_core.specs.Seen.{Turnstile}
-use Rattle.floor_table.specs.Views.{Knowledge}
-use Rattle.floor_table.specs.declared.description.Description.{Description}
-use Rattle.floor_table.specs.declared.slot.Slot.{Slot}
-use Rattle.floor_table.specs.declared.slot.Slot.TheVariants.{Record, Turnstiles}
-use Rattle.lock_floor.specs.Claims.{ClaimsIt, as_claimed, claimed, out_claimed}
-use Rattle.lock_floor.specs.Waits.{chain_place}
+use Rattle.lock_floor.proofs.Names
+use Names.{ℕ, Bool, Some, List, [], refl, with_value, Global, Box, Me, head_of, lock_queue, LockNo, QueueName}
+use Names.{CanBeLent, record_claimed, chain_claimed, Claims, ThreadRec, Turnstile, Knowledge, Description, Slot, Record}
+use Names.{Turnstiles, ClaimsIt, as_claimed, claimed, out_claimed, chain_place, arith}
+use Rattle.std.proofs.Common.{◌≡◌, ◌∷◌}
 use Rattle.lock_floor.proofs.BothChanged.{out_before, worked}
 use Rattle.lock_floor.proofs.ClaimStep.{ClaimsWord}
-use Rattle.std.proofs.Common.{arith}
 
 module _ (floor : Description) (l : LockNo) (by_try : Bool) (me behind : Me Slot Knowledge)
     (told : ClaimsWord floor l by_try me behind) (out : me.1 ≡ me.0.out) (own at : ℕ) (own_is : own ≡ me.0.thread)

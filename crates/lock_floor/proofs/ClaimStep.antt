@@ -1,52 +1,20 @@
 -- A claim: an exchange of a lock's word by which a thread gains the free lock and owns its turnstile. Its record and
 -- the chain of the lock's queue, which it has out, are then what the work on them will make of them: what those who
 -- wait lend is its loan with the exchange.
-use Rattle.std.proofs.Common.{◌≡◌, ◌≢◌, ℕ, ◌<◌, ◌%◌, eqb, Bool, true, Some, List, [], ◌∷◌, length, refl, sym, ap, ◌∙◌, subst}
-use Rattle.std.proofs.lemmas.Option.{same_Some}
-use Rattle.std.specs.Box.{with_value}
-use Rattle.std.specs.declared.alloc.Global.{Global}
-use Rattle.std.specs.declared.boxed.Box.{Box}
+use Rattle.lock_floor.proofs.Names
+use Names.{ℕ, eqb, Bool, true, Some, List, [], length, refl, sym, ap, subst, same_Some, with_value, Global, Box, Me}
+use Names.{keeps, Allows, head_of, shown_head, put_other, put_at_other, Config, NotHeld, lock_queue, least_of, word_of}
+use Names.{is_turnstile, shows_waiters, LockNo, QueueName, CanBeLent, record_claimed, head_claimed, chain_claimed}
+use Names.{RepresentsRecord, QueueColumns, record_in, queue_in, claimed_others, can_claim_it, claimed_head}
+use Names.{claimed_record, IsHead, there, Lawful, State, Step, Looks, Claims, Item, TurnstileChain, SleepChain}
+use Names.{RecordOf, CellOf, ClassGraph, MayClaim, loan_of, after_claim, after_gain, ThreadRec, Turnstile, config_in}
+use Names.{Description, Slot, Turnstiles, spot, lock_line, lock_word, Board, RepresentsTurnstiles, RepresentsShare}
+use Names.{objects_in, sleepers, FloorHolds, share_in, found, MayMake, Makes, Knowledge, OfThread, seeing, Finds, Steps}
+use Names.{exchange_allows, OwnSteps, SaySame, one_own, MayClaimIt, as_claimed, claimed, out_claimed, HasBothOut}
+use Names.{counts}
+use Rattle.std.proofs.Common.{◌≡◌, ◌≢◌, ◌<◌, ◌%◌, ◌∷◌, ◌∙◌}
 use prog.Atomic.{either}
-use Rattle.atomic_table.specs.Table.{Me, keeps, Allows}
-use Rattle.chain_table.specs.Chains.{head_of}
-use Rattle.lock_laws.proofs.AtTurn.{shown_head}
-use Rattle.lock_laws.proofs.Kit.{put_other, put_at_other}
-use Rattle.lock_model.specs.Config.{Config}
-use Rattle.lock_model.specs.Holds.{NotHeld}
-use Rattle.lock_model.specs.Queues.{lock_queue, least_of}
 use Rattle.lock_model.specs.Words as words
-use Rattle.lock_model.specs.Words.{word_of, is_turnstile, shows_waiters}
-use Rattle.lock_model.specs.declared.numbers.LockNo.{LockNo}
-use Rattle.lock_model.specs.declared.plan.QueueName.{QueueName}
-use Rattle.lock_objects.specs.Hops.{CanBeLent, record_claimed, head_claimed, chain_claimed}
-use Rattle.lock_objects.specs.Represents.{RepresentsRecord, QueueColumns, record_in, queue_in}
-use Rattle.lock_objects.proofs.Hops.{claimed_others, can_claim_it, claimed_head, claimed_record}
-use Rattle.lock_objects.proofs.Queues.{IsHead, there}
-use Rattle.lock_state.specs.Facts.{Lawful}
-use Rattle.lock_state.specs.State.{State}
-use Rattle.lock_state.specs.Steps.{Step, Looks, Claims}
-use Rattle.lock_state.specs.Steps.Items.{Item, TurnstileChain, SleepChain, RecordOf, CellOf, ClassGraph}
-use Rattle.lock_state.specs.Steps.Lending.{MayClaim, loan_of, after_claim}
-use Rattle.lock_state.specs.Steps.LockWords.{after_gain}
-use Rattle.thread_records.specs.declared.record.ThreadRec.{ThreadRec}
-use Rattle.turnstile_core.specs.Seen.{Turnstile}
-use Rattle.floor_table.specs.Descriptions.{config_in}
-use Rattle.floor_table.specs.declared.description.Description.{Description}
-use Rattle.floor_table.specs.declared.slot.Slot.{Slot}
-use Rattle.floor_table.specs.declared.slot.Slot.TheVariants.{Turnstiles}
-use Rattle.floor_table.specs.Places.{spot, lock_line, lock_word}
-use Rattle.floor_table.specs.Represents.{Board, RepresentsTurnstiles, RepresentsShare, objects_in, sleepers}
-use Rattle.floor_table.specs.Rule.{FloorHolds}
-use Rattle.floor_table.specs.Shares.{share_in}
-use Rattle.floor_table.specs.Shelves.{found}
-use Rattle.floor_table.specs.Steps.{MayMake, Makes}
-use Rattle.floor_table.specs.Views.{Knowledge, OfThread, seeing}
-use Rattle.floor_table.proofs.Made.{Finds, Steps, exchange_allows, OwnSteps}
-use Rattle.floor_table.proofs.Objects.{SaySame}
-use Rattle.floor_table.proofs.Seen.{one_own}
-use Rattle.lock_floor.specs.Claims.{MayClaimIt, as_claimed, claimed, out_claimed}
-use Rattle.lock_floor.specs.Opens.{HasBothOut}
-use Rattle.lock_floor.specs.Views.{counts}
 use Rattle.lock_floor.proofs.BothChanged.{record_says, chain_says, both_made}
 use Rattle.lock_floor.proofs.ChainChanges.{chain_of_lock, its_own, turnstiles_same, sleepers_same, chain_placed}
 use Rattle.lock_floor.proofs.Looking.{Looked, looks, found_word}

@@ -1,48 +1,23 @@
 -- A floor whose passes were all taken in: nobody has anything out, so that all values are in their places.
-use Rattle.std.proofs.Common.{◌≡◌, ◌≢◌, ℕ, zero, suc, ◌+◌, ◌<◌, ◌≤◌, Bool, true, false, cond, List, [], ◌∷◌, ◌++◌, length, map, reverse, get_or, Option, Some, None, refl, sym, ap, ◌∙◌, subst, inl, inr, arith, eq-eqb}
-use Rattle.std.proofs.lemmas.Bool.{cases_eq, cases_lt, ne_eqb}
-use Rattle.std.specs.Prelude.{◌==◌, nat_lt, option_map}
+use Rattle.lock_floor.proofs.Names
+use Names.{ℕ, zero, suc, Bool, true, false, cond, List, [], length, map, reverse, get_or, Option, Some, None, refl, sym}
+use Names.{ap, subst, inl, inr, arith, eq-eqb, cases_eq, cases_lt, ne_eqb, nat_lt, option_map, All, list_any}
+use Names.{append_cancel_right, All-head, All-tail, Global, Box, Final, Seen, count, one, sum_below, at_option, times}
+use Names.{entries_of, Waiter, lock_queue, times_waiting, stands, QueueName, RecordColumns, RepresentsRecord, record_in}
+use Names.{OneTurnstileEach, OneSleepQueueEach, HeadsFitWaiters, LoansAreOnHeads, BasesReplay, LogsAreParts}
+use Names.{turnstile_places, sleep_queue_places, State, Loan, Running, gained_order, Step, maker, RecordOf, CellOf}
+use Names.{sum_below-two, one_same, standing_named, loan_for, ThreadRec, Terms, config_in, Description, Slot, Recorded}
+use Names.{Cell, Turnstiles, SleepQueues, Graph, AreOfOthers, slots_for, latch_word, word_at, halt_line, Share}
+use Names.{ShareColumns, start_share, share_in, columns_of, OfThread, Runs, Knowledge, nothing, Board, IsOf, objects_in}
+use Names.{seat, keeper_in, thread_in, total, live, one_thread, IsTakenIn, IsPosed, Represents, FloorHolds, found}
+use Names.{IsSound, place_low, stands_nowhere, has_turnstile, has_sleep_queue, at_or, or_at, IsHome}
+use Rattle.std.proofs.Common.{◌≡◌, ◌≢◌, ◌+◌, ◌<◌, ◌≤◌, ◌∷◌, ◌++◌, ◌∙◌}
+use Rattle.std.specs.Prelude.{◌==◌}
 use Rattle.std.specs.Option.{IsSome}
-use Rattle.std.specs.List.{All, list_any}
-use Rattle.std.proofs.lemmas.List.{append_cancel_right}
-use Rattle.std.proofs.lemmas.List.Elements.{All-head, All-tail}
 use mathlib.Core.Option.{some, none, some-ne-none}
 use lib.ListN.{get_elem?}
-use Rattle.std.specs.declared.alloc.Global.{Global}
-use Rattle.std.specs.declared.boxed.Box.{Box}
-use Rattle.atomic_table.specs.Table.{Final, Seen}
-use Rattle.lock_model.specs.Counts.{some as count, one, sum_below, at_option, times}
-use Rattle.lock_model.specs.History.{entries_of}
-use Rattle.lock_model.specs.Queues.{Waiter, lock_queue, times_waiting, stands}
-use Rattle.lock_model.specs.declared.plan.QueueName.{QueueName}
-use Rattle.lock_objects.specs.Represents.{RecordColumns, RepresentsRecord, record_in, loan_of}
-use Rattle.lock_state.specs.Facts.{OneTurnstileEach, OneSleepQueueEach, HeadsFitWaiters, LoansAreOnHeads, BasesReplay, LogsAreParts}
-use Rattle.lock_state.specs.Facts.Queues.{turnstile_places, sleep_queue_places}
-use Rattle.lock_state.specs.State.{State, Loan, Running, gained_order}
-use Rattle.lock_state.specs.Steps.{Step, maker}
-use Rattle.lock_state.specs.Steps.Items.{RecordOf, CellOf}
-use Rattle.lock_laws.proofs.Kit.{sum_below-two, one_same}
-use Rattle.lock_laws.proofs.Standing.{standing_named}
-use Rattle.thread_records.specs.Loans.{loan_for}
+use Rattle.lock_objects.specs.Represents.{loan_of}
 use Rattle.thread_records.specs.Records.{Record}
-use Rattle.thread_records.specs.declared.record.ThreadRec.{ThreadRec}
-use Rattle.turnstile_core.specs.Seen.{Terms}
-use Rattle.floor_table.specs.Descriptions.{config_in}
-use Rattle.floor_table.specs.declared.description.Description.{Description}
-use Rattle.floor_table.specs.declared.slot.Slot.{Slot}
-use Rattle.floor_table.specs.declared.slot.Slot.TheVariants.{Record as Recorded, Cell, Turnstiles, SleepQueues, Graph}
-use Rattle.floor_table.specs.Past.{AreOfOthers}
-use Rattle.floor_table.specs.Places.{slots_for, latch_word, word_at, halt_line}
-use Rattle.floor_table.specs.Shares.{Share, ShareColumns, start_share, share_in, columns_of}
-use Rattle.floor_table.specs.Views.{OfThread, Runs, Knowledge, nothing}
-use Rattle.floor_table.specs.Represents.{Board, IsOf, objects_in, seat, keeper_in, thread_in, total, live, one_thread, IsTakenIn, IsPosed, Represents}
-use Rattle.floor_table.specs.Rule.{FloorHolds}
-use Rattle.floor_table.specs.Shelves.{found}
-use Rattle.floor_table.specs.Steps.{IsSound}
-use Rattle.floor_table.proofs.Items.{place_low}
-use Rattle.floor_table.proofs.Poses.{stands_nowhere, has_turnstile, has_sleep_queue}
-use Rattle.floor_table.proofs.Lists.{at_or, or_at}
-use Rattle.lock_floor.specs.Closings.{IsHome}
 use Rattle.lock_floor.proofs.CellPlaces.{cell_at}
 use Rattle.lock_floor.proofs.Taking.{record_at}
 use Rattle.lock_floor.proofs.Counting.{stands_once, stands_there}

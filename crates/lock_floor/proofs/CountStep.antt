@@ -1,31 +1,14 @@
 -- A thread counts itself out, another in, or itself in where its counting out left nobody awake: the awake word goes
 -- down or up by one. How many are awake is more than none where a thread counts itself out, and at most two for each
 -- thread.
-use Rattle.std.proofs.Common.{◌≡◌, ◌≢◌, ℕ, suc, ◌+◌, ◌-◌, ◌%◌, ◌≤◌, Some, List, [], ◌∷◌, refl, sym, ap, ◌∙◌, subst, inl, inr, arith, eq-eqb}
-use Rattle.std.proofs.lemmas.Bool.{cases_eq, ne_eqb}
-use Rattle.std.specs.Prelude.{slice_index}
-use Rattle.atomic_table.specs.Table.{Me, keeps, Allows}
-use Rattle.count_laws.proofs.Alone.{few_awake}
-use Rattle.count_laws.proofs.Countings.{some_awake}
-use Rattle.lock_laws.proofs.Kit.{put_same, put_other, put_at_same, put_at_row, put_at_beside}
-use Rattle.lock_model.specs.Counts.{one, times}
-use Rattle.lock_state.specs.State.{State, Halting, put_at}
-use Rattle.lock_state.specs.Steps.{Step}
-use Rattle.lock_state.specs.Steps.Counting.{after_count_out, after_count_in, after_count_self_in, phase_out}
-use Rattle.floor_table.specs.Descriptions.{config_in}
-use Rattle.floor_table.specs.declared.description.Description.{Description}
-use Rattle.floor_table.specs.declared.slot.Slot.{Slot}
-use Rattle.floor_table.specs.Places.{spot, awake_line}
-use Rattle.floor_table.specs.Represents.{Board, RepresentsShare, words_in}
-use Rattle.floor_table.specs.Rule.{FloorHolds}
-use Rattle.floor_table.specs.Shares.{ShareColumns, columns_of, share_in}
-use Rattle.floor_table.specs.Steps.{MayMake, FitAll, Makes}
-use Rattle.floor_table.specs.Views.{Knowledge, OfThread, seeing}
-use Rattle.floor_table.proofs.Made.{Finds, Steps, allows, awake_made, OwnSteps}
-use Rattle.floor_table.proofs.Seen.{one_own}
-use Rattle.lock_floor.specs.Counts.{added_by, counted, counted_first, counts_by}
-use Rattle.lock_floor.specs.declared.counts.Count.{Count}
-use Rattle.lock_floor.specs.declared.counts.Count.TheVariants.{Out, In, SelfIn}
+use Rattle.lock_floor.proofs.Names
+use Names.{ℕ, suc, Some, List, [], refl, sym, ap, subst, inl, inr, arith, eq-eqb, cases_eq, ne_eqb, slice_index, Me}
+use Names.{keeps, Allows, few_awake, some_awake, put_same, put_other, put_at_same, put_at_row, put_at_beside, one}
+use Names.{times, State, Halting, put_at, Step, after_count_out, after_count_in, after_count_self_in, phase_out}
+use Names.{config_in, Description, Slot, spot, awake_line, Board, RepresentsShare, words_in, FloorHolds, ShareColumns}
+use Names.{columns_of, share_in, MayMake, FitAll, Makes, Knowledge, OfThread, seeing, Finds, Steps, allows, awake_made}
+use Names.{OwnSteps, one_own, added_by, counted, counted_first, counts_by, Count, Out, In, SelfIn}
+use Rattle.std.proofs.Common.{◌≡◌, ◌≢◌, ◌+◌, ◌-◌, ◌%◌, ◌≤◌, ◌∷◌, ◌∙◌}
 
 -- 1. The shares behind it
 

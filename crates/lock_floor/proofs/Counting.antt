@@ -1,14 +1,11 @@
 -- Numbers of a list that has as many as there are below a bound: where each below it stands there, each stands there
 -- once.
-use Rattle.std.proofs.Common.{◌≡◌, ℕ, zero, suc, ◌<◌, ◌≤◌, eqb, Bool, true, false, ◌||◌, List, [], ◌∷◌, length, map, refl, sym, ap, ◌∙◌, subst, inl, inr, arith}
-use Rattle.std.proofs.lemmas.Bool.{cases_eq, cases_lt, eqb-true}
-use Rattle.std.proofs.lemmas.List.{length-map}
-use Rattle.std.proofs.lemmas.List.Elements.{All-head, All-tail}
+use Rattle.lock_floor.proofs.Names
+use Names.{ℕ, zero, suc, eqb, Bool, true, false, List, [], length, map, refl, sym, ap, subst, inl, inr, arith, cases_eq}
+use Names.{cases_lt, eqb-true, length-map, All-head, All-tail, All, list_any, sum_below, one, times, one_same}
+use Names.{sum_below-all, times-sum, zero_unless}
+use Rattle.std.proofs.Common.{◌≡◌, ◌<◌, ◌≤◌, ◌||◌, ◌∷◌, ◌∙◌}
 use Rattle.std.specs.Prelude.{◌==◌}
-use Rattle.std.specs.List.{All, list_any}
-use Rattle.lock_model.specs.Counts.{sum_below, one, times}
-use Rattle.lock_laws.proofs.Kit.{one_same}
-use Rattle.lock_laws.proofs.Sums.{sum_below-all, times-sum, zero_unless}
 
 -- a sum of no more than n entries that are at least 1 each has no greater entry
 at_most_one : (n : ℕ) (f : ℕ → ℕ) → ((j : ℕ) → j < n → 1 ≤ f j) → sum_below n f ≤ n → (j : ℕ) → j < n → f j ≤ 1

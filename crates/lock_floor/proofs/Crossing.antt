@@ -1,13 +1,11 @@
 -- A pass may cross threads.
 use denote.Param.Send.{IsSend, sendable}
-use Rattle.std.proofs.Crossing.{crosses}
+use Rattle.lock_floor.proofs.Names.{crosses, marked_send, marked_field_send, slot_send}
 use Rattle.std.proofs.marker.PhantomData.TheSendSync as phantom
 use Rattle.atomic_table.proofs.shared.Seat.TheSendSync as seat
 use Rattle.lock_model.proofs.event.Held.TheSendSync as held
 use Rattle.lock_model.proofs.numbers.ThreadNo.TheSendSync as thread_no
 use Rattle.lock_history.proofs.log.Log.TheSendSync as log
-use Rattle.lock_objects.proofs.Crossing.{marked_send, marked_field_send}
-use Rattle.floor_table.proofs.Crossing.{slot_send}
 use Rattle.floor_table.specs.contracts.description.Description as description
 use Rattle.floor_table.specs.contracts.slot.Slot as slot
 use Rattle.floor_table.specs.contracts.view.View as view

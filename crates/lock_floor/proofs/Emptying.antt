@@ -1,23 +1,14 @@
 -- The places of a closed table, as their values are taken out of them one after another.
-use Rattle.std.proofs.Common.{◌≡◌, ◌≢◌, ℕ, ◌+◌, ◌<◌, Bool, true, false, ◌&&◌, ◌||◌, cond, List, [], ◌∷◌, ◌++◌, length, get_or, set, take, Option, Some, None, refl, sym, ap, ◌∙◌, subst, inl, inr, arith, eq-eqb, length-set, get_or-set_same, get_or-set_other}
-use Rattle.std.proofs.lemmas.Bool.{cases_eq, cases_lt}
-use Rattle.std.proofs.lemmas.List.{get_or_past}
-use Rattle.std.proofs.lemmas.List.Folds.{list_any_more}
-use Rattle.std.specs.FinMap.{FinMap, get, insert}
-use Rattle.std.specs.List.{list_any}
-use Rattle.std.specs.Prelude.{IfSome, IfNone}
+use Rattle.lock_floor.proofs.Names
+use Names.{ℕ, Bool, true, false, cond, List, [], length, get_or, set, take, Option, Some, None, refl, sym, ap, subst}
+use Names.{inl, inr, arith, eq-eqb, length-set, get_or-set_same, get_or-set_other, cases_eq, cases_lt, get_or_past}
+use Names.{list_any_more, FinMap, get, insert, list_any, IfNone, Global, Box, get-insert_same, get-insert_other}
+use Names.{place_cmp, ThreadRec, Slot, Record, Cell, Turnstiles, SleepQueues, Graph, is_cell, its_cell, snoc_before}
+use Names.{snoc_there}
+use Rattle.std.proofs.Common.{◌≡◌, ◌≢◌, ◌+◌, ◌<◌, ◌&&◌, ◌||◌, ◌∷◌, ◌++◌, ◌∙◌}
+use Rattle.std.specs.Prelude.{IfSome}
 use mathlib.Core.Option.{some, some-injective}
 use lib.ListN.{get_elem?}
-use Rattle.std.specs.declared.alloc.Global.{Global}
-use Rattle.std.specs.declared.boxed.Box.{Box}
-use Rattle.lock_history.proofs.Places.{get-insert_same, get-insert_other}
-use Rattle.lock_model.specs.History.{place_cmp}
-use Rattle.thread_records.specs.declared.record.ThreadRec.{ThreadRec}
-use Rattle.floor_table.specs.declared.slot.Slot.{Slot}
-use Rattle.floor_table.specs.declared.slot.Slot.TheVariants.{Record, Cell, Turnstiles, SleepQueues, Graph}
-use Rattle.floor_table.specs.Places.{is_cell}
-use Rattle.floor_table.proofs.Items.{its_cell}
-use Rattle.floor_table.proofs.Lists.{snoc_before, snoc_there}
 
 -- 1. Which places are full
 

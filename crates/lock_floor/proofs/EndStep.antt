@@ -1,26 +1,12 @@
 -- A thread counts itself among those that have ended: the ended word goes up by one. And one finds out whether a thread
 -- is left that hasn't: the word says less than the number of threads.
-use Rattle.std.proofs.Common.{◌≡◌, ◌≢◌, ℕ, zero, suc, ◌+◌, ◌%◌, ◌<◌, ◌≤◌, Bool, true, false, ltb, [], ◌∷◌, length, lt-ltb, refl, sym, ap, ◌∙◌, subst, arith}
-use Rattle.std.proofs.lemmas.Bool.{ltb-true}
-use Rattle.std.specs.Prelude.{slice_index}
-use Rattle.atomic_table.specs.Table.{Me, keeps, Allows}
-use Rattle.lock_laws.proofs.Kit.{put_same, put_other}
-use Rattle.lock_model.specs.Counts.{one, sum_below}
-use Rattle.lock_state.specs.Facts.{EndedIsCounted}
-use Rattle.lock_state.specs.State.{State}
-use Rattle.lock_state.specs.Steps.{Step, CountsEnd}
-use Rattle.lock_state.specs.Steps.Counting.{after_count_end}
-use Rattle.floor_table.specs.declared.description.Description.{Description}
-use Rattle.floor_table.specs.declared.slot.Slot.{Slot}
-use Rattle.floor_table.specs.Places.{spot, ended_line}
-use Rattle.floor_table.specs.Represents.{Board, RepresentsShare, words_in}
-use Rattle.floor_table.specs.Rule.{FloorHolds}
-use Rattle.floor_table.specs.Shares.{columns_of, share_in}
-use Rattle.floor_table.specs.Steps.{MayMake, FitAll, Makes}
-use Rattle.floor_table.specs.Views.{Knowledge, OfThread, seeing}
-use Rattle.floor_table.proofs.Made.{Finds, Steps, allows, ended_made, none_made, OwnSteps}
-use Rattle.floor_table.proofs.Seen.{one_own}
-use Rattle.lock_floor.specs.Ends.{FindsWhetherLeft, ended}
+use Rattle.lock_floor.proofs.Names
+use Names.{ℕ, zero, suc, Bool, true, false, ltb, [], length, lt-ltb, refl, sym, ap, subst, arith, ltb-true, slice_index}
+use Names.{Me, keeps, Allows, put_same, put_other, one, sum_below, EndedIsCounted, State, Step, CountsEnd}
+use Names.{after_count_end, Description, Slot, spot, ended_line, Board, RepresentsShare, words_in, FloorHolds}
+use Names.{columns_of, share_in, MayMake, FitAll, Makes, Knowledge, OfThread, seeing, Finds, Steps, allows, ended_made}
+use Names.{none_made, OwnSteps, one_own, FindsWhetherLeft, ended}
+use Rattle.std.proofs.Common.{◌≡◌, ◌≢◌, ◌+◌, ◌%◌, ◌<◌, ◌≤◌, ◌∷◌, ◌∙◌}
 
 -- 1. The shares behind it
 

@@ -1,34 +1,18 @@
 -- What is left of a floor that is closed.
-use Rattle.std.proofs.Common.{◌≡◌, ℕ, ◌+◌, ◌<◌, Bool, true, false, cond, List, [], length, map, reverse, get_or, None, refl, sym, ap, ◌∙◌, subst, arith}
+use Rattle.lock_floor.proofs.Names
+use Names.{ℕ, Bool, true, false, cond, List, [], length, map, reverse, get_or, None, refl, sym, ap, subst, arith, get}
+use Names.{same_map, All, list_any, Global, Box, Final, Seen, place_total, place_exact, legal_so_far, may_halt}
+use Names.{by_chain, one, value_at, tables_of, RecordColumns, RepresentsRecord, record_in, TablesReplay, NextIsNew}
+use Names.{UnhaltedBefore, State, ThreadRec, config_in, Description, Slot, Recorded, Cell, Turnstiles, SleepQueues}
+use Names.{Graph, is_cell, word_at, halt_line, FloorHolds, Knowledge, IsClosing, Closing}
+use Rattle.std.proofs.Common.{◌≡◌, ◌+◌, ◌<◌, ◌∙◌}
 use Rattle.std.specs.Prelude.{◌↔◌}
-use Rattle.std.specs.FinMap.{get, same_map}
-use Rattle.std.specs.List.{All, list_any}
 use mathlib.Core.Option.{some, some-injective}
 use lib.ListN.{get_elem?}
-use Rattle.std.specs.declared.alloc.Global.{Global}
-use Rattle.std.specs.declared.boxed.Box.{Box}
-use Rattle.atomic_table.specs.Table.{Final, Seen}
-use Rattle.lock_history.proofs.Places.{place_total, place_exact}
 use Rattle.busy_laws.proofs.Keeping as busy
 use Rattle.count_laws.proofs.Explaining as halts
 use Rattle.order_laws.proofs.TakeFacts.Whole as whole
-use Rattle.sleep_laws.proofs.LegalSoFar.{legal_so_far, may_halt}
-use Rattle.sleep_laws.specs.Sleepers.{by_chain}
-use Rattle.lock_model.specs.Counts.{one}
-use Rattle.lock_model.specs.History.{value_at, tables_of}
-use Rattle.lock_objects.specs.Represents.{RecordColumns, RepresentsRecord, record_in, columns_of}
-use Rattle.lock_state.specs.Facts.{TablesReplay, NextIsNew, UnhaltedBefore}
-use Rattle.lock_state.specs.State.{State}
-use Rattle.thread_records.specs.declared.record.ThreadRec.{ThreadRec}
-use Rattle.floor_table.specs.Descriptions.{config_in}
-use Rattle.floor_table.specs.declared.description.Description.{Description}
-use Rattle.floor_table.specs.declared.slot.Slot.{Slot}
-use Rattle.floor_table.specs.declared.slot.Slot.TheVariants.{Record as Recorded, Cell, Turnstiles, SleepQueues, Graph}
-use Rattle.floor_table.specs.Places.{is_cell, word_at, halt_line}
-use Rattle.floor_table.specs.Rule.{FloorHolds}
-use Rattle.floor_table.specs.Views.{Knowledge}
-use Rattle.lock_floor.specs.Closings.{IsClosing}
-use Rattle.lock_floor.specs.declared.closing.Closing.{Closing}
+use Rattle.lock_objects.specs.Represents.{columns_of}
 use Rattle.lock_floor.proofs.CellPlaces.{no_cell}
 use Rattle.lock_floor.proofs.Closed as closed
 

@@ -1,51 +1,19 @@
 -- An enter: an exchange of a lock's word by which the thread comes to stand on the lock's turnstile. Its record and the
 -- chain of the lock's queue, which it has out, are then what the work on them will make of them.
-use Rattle.std.proofs.Common.{◌≡◌, ◌≢◌, ℕ, ◌<◌, ◌%◌, eqb, ltb, true, Option, Some, None, List, [], ◌∷◌, length, refl, sym, ap, ◌∙◌, subst, inl}
-use Rattle.std.specs.Box.{with_value}
-use Rattle.std.specs.declared.alloc.Global.{Global}
-use Rattle.std.specs.declared.boxed.Box.{Box}
-use Rattle.std.proofs.lemmas.Option.{same_Some}
+use Rattle.lock_floor.proofs.Names
+use Names.{ℕ, eqb, ltb, true, Option, Some, None, List, [], length, refl, sym, ap, subst, inl, with_value, Global, Box}
+use Names.{same_Some, Me, keeps, Allows, carried_after, head_of, put_same, put_other, put_queue_other, home_nowhere}
+use Names.{Config, Waiter, lock_queue, side_of, stands, word_of, owner_of, Mode, QueueName, Lock, Chan}
+use Names.{RepresentsRecord, RepresentsQueue, RecordColumns, QueueColumns, record_in, queue_in, CanStand, CanLend}
+use Names.{waiter_of, record_entered, head_entered, chain_entered, is_queue-other, can_lend, head_shown, entered_record}
+use Names.{SameQueue, somebody_stands, Lawful, State, Step, Looks, Enters, Item, TurnstileChain, SleepChain, RecordOf}
+use Names.{CellOf, ClassGraph, after_enter, ThreadRec, lists_of, Turnstile, config_in, Description, Slot, Record, Cell}
+use Names.{Turnstiles, SleepQueues, Graph, spot, lock_line, lock_word, Board, RepresentsTurnstiles, IsPosed, objects_in}
+use Names.{sleepers, FloorHolds, found, MayMake, Makes, Knowledge, OfThread, seeing, Finds, Steps, exchange_allows}
+use Names.{OwnSteps, SaySame, one_own, counts, both_out, out_entered, entered}
+use Rattle.std.proofs.Common.{◌≡◌, ◌≢◌, ◌<◌, ◌%◌, ◌∷◌, ◌∙◌}
 use prog.Atomic.{either}
-use Rattle.atomic_table.specs.Table.{Me, keeps, Allows, carried_after}
-use Rattle.chain_table.specs.Chains.{head_of}
-use Rattle.lock_laws.proofs.Kit.{put_same, put_other, put_queue_other}
-use Rattle.lock_laws.proofs.Standing.{home_nowhere}
-use Rattle.lock_model.specs.Config.{Config}
-use Rattle.lock_model.specs.Queues.{Waiter, lock_queue, side_of, stands}
 use Rattle.lock_model.specs.Words as words
-use Rattle.lock_model.specs.Words.{word_of, owner_of}
-use Rattle.lock_model.specs.declared.plan.Mode.{Mode}
-use Rattle.lock_model.specs.declared.plan.QueueName.{QueueName}
-use Rattle.lock_model.specs.declared.plan.QueueName.TheVariants.{Lock, Chan}
-use Rattle.lock_objects.specs.Represents.{RepresentsRecord, RepresentsQueue, RecordColumns, QueueColumns, record_in, queue_in}
-use Rattle.lock_objects.specs.Enters.{CanStand, CanLend, waiter_of, record_entered, head_entered, chain_entered}
-use Rattle.lock_objects.proofs.Chains.{is_queue-other}
-use Rattle.lock_objects.proofs.Enters.{can_lend, head_shown, entered_record}
-use Rattle.lock_objects.proofs.Queues.{SameQueue}
-use Rattle.lock_objects.proofs.StepsOfSleepers.{somebody_stands}
-use Rattle.lock_state.specs.Facts.{Lawful}
-use Rattle.lock_state.specs.State.{State}
-use Rattle.lock_state.specs.Steps.{Step, Looks, Enters}
-use Rattle.lock_state.specs.Steps.Items.{Item, TurnstileChain, SleepChain, RecordOf, CellOf, ClassGraph}
-use Rattle.lock_state.specs.Steps.Turnstiles.{after_enter}
-use Rattle.thread_records.specs.declared.record.ThreadRec.{ThreadRec}
-use Rattle.turnstile_core.specs.Changes.{lists_of}
-use Rattle.turnstile_core.specs.Seen.{Turnstile}
-use Rattle.floor_table.specs.Descriptions.{config_in}
-use Rattle.floor_table.specs.declared.description.Description.{Description}
-use Rattle.floor_table.specs.declared.slot.Slot.{Slot}
-use Rattle.floor_table.specs.declared.slot.Slot.TheVariants.{Record, Cell, Turnstiles, SleepQueues, Graph}
-use Rattle.floor_table.specs.Places.{spot, lock_line, lock_word}
-use Rattle.floor_table.specs.Represents.{Board, RepresentsTurnstiles, IsPosed, objects_in, sleepers}
-use Rattle.floor_table.specs.Rule.{FloorHolds}
-use Rattle.floor_table.specs.Shelves.{found}
-use Rattle.floor_table.specs.Steps.{MayMake, Makes}
-use Rattle.floor_table.specs.Views.{Knowledge, OfThread, seeing}
-use Rattle.floor_table.proofs.Made.{Finds, Steps, exchange_allows, OwnSteps}
-use Rattle.floor_table.proofs.Objects.{SaySame}
-use Rattle.floor_table.proofs.Seen.{one_own}
-use Rattle.lock_floor.specs.Views.{counts}
-use Rattle.lock_floor.specs.Waits.{both_out, out_entered, entered}
 use Rattle.lock_floor.proofs.BothChanged.{record_says, chain_says, both_made}
 use Rattle.lock_floor.proofs.ChainChanges.{chain_of_lock, its_own, turnstiles_same, sleepers_same, chain_placed}
 use Rattle.lock_floor.proofs.Gaining.{Changed, missed}

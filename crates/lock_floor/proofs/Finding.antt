@@ -1,21 +1,10 @@
 -- A look finds the word that the lock has in the state to which all steps before it lead.
-use Rattle.std.proofs.Common.{◌≡◌, ℕ, Bool, Some, List, [], ◌∷◌, refl, sym, ap, ◌∙◌, subst, arith}
-use Rattle.lock_laws.specs.Words.{CanBeSeen}
-use Rattle.lock_laws.proofs.Kit.{put_same}
-use Rattle.lock_laws.proofs.SeenWords.{can_be_seen}
-use Rattle.lock_model.specs.Holds.{NotHeld}
-use Rattle.lock_model.specs.Operations.{hold_in}
-use Rattle.lock_state.specs.State.{State}
-use Rattle.lock_state.specs.Steps.{Step, Looks, after, after_all, IsReachable, begins, goes_on}
-use Rattle.lock_state.specs.Steps.LockWords.{after_look}
-use Rattle.floor_table.specs.Descriptions.{config_in}
-use Rattle.floor_table.specs.declared.description.Description.{Description}
-use Rattle.floor_table.specs.Past.{LeadsTo, none, more}
-use Rattle.floor_table.specs.Represents.{IsSeatOf, RepresentsShare, thread_in}
-use Rattle.floor_table.specs.Shares.{ShareColumns}
-use Rattle.floor_table.specs.Steps.{IsSound, Makes}
-use Rattle.floor_table.specs.Views.{Knowledge}
-use Rattle.floor_table.proofs.Sound.{sound_kept}
+use Rattle.lock_floor.proofs.Names
+use Names.{ℕ, Bool, Some, List, [], refl, sym, ap, subst, arith, CanBeSeen, put_same, can_be_seen, NotHeld, hold_in}
+use Names.{State, Step, Looks, after, after_all, IsReachable, begins, goes_on, after_look, config_in, Description}
+use Names.{LeadsTo, none, more, IsSeatOf, RepresentsShare, thread_in, ShareColumns, IsSound, Makes, Knowledge}
+use Names.{sound_kept}
+use Rattle.std.proofs.Common.{◌≡◌, ◌∷◌, ◌∙◌}
 
 -- 1. Steps lead to one state
 

@@ -1,15 +1,10 @@
 -- The first sleeper of a queue, as an abort needs it: another stays on its side, or it is the last there.
-use Rattle.std.proofs.Common.{◌≡◌, ◌≢◌, ◌<◌, eqb, cond, Bool, true, false, List, [], ◌∷◌, refl, sym, ap, ◌∙◌, subst, arith, eq-eqb}
-use Rattle.lock_model.specs.Counts.{one, is_empty}
-use Rattle.lock_model.specs.Queues.{Waiter, times_waiting, without}
-use Rattle.lock_model.specs.declared.numbers.ChanNo.{ChanNo}
-use Rattle.lock_model.specs.declared.plan.QueueName.{QueueName}
-use Rattle.lock_model.specs.declared.plan.QueueName.TheVariants.{Lock, Chan}
-use Rattle.sleep_queues.specs.Changes.{waiters}
-use Rattle.sleep_queues.specs.Seen.{SleepQueue}
-use Rattle.lock_floor.specs.Aborts.{IsSleeping, KeepsWord}
-use Rattle.lock_floor.specs.Halting.{IsLastAsleep, SleepsFirst}
-use Rattle.lock_floor.specs.declared.halting.FirstSleeper.{FirstSleeper}
+use Rattle.lock_floor.proofs.Names
+use Names.{eqb, cond, Bool, true, false, List, [], refl, sym, ap, subst, arith, eq-eqb, one, is_empty, Waiter}
+use Names.{times_waiting, ChanNo, QueueName, Lock, Chan, waiters, SleepQueue, IsSleeping, KeepsWord, IsLastAsleep}
+use Names.{SleepsFirst, FirstSleeper}
+use Rattle.std.proofs.Common.{◌≡◌, ◌≢◌, ◌<◌, ◌∷◌, ◌∙◌}
+use Rattle.lock_model.specs.Queues.{without}
 
 none_there : (ws : List Waiter) → is_empty ws ≡ true → ws ≡ []
 none_there f e = grind arith

@@ -1,7 +1,6 @@
 -- What is read of the first and the second place of a list tells how the list begins.
-use Rattle.std.proofs.Common.{◌≡◌, true, false, List, [], ◌∷◌, slice_get, Some, None, refl, ◌∙◌}
-use Rattle.lock_model.specs.Counts.{is_empty}
-use Rattle.std.proofs.Common.{arith}
+use Rattle.lock_floor.proofs.Names.{true, false, List, [], slice_get, Some, None, refl, is_empty, arith}
+use Rattle.std.proofs.Common.{◌≡◌, ◌∷◌, ◌∙◌}
 
 -- nothing is at the first place of an empty list alone
 pub none_first : {A : Type 0} (xs : List A) → None ≡ slice_get xs 0 → xs ≡ []

@@ -1,18 +1,9 @@
 -- Whether a thread is Queued, as its wait word says it at the moment at which it is loaded.
-use Rattle.std.proofs.Common.{◌≡◌, ℕ, ◌<◌, eqb, Bool, length, refl, sym, ap, ◌∙◌, subst, arith, eq-eqb}
-use Rattle.std.proofs.lemmas.Bool.{eqb-true}
-use Rattle.atomic_table.specs.Table.{Me, keeps, Allows}
-use Rattle.lock_model.specs.Queues.{BySignal, ByAbort}
-use Rattle.lock_state.specs.State.{State, Wait, Running, Queued, Woken}
-use Rattle.floor_table.specs.declared.description.Description.{Description}
-use Rattle.floor_table.specs.declared.slot.Slot.{Slot}
-use Rattle.floor_table.specs.Past.{IsSeenBy}
-use Rattle.floor_table.specs.Places.{spot, wait_line, wait_word}
-use Rattle.floor_table.specs.Represents.{Board, wait_number}
-use Rattle.floor_table.specs.Rule.{FloorHolds}
-use Rattle.floor_table.specs.Views.{Knowledge, OfThread, seeing}
-use Rattle.floor_table.proofs.Made.{Finds, Steps, allows, none_made}
-use Rattle.lock_floor.specs.Resumes.{FindsWhetherQueued}
+use Rattle.lock_floor.proofs.Names
+use Names.{ℕ, eqb, Bool, length, refl, sym, ap, subst, arith, eq-eqb, eqb-true, Me, keeps, Allows, BySignal, ByAbort}
+use Names.{State, Wait, Running, Queued, Woken, Description, Slot, IsSeenBy, spot, wait_line, wait_word, Board}
+use Names.{wait_number, FloorHolds, Knowledge, OfThread, seeing, Finds, Steps, allows, none_made, FindsWhetherQueued}
+use Rattle.std.proofs.Common.{◌≡◌, ◌<◌, ◌∙◌}
 use Rattle.lock_floor.proofs.Taking.{HasWaited}
 
 -- what it tells

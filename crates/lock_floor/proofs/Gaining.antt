@@ -1,30 +1,13 @@
 -- A gain and a drop of a lock: an exchange of its word, which is a look where it misses.
-use Rattle.std.proofs.Common.{◌≡◌, ◌≢◌, ℕ, ◌<◌, eqb, List, [], ◌∷◌, length, refl, sym, ap, ◌∙◌, subst}
+use Rattle.lock_floor.proofs.Names
+use Names.{ℕ, eqb, List, [], length, refl, sym, ap, subst, Me, keeps, Allows, put_at_same, NotHeld, hold_in, word_of}
+use Names.{Held, Mode, State, Step, Looks, Gains, Drops, Opens, after, after_gain, after_drop, after_open, config_in}
+use Names.{Description, Slot, spot, lock_line, lock_word, Board, IsSeatOf, RepresentsShare, thread_in, FloorHolds}
+use Names.{ShareColumns, MayMake, Makes, Knowledge, OfThread, seeing, Finds, Steps, exchange_allows, lock_made}
+use Names.{OwnSteps, one_own, counts, gained, put_down}
+use Rattle.std.proofs.Common.{◌≡◌, ◌≢◌, ◌<◌, ◌∷◌, ◌∙◌}
 use prog.Atomic.{either}
-use Rattle.atomic_table.specs.Table.{Me, keeps, Allows}
-use Rattle.lock_laws.proofs.Kit.{put_at_same}
-use Rattle.lock_model.specs.Holds.{NotHeld}
-use Rattle.lock_model.specs.Operations.{hold_in}
 use Rattle.lock_model.specs.Words as words
-use Rattle.lock_model.specs.Words.{word_of}
-use Rattle.lock_model.specs.declared.event.Held.{Held}
-use Rattle.lock_model.specs.declared.plan.Mode.{Mode}
-use Rattle.lock_state.specs.State.{State}
-use Rattle.lock_state.specs.Steps.{Step, Looks, Gains, Drops, Opens, after}
-use Rattle.lock_state.specs.Steps.LockWords.{after_gain, after_drop}
-use Rattle.lock_state.specs.Steps.Turnstiles.{after_open}
-use Rattle.floor_table.specs.Descriptions.{config_in}
-use Rattle.floor_table.specs.declared.description.Description.{Description}
-use Rattle.floor_table.specs.declared.slot.Slot.{Slot}
-use Rattle.floor_table.specs.Places.{spot, lock_line, lock_word}
-use Rattle.floor_table.specs.Represents.{Board, IsSeatOf, RepresentsShare, thread_in}
-use Rattle.floor_table.specs.Rule.{FloorHolds}
-use Rattle.floor_table.specs.Shares.{ShareColumns}
-use Rattle.floor_table.specs.Steps.{MayMake, Makes}
-use Rattle.floor_table.specs.Views.{Knowledge, OfThread, seeing}
-use Rattle.floor_table.proofs.Made.{Finds, Steps, exchange_allows, lock_made, OwnSteps}
-use Rattle.floor_table.proofs.Seen.{one_own}
-use Rattle.lock_floor.specs.Views.{counts, gained, put_down}
 use Rattle.lock_floor.proofs.Looking.{Looked, looks, found_word}
 use Rattle.lock_floor.proofs.Shares.{gain_own, gain_others, drop_own, drop_others}
 

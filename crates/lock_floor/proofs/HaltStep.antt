@@ -1,19 +1,9 @@
 -- A thread sets the halt word: it becomes 1, and no share changes.
-use Rattle.std.proofs.Common.{◌≡◌, ℕ, true, [], ◌∷◌, refl}
-use Rattle.std.specs.Prelude.{slice_index}
-use Rattle.atomic_table.specs.Table.{Me, keeps, Allows}
-use Rattle.lock_state.specs.State.{State}
-use Rattle.lock_state.specs.Steps.{Step, Halts}
-use Rattle.lock_state.specs.Steps.Counting.{after_halt}
-use Rattle.floor_table.specs.declared.description.Description.{Description}
-use Rattle.floor_table.specs.declared.slot.Slot.{Slot}
-use Rattle.floor_table.specs.Places.{spot, halt_line}
-use Rattle.floor_table.specs.Represents.{Board, RepresentsShare}
-use Rattle.floor_table.specs.Rule.{FloorHolds}
-use Rattle.floor_table.specs.Steps.{MayMake, FitAll, Makes}
-use Rattle.floor_table.specs.Views.{Knowledge, OfThread, seeing}
-use Rattle.floor_table.proofs.Made.{Finds, Steps, allows, halt_made, OwnSteps}
-use Rattle.floor_table.proofs.Seen.{one_own}
+use Rattle.lock_floor.proofs.Names
+use Names.{ℕ, true, [], refl, slice_index, Me, keeps, Allows, State, Step, Halts, after_halt, Description, Slot, spot}
+use Names.{halt_line, Board, RepresentsShare, FloorHolds, MayMake, FitAll, Makes, Knowledge, OfThread, seeing, Finds}
+use Names.{Steps, allows, halt_made, OwnSteps, one_own}
+use Rattle.std.proofs.Common.{◌≡◌, ◌∷◌}
 
 abbrev pub HasHalted : Description → Me Slot Knowledge → Me Slot Knowledge → Type 0
 HasHalted floor me behind =

@@ -1,29 +1,12 @@
 -- What a thread's seat knows of a blocking call in the section of the lock's chain, step by step: what allows the next
 -- step there stays, and what is out is the own record and the chain.
-use Rattle.std.proofs.Common.{◌≡◌, ◌⊎◌, ℕ, Bool, true, false, Option, Some, None, IsSome, List, [], ◌∷◌, inr, refl, sym, ap, ◌∙◌}
-use Rattle.std.specs.declared.alloc.Global.{Global}
-use Rattle.std.specs.declared.boxed.Box.{Box}
-use Rattle.lock_model.specs.History.{open_in}
-use Rattle.lock_model.specs.Holds.{NotHeld}
-use Rattle.lock_model.specs.Operations.{hold_in}
-use Rattle.lock_model.specs.Queues.{lock_queue}
-use Rattle.lock_model.specs.Words.{Word, is_turnstile}
-use Rattle.lock_model.specs.declared.plan.QueueName.{QueueName}
-use Rattle.lock_state.specs.State.{NoWalk, Round}
-use Rattle.lock_state.specs.Steps.{Step}
-use Rattle.lock_state.specs.Steps.Items.{RecordOf}
-use Rattle.lock_state.specs.Steps.LockWords.{round_of, bound_to, taking_from}
-use Rattle.thread_records.specs.declared.record.ThreadRec.{ThreadRec}
-use Rattle.turnstile_core.specs.Seen.{Turnstile}
-use Rattle.floor_table.specs.Descriptions.{config_in}
-use Rattle.floor_table.specs.declared.description.Description.{Description}
-use Rattle.floor_table.specs.declared.slot.Slot.{Slot}
-use Rattle.floor_table.specs.declared.slot.Slot.TheVariants.{Record, Cell, Turnstiles, SleepQueues, Graph}
-use Rattle.floor_table.specs.Views.{is_off_queues, Knowledge, seeing}
-use Rattle.lock_floor.specs.Latches.{IsOfKind, Takes}
-use Rattle.lock_floor.specs.Passes.{IsGoing, IsAtRest}
-use Rattle.lock_floor.specs.Views.{looked, sought, took}
-use Rattle.lock_floor.specs.Waits.{its_chain, chain_place, readied, both_out}
+use Rattle.lock_floor.proofs.Names
+use Names.{ℕ, Bool, true, false, Option, Some, None, IsSome, List, [], inr, refl, sym, ap, Global, Box, open_in}
+use Names.{NotHeld, hold_in, lock_queue, Word, is_turnstile, QueueName, NoWalk, Round, Step, RecordOf, round_of}
+use Names.{bound_to, taking_from, ThreadRec, Turnstile, config_in, Description, Slot, Record, Cell, Turnstiles}
+use Names.{SleepQueues, Graph, is_off_queues, Knowledge, seeing, IsOfKind, Takes, IsGoing, IsAtRest, looked, sought}
+use Names.{took, its_chain, chain_place, readied, both_out}
+use Rattle.std.proofs.Common.{◌≡◌, ◌⊎◌, ◌∷◌, ◌∙◌}
 use Rattle.lock_floor.proofs.MayWait.{IsNoSleeper, round_bound, turnstiles_taken}
 use Rattle.lock_floor.proofs.OwnRecords.{own_turnstile}
 
@@ -41,7 +24,6 @@ pub record IsAcquiring (floor : Description) (l : ℕ) (r : Round) (v : Knowledg
   pub sections : (k : ℕ) → open_in (config_in floor) v.share.log v.thread k ≡ hold_in v.share.held k
 
 module _ (floor : Description) (l : ℕ) where
-
   module _ (r : Round) (seen : List Step) (v : Knowledge) (h : IsAcquiring floor l r v) where
 
   -- 2. What is out

@@ -1,29 +1,17 @@
 -- The rule when the keeper takes a pass in, and what it tells the keeper then.
-use Rattle.std.proofs.Common.{◌≡◌, ◌≢◌, ℕ, zero, suc, ◌<◌, ◌≤◌, Bool, true, false, List, [], ◌∷◌, ◌++◌, length, set, refl, sym, ap, ◌∙◌, subst, inl, inr, arith, length-set, length-append, get_or-set_same, get_or-set_other}
-use Rattle.std.proofs.lemmas.Bool.{cases_eq, eq-eqb, ltb-true, ltb-false}
-use Rattle.std.proofs.lemmas.List.{set-get_or}
-use Rattle.std.proofs.lemmas.List.Elements.{All-push}
-use Rattle.std.proofs.lemmas.List.Folds.{list_any-append}
-use Rattle.std.specs.Prelude.{◌==◌, ◌||◌, nat_lt, if◌then◌else◌, slice_index}
-use Rattle.std.specs.List.{All, list_any}
+use Rattle.lock_floor.proofs.Names
+use Names.{ℕ, zero, suc, Bool, true, false, List, [], length, set, refl, sym, ap, subst, inl, inr, arith, length-set}
+use Names.{length-append, get_or-set_same, get_or-set_other, cases_eq, ltb-true, ltb-false, set-get_or, All-push}
+use Names.{list_any-append, nat_lt, slice_index, All, list_any, Me, Joins, Allows, keeps, stepped, State, Step}
+use Names.{Description, Slot, IsSeen, IsSeenBy, AreSeen, spot, ticket_line, slots_for, latch_word, home_at, Share}
+use Names.{Shelves, OfThread, Runs, OfNobody, Knowledge, nothing, Board, keeper_in, thread_in, spare, live, one_thread}
+use Names.{IsSeatOf, IsTakenIn, IsPosed, RepresentsSeats, Represents, FloorHolds, inside, at_or, total_set}
+use Names.{seen_further, longer, with_pass_taken}
+use Rattle.std.proofs.Common.{◌≡◌, ◌≢◌, ◌<◌, ◌≤◌, ◌∷◌, ◌++◌, ◌∙◌}
+use Rattle.std.proofs.lemmas.Bool.{eq-eqb}
+use Rattle.std.specs.Prelude.{◌==◌, ◌||◌, if◌then◌else◌}
 use mathlib.Core.Option.{some, some-injective}
 use lib.ListN.{get_elem?}
-use Rattle.atomic_table.specs.Table.{Me, Joins, Allows, keeps, stepped}
-use Rattle.lock_state.specs.State.{State}
-use Rattle.lock_state.specs.Steps.{Step}
-use Rattle.floor_table.specs.declared.description.Description.{Description}
-use Rattle.floor_table.specs.declared.slot.Slot.{Slot}
-use Rattle.floor_table.specs.Past.{IsSeen, IsSeenBy, AreSeen}
-use Rattle.floor_table.specs.Places.{spot, ticket_line, slots_for, latch_word, home_at}
-use Rattle.floor_table.specs.Shares.{Share}
-use Rattle.floor_table.specs.Shelves.{Shelves}
-use Rattle.floor_table.specs.Views.{OfThread, Runs, OfNobody, Knowledge, nothing}
-use Rattle.floor_table.specs.Represents.{Board, keeper_in, thread_in, spare, live, one_thread, IsSeatOf, IsTakenIn, IsPosed, RepresentsSeats, Represents}
-use Rattle.floor_table.specs.Rule.{FloorHolds}
-use Rattle.floor_table.proofs.Lists.{inside, at_or}
-use Rattle.floor_table.proofs.Seats.{total_set}
-use Rattle.floor_table.proofs.Seen.{seen_further}
-use Rattle.lock_floor.specs.Views.{longer, with_pass_taken}
 
 -- 1. A pass fewer
 

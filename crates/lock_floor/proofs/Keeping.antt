@@ -1,46 +1,25 @@
 -- The rule when a floor is made, and when a pass is.
-use Rattle.std.proofs.Common.{◌≡◌, ◌≢◌, ℕ, zero, suc, ◌+◌, ◌-◌, ◌<◌, ◌≤◌, Option, Some, None, true, List, [], ◌∷◌, ◌++◌, length, get_or, set, drop, unwrap_or, map, replicate, refl, sym, ap, ◌∙◌, subst, inl, inr, arith, length-set, length-append, get_or-set_same, get_or-set_other}
-use Rattle.std.proofs.lemmas.List.{append-nil, length-replicate, length-map, get_or-replicate, get_or_append_left, get_or-append-add}
-use Rattle.std.proofs.lemmas.List.Elements.{All-nil, All-head, All-tail}
-use Rattle.std.proofs.lemmas.Bool.{cases_eq, cases_lt}
-use Rattle.std.proofs.lemmas.List.Sums.{sum_by-cons}
+use Rattle.lock_floor.proofs.Names
+use Names.{ℕ, zero, suc, Option, Some, None, true, List, [], length, get_or, set, drop, map, replicate, refl, sym, ap}
+use Names.{subst, inl, inr, arith, length-set, length-append, get_or-set_same, get_or-set_other, append-nil}
+use Names.{length-replicate, length-map, get_or-replicate, get_or_append_left, get_or-append-add, All-nil, All-head}
+use Names.{All-tail, cases_eq, cases_lt, sum_by-cons, All, IsDistinct, list_any, opening, Splits, word_of, most_classes}
+use Names.{HaveSameEdges, RepresentsRecord, Turnstile, SleepQueue, RepresentsGraph, State, start_state, Step, Item}
+use Names.{TurnstileChain, SleepChain, RecordOf, CellOf, ClassGraph, item_with, made, config_in, room_for, room_in_all}
+use Names.{IsSized, Description, LockPart, ThreadPart, Slot, Recorded, Cell, Turnstiles, SleepQueues, Graph, maker}
+use Names.{IsSeen, IsSeenBy, AreSeen, spot, lock_line, wait_line, latch_line, ticket_line, awake_line, ended_line}
+use Names.{halt_line, words_for, slots_for, slot_of, taker, latch_word, word_at, home_at, Share, Shelves, OfThread}
+use Names.{OfNobody, Knowledge, nothing, keeper, Board, words_in, RepresentsWords, RepresentsLatches, taken_from}
+use Names.{HasNames, RepresentsTurnstiles, RepresentsSleepChain, RepresentsObjects, IsOf, objects_in, seat, keeper_in}
+use Names.{thread_in, total, spare, live, IsSeatOf, IsTakenIn, IsPosed, RepresentsSeats, Represents, FloorHolds}
+use Names.{record_place, its_part, place_low, inside, at_or, or_past, snoc_before, snoc_there, total_set, sound_begins}
+use Names.{AreFirstWords, IsFirst, with_pass_made, new_pass}
+use Rattle.std.proofs.Common.{◌≡◌, ◌≢◌, ◌+◌, ◌-◌, ◌<◌, ◌≤◌, ◌∷◌, ◌++◌, ◌∙◌, unwrap_or}
 use Rattle.std.specs.Prelude.{◌==◌, slice_get}
 use lib.ListN.{get_elem?}
-use Rattle.std.specs.List.{All, IsDistinct, list_any}
 use mathlib.Core.Option.{some, some-ne-none}
-use Rattle.atomic_table.specs.Table.{opening, Splits}
-use Rattle.lock_model.specs.Words.{word_of}
-use Rattle.lock_model.specs.Limits.{most_classes}
-use Rattle.lock_model.specs.Orders.{HaveSameEdges}
-use Rattle.lock_objects.specs.Represents.{RepresentsRecord}
-use Rattle.turnstile_core.specs.Seen.{Turnstile}
-use Rattle.sleep_queues.specs.Seen.{SleepQueue}
 use Rattle.witness_orders.specs.Graph as orders
-use Rattle.witness_orders.specs.Graph.{RepresentsGraph}
-use Rattle.lock_state.specs.State.{State, start_state}
-use Rattle.lock_state.specs.Steps.{Step}
-use Rattle.lock_state.specs.Steps.Items.{Item, TurnstileChain, SleepChain, RecordOf, CellOf, ClassGraph, item_with}
-use Rattle.thread_records.specs.Records.{Record, made}
-use Rattle.floor_table.specs.Descriptions.{config_in, room_for, room_in_all, IsSized}
-use Rattle.floor_table.specs.declared.description.Description.{Description}
-use Rattle.floor_table.specs.declared.description.LockPart.{LockPart}
-use Rattle.floor_table.specs.declared.description.ThreadPart.{ThreadPart}
-use Rattle.floor_table.specs.declared.slot.Slot.{Slot}
-use Rattle.floor_table.specs.declared.slot.Slot.TheVariants.{Record as Recorded, Cell, Turnstiles, SleepQueues, Graph}
-use Rattle.lock_state.specs.Steps.{maker}
-use Rattle.floor_table.specs.Past.{IsSeen, IsSeenBy, AreSeen}
-use Rattle.floor_table.specs.Places.{spot, lock_line, wait_line, latch_line, ticket_line, awake_line, ended_line, halt_line, words_for, slots_for, slot_of, taker, latch_word, word_at, home_at}
-use Rattle.floor_table.specs.Shares.{Share}
-use Rattle.floor_table.specs.Shelves.{Shelves}
-use Rattle.floor_table.specs.Views.{OfThread, OfNobody, Knowledge, nothing, keeper}
-use Rattle.floor_table.specs.Represents.{Board, words_in, RepresentsWords, RepresentsLatches, taken_from, HasNames, RepresentsTurnstiles, RepresentsSleepChain, RepresentsObjects, IsOf, objects_in, seat, keeper_in, thread_in, total, spare, live, IsSeatOf, IsTakenIn, IsPosed, RepresentsSeats, Represents}
-use Rattle.floor_table.specs.Rule.{FloorHolds}
-use Rattle.floor_table.proofs.Items.{record_place, its_part, place_low}
-use Rattle.floor_table.proofs.Lists.{inside, at_or, or_past, snoc_before, snoc_there}
-use Rattle.floor_table.proofs.Seats.{total_set}
-use Rattle.floor_table.proofs.Sound.{sound_begins}
-use Rattle.lock_floor.specs.First.{AreFirstWords, IsFirst}
-use Rattle.lock_floor.specs.Views.{with_pass_made, new_pass}
+use Rattle.thread_records.specs.Records.{Record}
 
 -- 1. A pass more
 

@@ -1,33 +1,14 @@
 -- An abort of the last sleeper of a side of an sx lock's queue: the lock's word loses the side's bit, so that it shows
 -- nobody there, and by that the sleeper is taken off the queue. The chain, which the thread has out, is then what the
 -- work on it will make of it.
-use Rattle.std.proofs.Common.{◌≡◌, ℕ, ◌+◌, ◌-◌, ◌/◌, ◌%◌, ◌<◌, Bool, eqb, true, not, List, [], ◌∷◌, length, None, refl, sym, ap, ◌∙◌, subst, arith}
-use Rattle.std.proofs.lemmas.Bool.{eqb-true}
-use Rattle.atomic_table.specs.Table.{Me, keeps, Allows}
-use Rattle.lock_laws.proofs.ChangedWords.{some_there}
-use Rattle.lock_model.specs.Counts.{is_empty}
-use Rattle.lock_model.specs.Queues.{Waiter, Lists, lock_queue, list_of, times_waiting, without as without_waiter}
-use Rattle.lock_model.specs.Words.{Word, word_of, holder_of, with_bit, unshown}
-use Rattle.lock_model.specs.declared.plan.QueueName.{QueueName}
-use Rattle.lock_model.specs.declared.plan.Side.{Side}
-use Rattle.lock_model.specs.declared.plan.Side.TheVariants.{X, S}
-use Rattle.lock_state.specs.Facts.{BitsShowWaiters}
-use Rattle.lock_state.specs.Facts.Queues.{ShowsItsWaiters}
-use Rattle.lock_state.specs.State.{State, put}
-use Rattle.lock_state.specs.Steps.{Aborts}
-use Rattle.lock_state.specs.Steps.SleepQueues.{after_abort, look_leaving}
-use Rattle.sleep_queues.specs.Changes.{waiters}
-use Rattle.sleep_queues.specs.Seen.{SleepQueue}
-use Rattle.floor_table.specs.declared.description.Description.{Description}
-use Rattle.floor_table.specs.declared.slot.Slot.{Slot}
-use Rattle.floor_table.specs.Places.{spot, lock_line, lock_word}
-use Rattle.floor_table.specs.Represents.{Board}
-use Rattle.floor_table.specs.Rule.{FloorHolds}
-use Rattle.floor_table.specs.Steps.{FitAll}
-use Rattle.floor_table.specs.Views.{Knowledge, OfThread, seeing}
-use Rattle.floor_table.proofs.Made.{Finds, Steps, allows, lock_made_with}
-use Rattle.lock_floor.specs.Halting.{MayAbortLast, added_off}
-use Rattle.lock_floor.specs.Waits.{chain_place}
+use Rattle.lock_floor.proofs.Names
+use Names.{ℕ, Bool, eqb, true, not, List, [], length, None, refl, sym, ap, subst, arith, eqb-true, Me, keeps, Allows}
+use Names.{some_there, is_empty, Waiter, Lists, lock_queue, list_of, times_waiting, without_waiter, Word, word_of}
+use Names.{holder_of, with_bit, unshown, QueueName, Side, X, S, BitsShowWaiters, ShowsItsWaiters, State, put, Aborts}
+use Names.{after_abort, look_leaving, waiters, SleepQueue, Description, Slot, spot, lock_line, lock_word, Board}
+use Names.{FloorHolds, FitAll, Knowledge, OfThread, seeing, Finds, Steps, allows, lock_made_with, MayAbortLast}
+use Names.{added_off, chain_place}
+use Rattle.std.proofs.Common.{◌≡◌, ◌+◌, ◌-◌, ◌/◌, ◌%◌, ◌<◌, ◌∷◌, ◌∙◌}
 use Rattle.lock_floor.proofs.AbortStep.{TakenOff, chain_off, loses_sleeper, view_off}
 use Rattle.lock_floor.proofs.Looking.{found_word}
 

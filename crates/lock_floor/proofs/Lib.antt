@@ -1,3 +1,4 @@
+pub mod Names
 pub mod Keeping
 pub mod Joining
 pub mod Emptying

@@ -1,26 +1,11 @@
 -- What a call by which a thread comes to stand on a sleep queue needs for the work on what is out, and what that
 -- leaves: an add to a channel, and an enter of an sx lock.
-use Rattle.std.proofs.Common.{◌≡◌, ℕ, Some, is_some, List, [], ◌∷◌, ap}
-use Rattle.std.specs.Box.{with_value}
+use Rattle.lock_floor.proofs.Names
+use Names.{ℕ, Some, is_some, List, [], ap, with_value, Global, Box, Me, head_of, QueueName, Side, CanStand, sleeper_of}
+use Names.{record_asleep, chain_asleep, Step, SleepQueue, ThreadRec, Makes, Knowledge, seeing, Description, Slot}
+use Names.{Record, SleepQueues, HasSleeperOut, out_asleep, chain_place}
+use Rattle.std.proofs.Common.{◌≡◌, ◌∷◌}
 use Rattle.std.specs.Prelude.{IsSome}
-use Rattle.std.specs.declared.alloc.Global.{Global}
-use Rattle.std.specs.declared.boxed.Box.{Box}
-use Rattle.atomic_table.specs.Table.{Me}
-use Rattle.chain_table.specs.Chains.{head_of}
-use Rattle.lock_model.specs.declared.plan.QueueName.{QueueName}
-use Rattle.lock_model.specs.declared.plan.Side.{Side}
-use Rattle.lock_objects.specs.Enters.{CanStand}
-use Rattle.lock_objects.specs.Sleeps.{sleeper_of, record_asleep, chain_asleep}
-use Rattle.lock_state.specs.Steps.{Step}
-use Rattle.sleep_queues.specs.Seen.{SleepQueue}
-use Rattle.thread_records.specs.declared.record.ThreadRec.{ThreadRec}
-use Rattle.floor_table.specs.Steps.{Makes}
-use Rattle.floor_table.specs.Views.{Knowledge, seeing}
-use Rattle.floor_table.specs.declared.description.Description.{Description}
-use Rattle.floor_table.specs.declared.slot.Slot.{Slot}
-use Rattle.floor_table.specs.declared.slot.Slot.TheVariants.{Record, SleepQueues}
-use Rattle.lock_floor.specs.Sleeps.{HasSleeperOut, out_asleep}
-use Rattle.lock_floor.specs.Waits.{chain_place}
 use Rattle.lock_floor.proofs.BothChanged.{Worked, out_before, worked}
 
 module _ (floor : Description) (me behind : Me Slot Knowledge) (q : QueueName) (side : Side)

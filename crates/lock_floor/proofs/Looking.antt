@@ -1,27 +1,12 @@
 -- A look at a lock's word: a load of the word, or an exchange that misses. It may be made on each table, and tells what
 -- the thread's seat knows then.
-use Rattle.std.proofs.Common.{◌≡◌, ℕ, ◌<◌, Bool, true, false, not, ◌&&◌, ◌||◌, List, [], ◌∷◌, length, Option, Some, None, refl, sym, ap, ◌∙◌, subst, arith, eq-eqb}
-use Rattle.std.proofs.lemmas.Bool.{ne_eqb}
-use Rattle.atomic_table.specs.Table.{Me, keeps, Allows}
-use Rattle.lock_laws.proofs.AtTurn.{well_formed}
-use Rattle.lock_model.specs.Words.{Word, word_of, IsWellFormed}
-use Rattle.lock_state.specs.State.{State}
-use Rattle.lock_state.specs.Steps.{Step, Looks, Seeks, chain_of, is_with}
-use Rattle.lock_state.specs.Steps.Items.{item_with}
-use Rattle.lock_state.specs.Steps.LockWords.{after_look, after_seek}
-use Rattle.floor_table.specs.Descriptions.{config_in}
-use Rattle.floor_table.specs.declared.description.Description.{Description}
-use Rattle.floor_table.specs.declared.slot.Slot.{Slot}
-use Rattle.floor_table.specs.Past.{past_with}
-use Rattle.floor_table.specs.Places.{spot, lock_line, lock_word}
-use Rattle.floor_table.specs.Represents.{Board, RepresentsShare}
-use Rattle.floor_table.specs.Rule.{FloorHolds}
-use Rattle.floor_table.specs.Steps.{MayMake, FitAll, Makes}
-use Rattle.floor_table.specs.Views.{Knowledge, OfThread, seeing}
-use Rattle.floor_table.proofs.Made.{Finds, Steps, allows, lock_seen, OwnSteps}
-use Rattle.floor_table.proofs.Seen.{one_own, two_own}
-use Rattle.lock_floor.specs.Floors.{Floor, Pass}
-use Rattle.lock_floor.specs.Views.{has_item, counts, looked, sought}
+use Rattle.lock_floor.proofs.Names
+use Names.{ℕ, Bool, true, false, not, List, [], length, Option, Some, None, refl, sym, ap, subst, arith, eq-eqb, ne_eqb}
+use Names.{Me, keeps, Allows, well_formed, Word, word_of, IsWellFormed, State, Step, Looks, Seeks, chain_of, is_with}
+use Names.{item_with, after_look, after_seek, config_in, Description, Slot, past_with, spot, lock_line, lock_word}
+use Names.{Board, RepresentsShare, FloorHolds, MayMake, FitAll, Makes, Knowledge, OfThread, seeing, Finds, Steps}
+use Names.{allows, lock_seen, OwnSteps, one_own, two_own, Floor, Pass, has_item, counts, looked, sought}
+use Rattle.std.proofs.Common.{◌≡◌, ◌<◌, ◌&&◌, ◌||◌, ◌∷◌, ◌∙◌}
 use Rattle.lock_floor.proofs.May.{its_item}
 use Rattle.lock_floor.proofs.Shares.{look_own, look_others, seek_own, seek_others}
 

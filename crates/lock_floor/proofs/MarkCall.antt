@@ -1,35 +1,15 @@
 -- What the call that wakes the first of a marked list needs of its parts, and what it was told.
-use Rattle.std.proofs.Common.{◌≡◌, ℕ, Bool, false, List, [], ◌∷◌, refl, sym, ap, ◌∙◌, subst}
-use Rattle.std.specs.Box.{with_value}
-use Rattle.std.specs.Global.{Vec}
-use Rattle.std.specs.declared.alloc.Global.{Global}
-use Rattle.std.specs.declared.boxed.Box.{Box}
-use Rattle.atomic_table.specs.Table.{Me, Allows, rest}
-use Rattle.lock_history.specs.Books.{Book}
-use Rattle.lock_model.specs.Queues.{Mark}
-use Rattle.lock_model.specs.declared.event.Held.{Held}
-use Rattle.lock_model.specs.declared.plan.QueueName.{QueueName}
-use Rattle.lock_objects.specs.Marked.{IsAway, IsFirst, cause_by, node_of, record_woken}
-use Rattle.lock_objects.specs.declared.marked.Marked.{Marked}
+use Rattle.lock_floor.proofs.Names
+use Names.{ℕ, Bool, false, List, [], refl, sym, ap, subst, with_value, Vec, Global, Box, Me, Allows, rest, Book, Mark}
+use Names.{Held, QueueName, IsAway, cause_by, node_of, record_woken, Marked, WokenOff, Marks, ThreadRec, config_in}
+use Names.{spot, wait_line, wait_number, FloorHolds, MayMake, Makes, Knowledge, OfThread, StandsOn, seeing, Description}
+use Names.{Slot, Record, AreMarked, HasFirstOut, MarksFirst, MayMark, marked_first, out_marked, IsTied, arith}
+use Rattle.std.proofs.Common.{◌≡◌, ◌∷◌, ◌∙◌}
+use Rattle.lock_objects.specs.Marked.{IsFirst}
 use Rattle.lock_objects.specs.declared.marked.Woken.{Woken}
-use Rattle.lock_state.specs.State.{Woken as WokenOff}
-use Rattle.lock_state.specs.Steps.{Marks}
-use Rattle.thread_records.specs.declared.record.ThreadRec.{ThreadRec}
-use Rattle.floor_table.specs.Descriptions.{config_in}
-use Rattle.floor_table.specs.Places.{spot, wait_line}
-use Rattle.floor_table.specs.Represents.{wait_number}
-use Rattle.floor_table.specs.Rule.{FloorHolds}
-use Rattle.floor_table.specs.Steps.{MayMake, Makes}
-use Rattle.floor_table.specs.Views.{Knowledge, OfThread, StandsOn, seeing}
-use Rattle.floor_table.specs.declared.description.Description.{Description}
-use Rattle.floor_table.specs.declared.slot.Slot.{Slot}
-use Rattle.floor_table.specs.declared.slot.Slot.TheVariants.{Record}
-use Rattle.lock_floor.specs.Marks.{AreMarked, HasFirstOut, MarksFirst, MayMark, marked_first, out_marked}
-use Rattle.lock_floor.specs.Ties.{IsTied}
 use Rattle.lock_floor.proofs.MarkStep.{MarkedFirst, mark_allowed}
 use Rattle.lock_floor.proofs.Tied.{tied_then}
 use Rattle.lock_floor.proofs.Marked.{first_thread, first_cause, first_away, first_record, others_marked}
-use Rattle.std.proofs.Common.{arith}
 
 module _ (floor : Description) (me : Me Slot Knowledge) (w : Woken) (old new : Marked) (slot u : ℕ)
     (need : MayMark floor me.0) (are : AreMarked floor old me.0.share.doing.marked) (first : IsFirst w old new)

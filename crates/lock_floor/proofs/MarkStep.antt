@@ -1,42 +1,20 @@
 -- A mark: the first of those whom a thread took off a queue has its object back, and its wait word says that it was
 -- woken. The work on its record is done first, where nobody else can see it.
-use Rattle.std.proofs.Common.{◌≡◌, ◌≢◌, ℕ, ◌<◌, Bool, true, false, cond, Option, Some, None, List, [], ◌∷◌, length, refl, sym, ap, ◌∙◌, subst, inl, inr}
-use Rattle.std.specs.Box.{with_value}
-use Rattle.std.specs.Prelude.{slice_index}
-use Rattle.std.proofs.lemmas.Bool.{cases_eq}
-use Rattle.std.proofs.lemmas.Option.{same_Some}
-use Rattle.atomic_table.specs.Table.{Me, keeps, rest, Allows}
-use Rattle.lock_laws.proofs.Kit.{put_same, put_other}
-use Rattle.lock_laws.proofs.Standing.{marked_named, marked_thread}
-use Rattle.lock_model.specs.Config.{Config}
-use Rattle.lock_model.specs.Queues.{Mark, Cause, is_turnstile_queue}
-use Rattle.lock_model.specs.declared.plan.QueueName.{QueueName}
-use Rattle.lock_objects.specs.Represents.{RecordColumns, RepresentsRecord, record_in}
-use Rattle.lock_state.specs.Facts.{StandingIsQueued, Lawful}
-use Rattle.lock_state.specs.State.{State, Wait, Running, Queued, Woken, put}
-use Rattle.lock_state.specs.Steps.{Step, Marks}
-use Rattle.lock_state.specs.Steps.Items.{RecordOf}
-use Rattle.lock_state.specs.Steps.Turnstiles.{after_mark, phase_marked}
-use Rattle.thread_records.specs.Records.{Record as RecordSeen}
-use Rattle.floor_table.specs.Descriptions.{config_in}
-use Rattle.floor_table.specs.declared.description.Description.{Description}
-use Rattle.floor_table.specs.declared.slot.Slot.{Slot}
-use Rattle.floor_table.specs.declared.slot.Slot.TheVariants.{Record}
-use Rattle.floor_table.specs.Places.{spot, wait_line, slots_for, slot_of, latch_word, home_at}
-use Rattle.floor_table.specs.Represents.{Board, IsPosed, RepresentsObjects, RepresentsShare, objects_in, thread_in, wait_number}
-use Rattle.floor_table.specs.Rule.{FloorHolds}
-use Rattle.floor_table.specs.Shares.{ShareColumns, columns_of, share_in}
-use Rattle.floor_table.specs.Shelves.{Shelves, found}
-use Rattle.floor_table.specs.Steps.{FitAll, MayMake, Makes}
-use Rattle.floor_table.specs.Views.{Knowledge, OfThread, Pose, Runs, IsReady, StandsOn, seeing}
-use Rattle.floor_table.proofs.Made.{Finds, Steps, allows, wait_made, own_out, OwnSteps}
-use Rattle.floor_table.proofs.Seen.{one_own}
-use Rattle.floor_table.proofs.Shelved.{found_first, shelf_changed}
-use Rattle.lock_floor.specs.Marks.{marked_first, record_marked, out_marked, HasFirstOut}
+use Rattle.lock_floor.proofs.Names
+use Names.{ℕ, Bool, true, false, cond, Option, Some, None, List, [], length, refl, sym, ap, subst, inl, inr, with_value}
+use Names.{slice_index, cases_eq, same_Some, Me, keeps, rest, Allows, put_same, put_other, marked_named, marked_thread}
+use Names.{Config, Mark, Cause, is_turnstile_queue, QueueName, RecordColumns, RepresentsRecord, record_in}
+use Names.{StandingIsQueued, Lawful, State, Wait, Running, Queued, Woken, put, Step, Marks, RecordOf, after_mark}
+use Names.{phase_marked, RecordSeen, config_in, Description, Slot, Record, spot, wait_line, slots_for, slot_of}
+use Names.{latch_word, home_at, Board, IsPosed, RepresentsObjects, RepresentsShare, objects_in, thread_in, wait_number}
+use Names.{FloorHolds, ShareColumns, columns_of, share_in, Shelves, found, FitAll, MayMake, Makes, Knowledge, OfThread}
+use Names.{Pose, Runs, StandsOn, seeing, Finds, Steps, allows, wait_made, own_out, OwnSteps, one_own, found_first}
+use Names.{shelf_changed, marked_first, record_marked, out_marked, HasFirstOut, arith}
+use Rattle.std.proofs.Common.{◌≡◌, ◌≢◌, ◌<◌, ◌∷◌, ◌∙◌}
+use Rattle.floor_table.specs.Views.{IsReady}
 use Rattle.lock_floor.proofs.Changing.{object_changed, record_changes}
 use Rattle.lock_floor.proofs.Marked.{head_or, tail_of}
 use Rattle.lock_floor.proofs.Taking.{record_at}
-use Rattle.std.proofs.Common.{arith}
 
 -- 1. The shares behind it
 

@@ -1,24 +1,16 @@
 -- The marked list of a pass, and what is made of it where its first is woken.
-use Rattle.std.proofs.Common.{◌≡◌, ℕ, suc, ◌<◌, Bool, true, false, cond, Option, Some, None, List, [], ◌∷◌, length, map, IfSome, refl, sym, ap, ◌∙◌, subst, arith}
-use Rattle.std.specs.Prelude.{unwrap_or}
-use Rattle.std.proofs.lemmas.List.Elements.{All-nil}
-use Rattle.std.specs.List.{All}
+use Rattle.lock_floor.proofs.Names
+use Names.{ℕ, suc, Bool, true, false, cond, Option, Some, None, List, [], length, map, IfSome, refl, sym, ap, subst}
+use Names.{arith, unwrap_or, All-nil, All, Config, Mark, lock_queue, is_turnstile_queue, ThreadNo, QueueName, AreOfKind}
+use Names.{places_of, cause_in, cause_by, node_of, like, IsAway, record_woken, mark_by, Marked, Waiters, Sleepers}
+use Names.{AbortedSleepers, Sleeper, AbortedSleeper, config_in, Description, AreMarked, LacksObject, record_marked}
+use Rattle.std.proofs.Common.{◌≡◌, ◌<◌, ◌∷◌, ◌∙◌}
 use Rattle.std.specs.Option.{IsSome}
 use Rattle.turnstile_core.specs.Seen.{Place}
-use Rattle.lock_model.specs.Config.{Config}
-use Rattle.lock_model.specs.Queues.{Mark, lock_queue, is_turnstile_queue}
-use Rattle.lock_model.specs.declared.numbers.ThreadNo.{ThreadNo}
-use Rattle.lock_model.specs.declared.plan.QueueName.{QueueName}
-use Rattle.lock_objects.specs.Marked.{AreOfKind, places_of, cause_in, cause_by, node_of, like, IsFirst, IsAway, record_woken}
-use Rattle.lock_objects.specs.Represents.{mark_by}
-use Rattle.lock_objects.specs.declared.marked.Marked.{Marked}
-use Rattle.lock_objects.specs.declared.marked.Marked.TheVariants.{Waiters, Sleepers, AbortedSleepers}
+use Rattle.lock_objects.specs.Marked.{IsFirst}
 use Rattle.lock_objects.specs.declared.marked.Woken.{Woken}
-use Rattle.lock_objects.specs.declared.marked.Woken.TheVariants.{Waiter, Sleeper, AbortedSleeper}
+use Rattle.lock_objects.specs.declared.marked.Woken.TheVariants.{Waiter}
 use Rattle.thread_records.specs.Records.{Record}
-use Rattle.floor_table.specs.Descriptions.{config_in}
-use Rattle.floor_table.specs.declared.description.Description.{Description}
-use Rattle.lock_floor.specs.Marks.{AreMarked, LacksObject, record_marked}
 
 -- 1. Nobody is marked
 

@@ -1,28 +1,12 @@
 -- What a thread finds in the record of the first of its marked list: it is that thread's, and its object is away.
-use Rattle.std.proofs.Common.{◌≡◌, ℕ, suc, ◌<◌, Bool, true, false, not, cond, List, ◌∷◌, length, None, refl, sym, ap, ◌∙◌, subst, inl, inr, arith}
-use Rattle.std.proofs.lemmas.Bool.{cases_lt}
-use Rattle.std.specs.declared.alloc.Global.{Global}
-use Rattle.std.specs.declared.boxed.Box.{Box}
+use Rattle.lock_floor.proofs.Names
+use Names.{ℕ, suc, Bool, true, false, not, cond, List, length, None, refl, sym, ap, subst, inl, inr, arith, cases_lt}
+use Names.{Global, Box, marked_named, marked_thread, named_out, asleep_out, Config, Mark, is_turnstile_queue, Lawful}
+use Names.{State, RecordOf, after_take, RecordColumns, RepresentsRecord, record_in, ThreadRec, config_in, Description}
+use Names.{Record, IsOf, RepresentsShare, objects_in, thread_in, ShareColumns, found, OfThread, OfNobody, Knowledge}
+use Names.{nothing, or_past, found_first, Takes, LacksObject}
+use Rattle.std.proofs.Common.{◌≡◌, ◌<◌, ◌∷◌, ◌∙◌}
 use mathlib.Core.Option.{some}
-use Rattle.lock_laws.proofs.Standing.{marked_named, marked_thread, named_out, asleep_out}
-use Rattle.lock_model.specs.Config.{Config}
-use Rattle.lock_model.specs.Queues.{Mark, is_turnstile_queue}
-use Rattle.lock_state.specs.Facts.{Lawful}
-use Rattle.lock_state.specs.State.{State}
-use Rattle.lock_state.specs.Steps.Items.{RecordOf, after_take}
-use Rattle.lock_objects.specs.Represents.{RecordColumns, RepresentsRecord, record_in}
-use Rattle.thread_records.specs.declared.record.ThreadRec.{ThreadRec}
-use Rattle.floor_table.specs.Descriptions.{config_in}
-use Rattle.floor_table.specs.declared.description.Description.{Description}
-use Rattle.floor_table.specs.declared.slot.Slot.TheVariants.{Record}
-use Rattle.floor_table.specs.Represents.{IsOf, RepresentsShare, objects_in, thread_in}
-use Rattle.floor_table.specs.Shares.{ShareColumns}
-use Rattle.floor_table.specs.Shelves.{found}
-use Rattle.floor_table.specs.Views.{OfThread, OfNobody, Knowledge, nothing}
-use Rattle.floor_table.proofs.Lists.{or_past}
-use Rattle.floor_table.proofs.Shelved.{found_first}
-use Rattle.lock_floor.specs.Latches.{Takes}
-use Rattle.lock_floor.specs.Marks.{LacksObject}
 use Rattle.lock_floor.proofs.Taking.{record_at}
 
 module _ (floor : Description) (old new : Knowledge) (m : Mark) (ms : List Mark)

@@ -1,41 +1,22 @@
 -- What a thread's seat knows allows its steps: they may be made in whatever state fits it.
-use Rattle.std.proofs.Common.{◌≡◌, ◌≢◌, ◌⊎◌, ℕ, ◌<◌, Bool, true, false, not, ◌&&◌, ◌||◌, Option, Some, None, [], ◌∷◌, length, refl, sym, ap, ◌∙◌, subst, inl, inr, arith, eq-eqb}
-use Rattle.std.proofs.lemmas.Bool.{ne_eqb}
-use Rattle.std.proofs.lemmas.Option.{same_Some}
+use Rattle.lock_floor.proofs.Names
+use Names.{ℕ, Bool, true, false, not, Option, Some, None, [], length, refl, sym, ap, subst, inl, inr, arith, eq-eqb}
+use Names.{ne_eqb, same_Some, rest, put_same, own_sections, Config, open_in, left_in, Hold, NotHeld, Holds, hold_in}
+use Names.{lock_queue, Word, admits, is_plain, is_drop, Event, Mtx, Mode, QueueName, LogsAreParts, OnlyLocksAreHeld}
+use Names.{CountedInIsNextMarked, State, Wait, Look, Round, Running, Queued, Awake, SleepHalted, is_parked}
+use Names.{gained_order, Looks, Seeks, Gains, Drops, TakesItem, GivesItem, chain_of, seeks, is_first, is_with}
+use Names.{counts_as_look, Stamps, FitsRound, IsItem, IsOfRound, HasItem, HasOutForEntry, NotesInRound, EndsTake}
+use Names.{ends_sleep, is_halting, IsHalting, IsFirstExchange, IsSecondExchange, IsRunnable, OwesNoStep, GoesOn}
+use Names.{NeedsNoAdmission, IsRoundOfWanted, GainsInOrder, KeepsCountedOut, Item, TurnstileChain, SleepChain, RecordOf}
+use Names.{CellOf, ClassGraph, item_with, IsOnItsWay, IsSettled, MayCheckOrders, IsDoneWith, Asks, IsActing, is_woken}
+use Names.{is_taking_back, round_of, taking_from, after_seek, config_in, Description, Slot, IsAllowed, slot_of, IsOf}
+use Names.{IsPosed, objects_in, found, Doing, ShareColumns, columns_of, share_in, is_among, Fits, MayMake, Pose, Runs}
+use Names.{StandsOn, is_off_queues, Knowledge, stands_nowhere, found_first, IsGoing, IsOffTheWay, is_there, is_out}
+use Names.{has_item, counts}
+use Rattle.std.proofs.Common.{◌≡◌, ◌≢◌, ◌⊎◌, ◌<◌, ◌&&◌, ◌||◌, ◌∷◌, ◌∙◌}
 use mathlib.Core.Option as slots
 use mathlib.Core.Option.{some-ne-none}
-use Rattle.atomic_table.specs.Table.{rest}
-use Rattle.lock_laws.proofs.Kit.{put_same}
-use Rattle.lock_laws.proofs.OwnEntries.{own_section, own_sections}
-use Rattle.lock_model.specs.Config.{Config}
-use Rattle.lock_model.specs.History.{open_in, left_in}
-use Rattle.lock_model.specs.Holds.{Hold, NotHeld, Holds}
-use Rattle.lock_model.specs.Operations.{hold_in}
-use Rattle.lock_model.specs.Queues.{lock_queue}
-use Rattle.lock_model.specs.Words.{Word, admits, is_plain, is_drop}
-use Rattle.lock_model.specs.declared.event.Event.{Event}
-use Rattle.lock_model.specs.declared.plan.Kind.TheVariants.{Mtx}
-use Rattle.lock_model.specs.declared.plan.Mode.{Mode}
-use Rattle.lock_model.specs.declared.plan.QueueName.{QueueName}
-use Rattle.lock_state.specs.Facts.{LogsAreParts, OnlyLocksAreHeld, CountedInIsNextMarked}
-use Rattle.lock_state.specs.State.{State, Wait, Look, Round, Running, Queued, Awake, SleepHalted, is_parked, gained_order}
-use Rattle.lock_state.specs.Steps.{Looks, Seeks, Gains, Drops, TakesItem, GivesItem, chain_of, seeks, is_first, is_with, counts_as_look, Stamps, FitsRound, IsItem, IsOfRound, HasItem, HasOutForEntry, NotesInRound, EndsTake, ends_sleep, is_halting, IsHalting, IsFirstExchange, IsSecondExchange, IsRunnable, OwesNoStep, GoesOn, NeedsNoAdmission, IsRoundOfWanted, GainsInOrder, KeepsCountedOut}
-use Rattle.lock_state.specs.Steps.Items.{Item, TurnstileChain, SleepChain, RecordOf, CellOf, ClassGraph, item_with, IsOnItsWay, IsSettled, MayCheckOrders, IsDoneWith}
-use Rattle.lock_state.specs.Steps.LockWords.{Asks, IsActing, is_woken, is_taking_back, round_of, taking_from, after_seek}
-use Rattle.floor_table.specs.Descriptions.{config_in}
-use Rattle.floor_table.specs.declared.description.Description.{Description}
-use Rattle.floor_table.specs.declared.slot.Slot.{Slot}
-use Rattle.floor_table.specs.Past.{IsAllowed}
-use Rattle.floor_table.specs.Places.{slot_of}
-use Rattle.floor_table.specs.Represents.{IsOf, IsPosed, objects_in}
-use Rattle.floor_table.specs.Shelves.{found}
-use Rattle.floor_table.specs.Shares.{Doing, ShareColumns, columns_of, share_in, is_among}
-use Rattle.floor_table.specs.Steps.{Fits, MayMake}
-use Rattle.floor_table.specs.Views.{Pose, Runs, StandsOn, is_off_queues, Knowledge}
-use Rattle.floor_table.proofs.Poses.{stands_nowhere}
-use Rattle.floor_table.proofs.Shelved.{found_first}
-use Rattle.lock_floor.specs.Passes.{IsGoing, IsOffTheWay}
-use Rattle.lock_floor.specs.Views.{is_there, is_out, has_item, counts}
+use Rattle.lock_laws.proofs.OwnEntries.{own_section}
 
 both_true : (x y : Bool) → (x && y) ≡ true → (x ≡ true) × (y ≡ true)
 both_true true y e = (refl, e)

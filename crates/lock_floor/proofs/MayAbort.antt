@@ -1,36 +1,16 @@
 -- What the seat of a thread at halting others knows allows its aborts.
-use Rattle.std.proofs.Common.{◌≡◌, ℕ, ◌<◌, true, false, Some, [], ◌∷◌, ◌++◌, append_assoc, refl, sym, ap, ◌∙◌, subst}
-use Rattle.atomic_table.specs.Table.{rest}
-use Rattle.chain_table.specs.Chains.{head_of}
-use Rattle.lock_model.specs.Queues.{is_turnstile_queue, list_of, times_waiting}
-use Rattle.lock_model.specs.declared.plan.Side.{Side}
-use Rattle.lock_model.specs.declared.plan.QueueName.{QueueName}
-use Rattle.lock_model.specs.declared.plan.QueueName.TheVariants.{Lock, Chan}
-use Rattle.lock_objects.specs.Represents.{SleepColumns, RepresentsSleepQueue, sleepers_in, sleepers_of}
-use Rattle.lock_state.specs.State.{State, Phase, Awake, Asleep, Last, Halting, Aborting, SelfAborted, found_nobody_awake}
-use Rattle.lock_state.specs.Steps.{Halts, Aborts, HasItem, is_halting}
-use Rattle.lock_state.specs.Steps.Items.{SleepChain}
-use Rattle.lock_state.specs.Steps.SleepQueues.{IsQueueOf}
-use Rattle.sleep_queues.specs.Changes.{waiters}
-use Rattle.sleep_queues.specs.Seen.{SleepQueue}
-use Rattle.floor_table.specs.Descriptions.{config_in}
-use Rattle.floor_table.specs.Represents.{RepresentsSleepChain, objects_in}
-use Rattle.floor_table.specs.Places.{slot_of}
-use Rattle.floor_table.specs.Shelves.{found}
-use Rattle.floor_table.specs.Steps.{Fits, MayMake}
-use Rattle.floor_table.specs.Views.{Knowledge}
-use Rattle.floor_table.specs.declared.description.Description.{Description}
-use Rattle.floor_table.specs.declared.slot.Slot.TheVariants.{SleepQueues}
-use Rattle.floor_table.proofs.Halted.{halted_by}
-use Rattle.floor_table.proofs.Shelved.{found_first}
-use Rattle.lock_floor.specs.Aborts.{HasSeenHalt, IsHaltingOthers, IsSleeping, MayAbortSleeper}
-use Rattle.lock_floor.specs.Sleeps.{HasSleepersOut}
-use Rattle.lock_floor.specs.Waits.{IsQueueOf as IsQueueOfFloor, its_chain, chain_place}
+use Rattle.lock_floor.proofs.Names
+use Names.{ℕ, true, false, Some, [], append_assoc, refl, sym, ap, subst, rest, head_of, is_turnstile_queue, list_of}
+use Names.{times_waiting, Side, QueueName, Lock, Chan, SleepColumns, RepresentsSleepQueue, sleepers_in, sleepers_of}
+use Names.{State, Phase, Awake, Asleep, Last, Halting, Aborting, SelfAborted, found_nobody_awake, Halts, Aborts}
+use Names.{HasItem, is_halting, SleepChain, IsQueueOf, waiters, SleepQueue, config_in, RepresentsSleepChain, objects_in}
+use Names.{slot_of, found, Fits, MayMake, Knowledge, Description, SleepQueues, halted_by, found_first, HasSeenHalt}
+use Names.{IsHaltingOthers, IsSleeping, MayAbortSleeper, HasSleepersOut, IsQueueOfFloor, its_chain, chain_place, arith}
+use Rattle.std.proofs.Common.{◌≡◌, ◌<◌, ◌∷◌, ◌++◌, ◌∙◌}
 use Rattle.lock_floor.proofs.AbortStep.{sleep_chain_of}
 use Rattle.lock_floor.proofs.ChainPlaces.{chain_at}
 use Rattle.lock_floor.proofs.May.{doing_it, not_away_settled}
 use Rattle.lock_floor.proofs.MayWake.{halting_unparked}
-use Rattle.std.proofs.Common.{arith}
 
 pub halting_found : (p : Phase) → is_halting p ≡ true → found_nobody_awake p ≡ true
 halting_found f e = grind arith

@@ -1,37 +1,15 @@
 -- What a thread's seat knows allows its steps where it ends, and where its counting out left nobody awake: it counts
 -- itself in, sets the halt word, takes the sleepers off their queues and wakes them, and counts itself out again.
-use Rattle.std.proofs.Common.{◌≡◌, ◌≢◌, ◌⊎◌, ℕ, ◌<◌, ◌++◌, true, false, Option, Some, None, List, [], ◌∷◌, length, refl, sym, ap, ◌∙◌, subst, inl, inr, append_assoc}
-use Rattle.std.specs.declared.alloc.Global.{Global}
-use Rattle.std.specs.declared.boxed.Box.{Box}
-use Rattle.std.proofs.lemmas.Option.{same_Some}
-use Rattle.thread_records.specs.declared.record.ThreadRec.{ThreadRec}
-use Rattle.atomic_table.specs.Table.{rest}
-use Rattle.lock_model.specs.Config.{Config}
-use Rattle.lock_model.specs.Operations.{hold_in}
-use Rattle.lock_model.specs.Queues.{is_turnstile_queue, lock_queue}
-use Rattle.lock_model.specs.declared.plan.QueueName.{QueueName}
-use Rattle.lock_model.specs.declared.plan.Side.{Side}
-use Rattle.lock_state.specs.State.{State, Round, Running, Queued, Woken, NoWalk, Last, Halting, SelfAborted, is_parked, is_finder}
-use Rattle.lock_state.specs.Steps.{Step, TakesItem, GivesItem, CountsOut, CountsSelfIn, CountsEnd, Halts, HasItem, IsItem, IsOfRound, IsHalting, OwesNoStep, is_halting}
-use Rattle.lock_state.specs.Steps.Items.{SleepChain, RecordOf, item_with, go_together, is_bound}
-use Rattle.lock_state.specs.Steps.Turnstiles.{HasReleased}
-use Rattle.floor_table.specs.Descriptions.{config_in}
-use Rattle.floor_table.specs.Past.{past_with}
-use Rattle.floor_table.specs.Represents.{IsPosed}
-use Rattle.floor_table.specs.Shelves.{found}
-use Rattle.floor_table.specs.Steps.{Fits, FitAll, MayMake, Makes}
-use Rattle.floor_table.specs.Views.{Pose, Runs, StandsOn, Knowledge}
-use Rattle.floor_table.specs.declared.description.Description.{Description}
-use Rattle.floor_table.specs.declared.slot.Slot.{Slot}
-use Rattle.floor_table.specs.declared.slot.Slot.TheVariants.{Record}
-use Rattle.floor_table.proofs.Shelved.{found_first}
-use Rattle.finder_laws.specs.Left.{HasSeenLeft}
-use Rattle.finder_laws.proofs.AllSeen.{left_now}
-use Rattle.lock_floor.specs.Aborts.{HasSeenHalt, IsHaltingOthers}
-use Rattle.lock_floor.specs.Halting.{IsLastAsleep, MayAbortLast}
-use Rattle.lock_floor.specs.Passes.{IsGoing, IsOffTheWay}
-use Rattle.lock_floor.specs.Sleeps.{HasSleepersOut}
-use Rattle.lock_floor.specs.Waits.{its_chain, chain_place}
+use Rattle.lock_floor.proofs.Names
+use Names.{ℕ, true, false, Option, Some, None, List, [], length, refl, sym, ap, subst, inl, inr, append_assoc, Global}
+use Names.{Box, same_Some, ThreadRec, rest, Config, hold_in, is_turnstile_queue, lock_queue, QueueName, Side, State}
+use Names.{Round, Running, Queued, Woken, NoWalk, Last, Halting, SelfAborted, is_parked, is_finder, Step, TakesItem}
+use Names.{GivesItem, CountsOut, CountsSelfIn, CountsEnd, Halts, HasItem, IsItem, IsOfRound, IsHalting, OwesNoStep}
+use Names.{is_halting, SleepChain, RecordOf, item_with, go_together, is_bound, HasReleased, config_in, past_with}
+use Names.{IsPosed, found, Fits, FitAll, MayMake, Makes, Pose, Runs, StandsOn, Knowledge, Description, Slot, Record}
+use Names.{found_first, HasSeenLeft, left_now, HasSeenHalt, IsHaltingOthers, IsLastAsleep, MayAbortLast, IsGoing}
+use Names.{IsOffTheWay, HasSleepersOut, its_chain, chain_place}
+use Rattle.std.proofs.Common.{◌≡◌, ◌≢◌, ◌⊎◌, ◌<◌, ◌++◌, ◌∷◌, ◌∙◌}
 use Rattle.lock_floor.proofs.AbortStep.{sleep_chain_of}
 use Rattle.lock_floor.proofs.May.{doing_it, holds_it, goes_on, is_acting, nothing_with, not_away_settled, settled_now, keeps_out, no_wanted_round}
 use Rattle.lock_floor.proofs.MayAbort.{may_abort}

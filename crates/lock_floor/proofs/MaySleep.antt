@@ -1,44 +1,16 @@
 -- What a thread knows by its seat allows its steps on sleep queues: it goes to sleep on a channel, and takes sleepers
 -- off one.
-use Rattle.std.proofs.Common.{◌≡◌, ◌≢◌, ℕ, ◌<◌, ◌%◌, Bool, true, false, cond, eqb, eq-eqb, Some, None, List, [], ◌∷◌, length, refl, sym, ap, ◌∙◌, subst, inl}
-use Rattle.std.proofs.lemmas.Bool.{ne_eqb}
-use Rattle.atomic_table.specs.Table.{rest}
-use Rattle.chain_table.specs.Chains.{head_of}
-use Rattle.lock_laws.proofs.Sections.{own_section}
-use Rattle.lock_model.specs.Config.{Config}
-use Rattle.lock_model.specs.History.{open_in, left_in}
-use Rattle.lock_model.specs.Holds.{NotHeld}
-use Rattle.lock_model.specs.Operations.{hold_in}
-use Rattle.lock_model.specs.Queues.{lock_queue, chan_queue}
-use Rattle.lock_model.specs.Words.{Word, admits, is_free, is_turnstile}
-use Rattle.lock_model.specs.declared.event.Entry.{Entry}
-use Rattle.lock_model.specs.declared.event.Event.{Event}
-use Rattle.lock_model.specs.declared.event.Event.TheVariants.{Sleeps, Woke, HaltedChan, WokeOne, WokeAll}
-use Rattle.lock_model.specs.declared.numbers.ChanNo.{ChanNo}
-use Rattle.lock_model.specs.declared.plan.Mode.{Mode}
-use Rattle.lock_model.specs.declared.plan.Side.TheVariants.{X}
-use Rattle.lock_model.specs.declared.plan.QueueName.{QueueName}
-use Rattle.lock_objects.specs.Represents.{RecordColumns}
-use Rattle.lock_objects.specs.Sleeps.{chain_woken}
-use Rattle.lock_state.specs.State.{State, HeldLock, Awake, NoWalk, SleepHalted, gained_order}
-use Rattle.lock_state.specs.Steps.{Step, Stamps, HasItem, HasOutForEntry, NotesInRound, EndsItsTake, is_waking}
-use Rattle.lock_state.specs.Steps.Items.{SleepChain}
-use Rattle.lock_state.specs.Steps.LockWords.{Asks, Returns, IsTheWake, is_taking_back, is_woken, bound_to, after_stamp}
-use Rattle.lock_state.specs.Steps.SleepQueues.{has_slept}
-use Rattle.floor_table.specs.Descriptions.{config_in}
-use Rattle.floor_table.specs.Represents.{IsPosed}
-use Rattle.floor_table.specs.Shelves.{found}
-use Rattle.floor_table.specs.Steps.{Fits, MayMake}
-use Rattle.floor_table.specs.Views.{Knowledge, Runs, IsReady, seeing}
-use Rattle.floor_table.specs.declared.description.Description.{Description}
-use Rattle.floor_table.specs.declared.slot.Slot.{Slot}
-use Rattle.floor_table.specs.declared.slot.Slot.TheVariants.{Record, SleepQueues}
-use Rattle.floor_table.proofs.Shelved.{found_first}
-use Rattle.lock_floor.specs.Passes.{IsGoing}
-use Rattle.lock_floor.specs.SleepLocks.{MayEnterAsleep}
-use Rattle.lock_floor.specs.Sleeps.{HasSleepersOut, HasSleeperOut, MayWakeSleepers, MayAddItself, WakesSleepers}
-use Rattle.lock_floor.specs.Views.{entry_by, stamped}
-use Rattle.lock_floor.specs.Waits.{chain_place}
+use Rattle.lock_floor.proofs.Names
+use Names.{ℕ, Bool, true, false, cond, eqb, eq-eqb, Some, None, List, [], length, refl, sym, ap, subst, inl, ne_eqb}
+use Names.{rest, head_of, own_section, Config, open_in, left_in, NotHeld, hold_in, lock_queue, chan_queue, Word, admits}
+use Names.{is_free, is_turnstile, Entry, Event, Sleeps, Woke, HaltedChan, WokeOne, WokeAll, ChanNo, Mode, X, QueueName}
+use Names.{RecordColumns, chain_woken, State, HeldLock, Awake, NoWalk, SleepHalted, gained_order, Step, Stamps, HasItem}
+use Names.{HasOutForEntry, NotesInRound, EndsItsTake, is_waking, SleepChain, Asks, Returns, IsTheWake, is_taking_back}
+use Names.{is_woken, bound_to, after_stamp, has_slept, config_in, IsPosed, found, Fits, MayMake, Knowledge, Runs}
+use Names.{seeing, Description, Slot, Record, SleepQueues, found_first, IsGoing, MayEnterAsleep, HasSleepersOut}
+use Names.{HasSleeperOut, MayWakeSleepers, MayAddItself, WakesSleepers, entry_by, stamped, chain_place}
+use Rattle.std.proofs.Common.{◌≡◌, ◌≢◌, ◌<◌, ◌%◌, ◌∷◌, ◌∙◌}
+use Rattle.floor_table.specs.Views.{IsReady}
 use Rattle.lock_floor.proofs.BothOut.{own_there, chain_there}
 use Rattle.lock_floor.proofs.ChainPlaces.{chain_at}
 use Rattle.lock_floor.proofs.May.{column, doing_it, holds_it, own_log, own_left, may_stamp_end, is_acting, not_away_settled, awake_now, stamped_now, goes_on}

@@ -1,46 +1,21 @@
 -- What a thread's seat knows allows its steps on the way to a queue: it takes the chain of the queue and then its own
 -- record, says in its wait word that it is queued, looks at the lock's word, and gains the lock or stands on its queue;
 -- and then it gives both back.
-use Rattle.std.proofs.Common.{◌≡◌, ◌≢◌, ◌⊎◌, ℕ, ◌<◌, ◌≤◌, ◌%◌, Bool, true, false, not, ◌&&◌, ◌||◌, cond, Option, Some, None, List, [], ◌∷◌, length, refl, sym, ap, ◌∙◌, subst, inl, inr, arith, eq-eqb}
-use Rattle.std.specs.declared.alloc.Global.{Global}
-use Rattle.std.specs.declared.boxed.Box.{Box}
-use Rattle.std.proofs.Math.Nat.{mod-lt}
-use Rattle.std.proofs.lemmas.Bool.{cases_eq}
+use Rattle.lock_floor.proofs.Names
+use Names.{ℕ, Bool, true, false, not, cond, Option, Some, None, List, [], length, refl, sym, ap, subst, inl, inr, arith}
+use Names.{eq-eqb, Global, Box, mod-lt, cases_eq, Config, open_in, NotHeld, hold_in, lock_queue, chan_queue, Word}
+use Names.{admits, is_plain, is_free, is_turnstile, shows_waiters, Mtx, Rw, Mode, Excl, QueueName, Lock, Chan}
+use Names.{RecordColumns, State, Wait, NoWalk, Round, SleepHalted, is_parked, Looks, Gains, Claims, Readies, Unreadies}
+use Names.{Enters, TakesItem, GivesItem, seeks, is_first, is_with, FitsRound, GainsFromLook, EntersFromLook, IsItem}
+use Names.{IsOfRound, HasItem, is_halting, GoesOn, KeepsCountedOut, MustWait, Item, TurnstileChain, SleepChain}
+use Names.{RecordOf, item_with, go_together, is_chain, is_bound, in_its_chain, IsOnItsWay, IsSettled, IsDoneWith}
+use Names.{MayCheckOrders, IsActing, is_woken, is_taking_back, round_of, bound_to, ThreadRec, Turnstile, config_in}
+use Names.{Description, Slot, Record, Cell, Turnstiles, SleepQueues, Graph, IsOf, IsPosed, objects_in, found, Fits}
+use Names.{MayMake, Pose, Runs, StandsOn, is_off_queues, Knowledge, one_place, stands_nowhere, found_first, found_later}
+use Names.{IsGoing, IsOffTheWay, IsOfKind, Takes, counts, took, its_chain, chain_place}
+use Rattle.std.proofs.Common.{◌≡◌, ◌≢◌, ◌⊎◌, ◌<◌, ◌≤◌, ◌%◌, ◌&&◌, ◌||◌, ◌∷◌, ◌∙◌}
 use mathlib.Core.Option.{some-ne-none}
-use Rattle.lock_model.specs.Config.{Config}
-use Rattle.lock_model.specs.History.{open_in}
-use Rattle.lock_model.specs.Holds.{NotHeld}
-use Rattle.lock_model.specs.Operations.{hold_in}
-use Rattle.lock_model.specs.Queues.{lock_queue, chan_queue}
-use Rattle.lock_model.specs.Words.{Word, admits, is_plain, is_free, is_turnstile, shows_waiters}
-use Rattle.lock_model.specs.declared.plan.Kind.TheVariants.{Mtx, Rw}
-use Rattle.lock_model.specs.declared.plan.Mode.{Mode}
-use Rattle.lock_model.specs.declared.plan.Mode.TheVariants.{Excl}
-use Rattle.lock_model.specs.declared.plan.QueueName.{QueueName}
-use Rattle.lock_model.specs.declared.plan.QueueName.TheVariants.{Lock, Chan}
-use Rattle.lock_objects.specs.Represents.{RecordColumns}
-use Rattle.lock_state.specs.State.{State, Wait, NoWalk, Round, SleepHalted, is_parked}
-use Rattle.lock_state.specs.Steps.{Looks, Gains, Claims, Readies, Unreadies, Enters, TakesItem, GivesItem, seeks, is_first, is_with, FitsRound, GainsFromLook, EntersFromLook, IsItem, IsOfRound, HasItem, is_halting, GoesOn, KeepsCountedOut}
-use Rattle.lock_state.specs.Steps.Turnstiles.{MustWait}
-use Rattle.lock_state.specs.Steps.Items.{Item, TurnstileChain, SleepChain, RecordOf, item_with, go_together, is_chain, is_bound, in_its_chain, IsOnItsWay, IsSettled, IsDoneWith, MayCheckOrders}
-use Rattle.lock_state.specs.Steps.LockWords.{IsActing, is_woken, is_taking_back, round_of, bound_to}
-use Rattle.thread_records.specs.declared.record.ThreadRec.{ThreadRec}
-use Rattle.turnstile_core.specs.Seen.{Turnstile}
-use Rattle.floor_table.specs.Descriptions.{config_in}
-use Rattle.floor_table.specs.declared.description.Description.{Description}
-use Rattle.floor_table.specs.declared.slot.Slot.{Slot}
-use Rattle.floor_table.specs.declared.slot.Slot.TheVariants.{Record, Cell, Turnstiles, SleepQueues, Graph}
-use Rattle.floor_table.specs.Represents.{IsOf, IsPosed, objects_in}
-use Rattle.floor_table.specs.Shelves.{found}
-use Rattle.floor_table.specs.Steps.{Fits, MayMake}
-use Rattle.floor_table.specs.Views.{Pose, Runs, IsReady, StandsOn, is_off_queues, Knowledge}
-use Rattle.floor_table.proofs.Items.{one_place}
-use Rattle.floor_table.proofs.Poses.{stands_nowhere}
-use Rattle.floor_table.proofs.Shelved.{found_first, found_later}
-use Rattle.lock_floor.specs.Passes.{IsGoing, IsOffTheWay}
-use Rattle.lock_floor.specs.Latches.{IsOfKind, Takes}
-use Rattle.lock_floor.specs.Views.{counts, took}
-use Rattle.lock_floor.specs.Waits.{its_chain, chain_place}
+use Rattle.floor_table.specs.Views.{IsReady}
 use Rattle.lock_floor.proofs.ChainPlaces.{chain_at}
 use Rattle.lock_floor.proofs.May.{keeps_own_out, IsOrderedTake, IsUnhalted, WantsItsRound, holds_it, doing_it, counts_it, own_log, column, in_wanted_round, gains_in_order, settled_now, not_away_settled, awake_now, stamped_now, owes_settled, goes_on}
 use Rattle.lock_floor.proofs.Taking.{record_at}

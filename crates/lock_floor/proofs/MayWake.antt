@@ -1,50 +1,20 @@
 -- What a thread's seat knows allows the steps by which it runs again, and by which it wakes others.
-use Rattle.std.proofs.Common.{◌≡◌, ◌≢◌, ◌⊎◌, ℕ, ◌<◌, true, false, Option, Some, None, List, [], ◌∷◌, map, length, refl, sym, ap, ◌∙◌, subst, inl, inr}
-use Rattle.std.specs.List.{All}
-use Rattle.std.proofs.lemmas.List.Elements.{All-head, All-map}
-use Rattle.std.proofs.lemmas.Option.{same_Some}
-use Rattle.lock_laws.proofs.Standing.{marked_named}
-use Rattle.atomic_table.specs.Table.{rest}
-use Rattle.lock_model.specs.Config.{Config}
-use Rattle.lock_model.specs.History.{open_in}
-use Rattle.lock_model.specs.Holds.{NotHeld, Holds}
-use Rattle.lock_model.specs.Operations.{hold_in}
-use Rattle.lock_model.specs.Queues.{Mark, lock_queue, chan_queue}
-use Rattle.lock_model.specs.Words.{Word, is_free, is_turnstile, shows_waiters, without_one}
-use Rattle.lock_model.specs.declared.plan.Mode.{Mode}
-use Rattle.lock_model.specs.declared.plan.QueueName.{QueueName}
-use Rattle.lock_model.specs.declared.plan.QueueName.TheVariants.{Lock, Chan}
-use Rattle.lock_objects.specs.Represents.{mark_of}
-use Rattle.lock_state.specs.Facts.{Lawful, StandingIsQueued}
-use Rattle.lock_state.specs.State.{State, Round, Running, Queued, Woken, NoWalk, Phase, Awake, Asleep, Last, Halting, Aborting, SelfAborted, is_parked}
+use Rattle.lock_floor.proofs.Names
+use Names.{ℕ, true, false, Option, Some, None, List, [], map, length, refl, sym, ap, subst, inl, inr, All, All-head}
+use Names.{All-map, same_Some, marked_named, rest, Config, open_in, NotHeld, Holds, hold_in, Mark, lock_queue}
+use Names.{chan_queue, Word, is_free, is_turnstile, shows_waiters, without_one, Mode, QueueName, Lock, Chan, mark_of}
+use Names.{Lawful, StandingIsQueued, State, Round, Running, Queued, Woken, NoWalk, Phase, Awake, Asleep, Last, Halting}
+use Names.{Aborting, SelfAborted, is_parked, Marks, CountsIn, CountsOut, TakesItem, IsOfRound, IsBackFrom, IsAtResume}
+use Names.{IsCountedIn, GoesOnOrHalts, is_halting, RecordOf, is_taking_back, HasReleased, IsLastHolder, Place}
+use Names.{config_in, Description, Fits, MayMake, Knowledge, Runs, StandsOn, Slot, Record, Turnstiles, SleepQueues}
+use Names.{found_first, IsPosed, is_among, found, CanMark, HasFirstOut, MayWakeOthers, HasBothOut, MayOpenUp, IsGoing}
+use Names.{IsOffTheWay, MayGiveUp, MayRunAgain, MayOpenSleepers, HasSleeperOut, arith}
+use Rattle.std.proofs.Common.{◌≡◌, ◌≢◌, ◌⊎◌, ◌<◌, ◌∷◌, ◌∙◌}
 use Rattle.lock_state.specs.Steps.Counting.{IsFirst}
-use Rattle.lock_state.specs.Steps.{Marks, CountsIn, CountsOut, TakesItem, IsOfRound, IsBackFrom, IsAtResume, IsCountedIn, GoesOnOrHalts, is_halting}
-use Rattle.lock_state.specs.Steps.Items.{RecordOf}
-use Rattle.lock_state.specs.Steps.LockWords.{is_taking_back}
-use Rattle.lock_state.specs.Steps.Turnstiles.{HasReleased, IsLastHolder}
-use Rattle.sleep_queues.specs.Seen.{Place}
-use Rattle.floor_table.specs.Descriptions.{config_in}
-use Rattle.floor_table.specs.declared.description.Description.{Description}
-use Rattle.floor_table.specs.Steps.{Fits, MayMake}
-use Rattle.floor_table.specs.Views.{Knowledge, Runs, StandsOn}
-use Rattle.floor_table.specs.declared.slot.Slot.{Slot}
-use Rattle.floor_table.specs.declared.slot.Slot.TheVariants.{Record, Turnstiles, SleepQueues}
-use Rattle.floor_table.proofs.Shelved.{found_first}
-use Rattle.floor_table.specs.Represents.{IsPosed}
-use Rattle.floor_table.specs.Shares.{is_among}
-use Rattle.floor_table.specs.Shelves.{found}
-use Rattle.lock_floor.specs.Marks.{CanMark, HasFirstOut, MayWakeOthers}
-use Rattle.lock_floor.specs.Opens.{HasBothOut, MayOpenUp}
-use Rattle.lock_floor.specs.Passes.{IsGoing, IsOffTheWay}
-use Rattle.lock_floor.specs.Relocks.{MayGiveUp}
-use Rattle.lock_floor.specs.Resumes.{MayRunAgain}
-use Rattle.lock_floor.specs.SleepLocks.{MayOpenSleepers}
-use Rattle.lock_floor.specs.Sleeps.{HasSleeperOut}
 use Rattle.lock_floor.proofs.BothOut.{own_there, chain_there}
 use Rattle.lock_floor.proofs.May.{column, doing_it, holds_it, own_log, is_acting, goes_on_settled, nothing_with, awake_now, not_away_settled, owes_settled}
 use Rattle.lock_floor.proofs.MarkStep.{standing_pose}
 use Rattle.lock_floor.proofs.Taking.{record_at}
-use Rattle.std.proofs.Common.{arith}
 
 -- a thread that stands on a channel's queue is in a wait, and has released the lock of its wait
 abbrev pub HasLeft : Config → Knowledge → QueueName → Type 0

@@ -1,35 +1,12 @@
 -- What the call that releases a lock with waiters needs of its parts, and what it was told.
-use Rattle.std.proofs.Common.{◌≡◌, ℕ, ◌≤◌, Bool, true, false, cond, Option, None, Some, List, [], ◌∷◌, refl, sym, ap, ◌∙◌, subst, vec_capacity}
-use Rattle.std.proofs.lemmas.Option.{same_Some}
-use Rattle.std.specs.Box.{with_value}
-use Rattle.std.specs.Global.{Vec}
-use Rattle.std.specs.declared.alloc.Global.{Global}
-use Rattle.std.specs.declared.boxed.Box.{Box}
-use Rattle.atomic_table.specs.Table.{Me}
-use Rattle.chain_table.specs.Chains.{head_of}
-use Rattle.lock_history.specs.Books.{Book}
-use Rattle.lock_model.specs.Operations.{without_lock}
-use Rattle.lock_model.specs.Queues.{lock_queue}
-use Rattle.lock_model.specs.Words.{Word, word_of, is_drop, is_turnstile, side_woken, side_opened}
-use Rattle.lock_model.specs.declared.event.Held.{Held}
-use Rattle.lock_model.specs.declared.plan.Kind.{Kind}
-use Rattle.lock_model.specs.declared.plan.QueueName.{QueueName}
-use Rattle.lock_model.specs.declared.plan.Side.{Side}
-use Rattle.lock_objects.specs.Opens.{CanOpen, record_opened, chain_opened, woken_of}
-use Rattle.lock_objects.specs.declared.marked.Marked.{Marked}
-use Rattle.lock_objects.specs.declared.marked.Marked.TheVariants.{Waiters}
-use Rattle.lock_state.specs.Steps.{Opens}
-use Rattle.thread_records.specs.declared.record.ThreadRec.{ThreadRec}
-use Rattle.turnstile_core.specs.Seen.{Place, Turnstile}
-use Rattle.floor_table.specs.Descriptions.{config_in}
-use Rattle.floor_table.specs.Views.{Knowledge}
-use Rattle.floor_table.specs.declared.description.Description.{Description}
-use Rattle.floor_table.specs.declared.slot.Slot.{Slot}
-use Rattle.floor_table.specs.declared.slot.Slot.TheVariants.{Record, Turnstiles}
-use Rattle.lock_floor.specs.Marks.{AreMarked}
-use Rattle.lock_floor.specs.Opens.{OpensUp, marks_opened, opened_up, out_opened}
-use Rattle.lock_floor.specs.Ties.{IsTied}
-use Rattle.lock_floor.specs.Waits.{chain_place}
+use Rattle.lock_floor.proofs.Names
+use Names.{ℕ, Bool, true, false, cond, Option, None, Some, List, [], refl, sym, ap, subst, vec_capacity, same_Some}
+use Names.{with_value, Vec, Global, Box, Me, head_of, Book, without_lock, lock_queue, Word, word_of, is_drop}
+use Names.{is_turnstile, side_woken, side_opened, Held, Kind, QueueName, Side, CanOpen, record_opened, chain_opened}
+use Names.{woken_of, Marked, Waiters, Opens, ThreadRec, Turnstile, config_in, Knowledge, Description, Slot, Record}
+use Names.{Turnstiles, AreMarked, OpensUp, marks_opened, opened_up, out_opened, IsTied, chain_place}
+use Rattle.std.proofs.Common.{◌≡◌, ◌≤◌, ◌∷◌, ◌∙◌}
+use Rattle.turnstile_core.specs.Seen.{Place}
 use Rattle.lock_floor.proofs.BothChanged.{out_before, worked}
 use Rattle.lock_floor.proofs.OpenStep.{Opened, OpensWord}
 use Rattle.lock_floor.proofs.Opened.{last_shown}

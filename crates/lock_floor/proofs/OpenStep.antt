@@ -1,60 +1,26 @@
 -- An open: an exchange of a lock's word by which its last holder releases it and takes those of a side off its
 -- turnstile. The thread's record and the chain of the lock's queue, which it has out, are then what the work on them
 -- will make of them: what was lent goes home with it.
-use Rattle.std.proofs.Common.{◌≡◌, ◌≢◌, ℕ, zero, suc, ◌<◌, ◌≤◌, ◌%◌, eqb, eq-eqb, Bool, true, false, cond, Option, Some, None, List, [], ◌∷◌, length, get_or, refl, sym, ap, ◌∙◌, subst, arith}
-use Rattle.std.specs.List.{All}
-use Rattle.std.specs.Prelude.{IsSome, IsSomeAnd}
-use Rattle.std.specs.Box.{with_value}
-use Rattle.std.specs.declared.alloc.Global.{Global}
-use Rattle.std.specs.declared.boxed.Box.{Box}
+use Rattle.lock_floor.proofs.Names
+use Names.{ℕ, zero, suc, eqb, eq-eqb, Bool, true, false, cond, Option, Some, None, List, [], length, get_or, refl, sym}
+use Names.{ap, subst, arith, All, IsSomeAnd, with_value, Global, Box, Me, keeps, Allows, head_of, without, put_same}
+use Names.{put_other, put_at_other, put_at_row, put_queue_other, is_queue_same, gained_order-without, times_named}
+use Names.{Config, is_empty, NotHeld, hold_in, without_lock, Mark, lock_queue, word_of, side_woken, is_turnstile, Mode}
+use Names.{QueueName, Side, RepresentsRecord, RepresentsQueue, RepresentsHead, record_in, queue_in, CanOpen, CanRelease}
+use Names.{record_opened, chain_opened, left_open, woken_of, is_queue-other, apart_once, once_without, column_without}
+use Names.{can_release, can_open_there, record_shown, marks_shown, stays, gone, Lawful, OnlyThreadsStand, times_marked}
+use Names.{State, gained_order, put, Step, Looks, Opens, Item, TurnstileChain, SleepChain, RecordOf, CellOf, ClassGraph}
+use Names.{without_held, after_open, ThreadRec, Turnstile, config_in, Description, Slot, Turnstiles, spot, lock_line}
+use Names.{lock_word, Board, RepresentsTurnstiles, RepresentsShare, objects_in, sleepers, FloorHolds, ShareColumns}
+use Names.{columns_of, share_in, found, IsSound, MayMake, Makes, Knowledge, OfThread, seeing, Finds, Steps}
+use Names.{exchange_allows, OwnSteps, SaySame, one_own, sound_kept, HasBothOut, out_opened, marks_opened, opened_up}
+use Names.{counts}
+use Rattle.std.proofs.Common.{◌≡◌, ◌≢◌, ◌<◌, ◌≤◌, ◌%◌, ◌∷◌, ◌∙◌}
+use Rattle.std.specs.Prelude.{IsSome}
 use prog.Atomic.{either}
-use Rattle.atomic_table.specs.Table.{Me, keeps, Allows}
-use Rattle.chain_table.specs.Chains.{head_of, without}
-use Rattle.lock_laws.proofs.Kit.{put_same, put_other, put_at_other, put_at_row, put_queue_other, is_queue_same}
-use Rattle.lock_laws.proofs.HeldLists.{gained_order-without}
-use Rattle.lock_laws.proofs.Standing.{times_named}
-use Rattle.lock_model.specs.Config.{Config}
-use Rattle.lock_model.specs.Counts.{is_empty}
-use Rattle.lock_model.specs.Holds.{NotHeld}
-use Rattle.lock_model.specs.Operations.{hold_in, without_lock}
-use Rattle.lock_model.specs.Queues.{Mark, lock_queue}
 use Rattle.lock_model.specs.Words as words
-use Rattle.lock_model.specs.Words.{word_of, side_woken, is_turnstile}
-use Rattle.lock_model.specs.declared.plan.Mode.{Mode}
-use Rattle.lock_model.specs.declared.plan.QueueName.{QueueName}
-use Rattle.lock_model.specs.declared.plan.Side.{Side}
-use Rattle.lock_objects.specs.Represents.{RepresentsRecord, RepresentsQueue, RepresentsHead, record_in, queue_in}
-use Rattle.lock_objects.specs.Opens.{CanOpen, CanRelease, record_opened, chain_opened, left_open, woken_of}
-use Rattle.lock_objects.proofs.Chains.{is_queue-other}
-use Rattle.lock_objects.proofs.Held.{apart_once, once_without, column_without}
-use Rattle.lock_objects.proofs.Opens.{can_release, can_open_there, record_shown, marks_shown, others, stays, gone}
-use Rattle.lock_state.specs.Facts.{Lawful, OnlyThreadsStand}
-use Rattle.lock_state.specs.Facts.Waits.{times_marked}
-use Rattle.lock_state.specs.State.{State, gained_order, put}
-use Rattle.lock_state.specs.Steps.{Step, Looks, Opens}
-use Rattle.lock_state.specs.Steps.Items.{Item, TurnstileChain, SleepChain, RecordOf, CellOf, ClassGraph}
-use Rattle.lock_state.specs.Steps.LockWords.{without_held}
-use Rattle.lock_state.specs.Steps.Turnstiles.{after_open}
-use Rattle.thread_records.specs.declared.record.ThreadRec.{ThreadRec}
-use Rattle.turnstile_core.specs.Seen.{Turnstile}
+use Rattle.lock_objects.proofs.Opens.{others}
 use Rattle.turnstile_core.specs.Changes.{all_waiters}
-use Rattle.floor_table.specs.Descriptions.{config_in}
-use Rattle.floor_table.specs.declared.description.Description.{Description}
-use Rattle.floor_table.specs.declared.slot.Slot.{Slot}
-use Rattle.floor_table.specs.declared.slot.Slot.TheVariants.{Turnstiles}
-use Rattle.floor_table.specs.Places.{spot, lock_line, lock_word}
-use Rattle.floor_table.specs.Represents.{Board, RepresentsTurnstiles, RepresentsShare, objects_in, sleepers}
-use Rattle.floor_table.specs.Rule.{FloorHolds}
-use Rattle.floor_table.specs.Shares.{ShareColumns, columns_of, share_in}
-use Rattle.floor_table.specs.Shelves.{found}
-use Rattle.floor_table.specs.Steps.{IsSound, MayMake, Makes}
-use Rattle.floor_table.specs.Views.{Knowledge, OfThread, seeing}
-use Rattle.floor_table.proofs.Made.{Finds, Steps, exchange_allows, OwnSteps}
-use Rattle.floor_table.proofs.Objects.{SaySame}
-use Rattle.floor_table.proofs.Seen.{one_own}
-use Rattle.floor_table.proofs.Sound.{sound_kept}
-use Rattle.lock_floor.specs.Opens.{HasBothOut, out_opened, marks_opened, opened_up}
-use Rattle.lock_floor.specs.Views.{counts}
 use Rattle.lock_floor.proofs.BothChanged.{record_says, chain_says, both_made}
 use Rattle.lock_floor.proofs.ChainChanges.{chain_of_lock, its_own, turnstiles_same, sleepers_same, chain_placed, chain_gone}
 use Rattle.lock_floor.proofs.Looking.{Looked, looks, found_word}

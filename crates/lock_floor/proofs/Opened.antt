@@ -1,6 +1,6 @@
 -- What a word is whose release is an open.
-use Rattle.std.proofs.Common.{◌≡◌, Bool, true, false, not, ◌||◌, refl}
-use Rattle.lock_model.specs.Words.{Word, is_drop, is_free, shows_waiters, without_one}
+use Rattle.lock_floor.proofs.Names.{Bool, true, false, not, refl, Word, is_drop, is_free, shows_waiters, without_one}
+use Rattle.std.proofs.Common.{◌≡◌, ◌||◌}
 
 -- a word whose release is no drop has one holder left, and shows waiters
 both_off : (a b : Bool) → (not a || not b) ≡ false → (a ≡ true) × (b ≡ true)

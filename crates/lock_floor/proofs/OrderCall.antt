@@ -1,47 +1,18 @@
 -- What the call that checks the order of a lock needs of its parts, and what it was told.
-use Rattle.std.proofs.Common.{◌≡◌, ℕ, ◌<◌, Bool, false, List, [], ◌∷◌, length, map, Option, Some, None, refl, sym, ap, ◌∙◌, subst, eqb, eq-eqb, inl, inr}
-use Rattle.std.specs.Box.{with_value}
-use Rattle.std.specs.Global.{Vec}
-use Rattle.std.specs.List.{All}
-use Rattle.std.specs.declared.alloc.Global.{Global}
-use Rattle.std.specs.declared.boxed.Box.{Box}
-use Rattle.std.proofs.lemmas.Bool.{cases_Bool}
-use Rattle.std.proofs.lemmas.List.Elements.{All-nil, All-cons, All-head, All-tail}
-use Rattle.atomic_table.specs.Table.{Me, rest, Allows}
-use Rattle.lock_history.specs.Books.{Book}
-use Rattle.lock_model.specs.Holds.{Holds}
-use Rattle.lock_model.specs.Operations.{hold_in}
-use Rattle.lock_model.specs.declared.event.Held.{Held}
-use Rattle.lock_model.specs.declared.numbers.ClassNo.{ClassNo}
-use Rattle.lock_model.specs.declared.plan.Mode.{Mode}
-use Rattle.lock_objects.specs.declared.marked.Marked.{Marked}
-use Rattle.lock_state.specs.Facts.{OnlyLocksAreHeld}
-use Rattle.lock_state.specs.State.{State}
-use Rattle.lock_state.specs.Steps.{TakesItem}
-use Rattle.lock_state.specs.Steps.Items.{ClassGraph, after_take}
+use Rattle.lock_floor.proofs.Names
+use Names.{ℕ, Bool, false, List, [], length, map, Option, Some, None, refl, sym, ap, subst, eqb, eq-eqb, inl, inr}
+use Names.{with_value, Vec, All, Global, Box, cases_Bool, All-nil, All-cons, All-head, All-tail, Me, rest, Allows, Book}
+use Names.{Holds, hold_in, Held, ClassNo, Mode, Marked, OnlyLocksAreHeld, State, TakesItem, ClassGraph, after_take}
+use Names.{RepresentsGraph, numbers_of, Orders, config_in, Description, Slot, Record, Cell, Turnstiles, SleepQueues}
+use Names.{Graph, spot, latch_line, latch_word, home_at, graph_place, thread_in, FloorHolds, found, HasJust, Makes}
+use Names.{MayMake, Knowledge, OfThread, seeing, has_just, found_first, IsOfKind, Takes, MayOrder, HasGraph, IsVerdict}
+use Names.{settles, settled, Settles, ChecksOrder, IsTied, arith}
+use Rattle.std.proofs.Common.{◌≡◌, ◌<◌, ◌∷◌, ◌∙◌}
 use Rattle.witness_orders.specs.Graph as orders
-use Rattle.witness_orders.specs.Graph.{RepresentsGraph, numbers_of}
-use Rattle.witness_orders.specs.declared.orders.Orders.{Orders}
-use Rattle.floor_table.specs.Descriptions.{config_in}
-use Rattle.floor_table.specs.declared.description.Description.{Description}
-use Rattle.floor_table.specs.declared.slot.Slot.{Slot}
-use Rattle.floor_table.specs.declared.slot.Slot.TheVariants.{Record, Cell, Turnstiles, SleepQueues, Graph}
-use Rattle.floor_table.specs.Places.{spot, latch_line, latch_word, home_at, graph_place}
-use Rattle.floor_table.specs.Represents.{thread_in}
-use Rattle.floor_table.specs.Rule.{FloorHolds}
-use Rattle.floor_table.specs.Shelves.{found}
-use Rattle.floor_table.specs.Steps.{HasJust, Makes, MayMake}
-use Rattle.floor_table.specs.Views.{Knowledge, OfThread, seeing}
-use Rattle.floor_table.proofs.Items.{has_just}
-use Rattle.floor_table.proofs.Shelved.{found_first}
-use Rattle.lock_floor.specs.Latches.{IsOfKind, Takes}
-use Rattle.lock_floor.specs.Ordering.{MayOrder, HasGraph, IsVerdict, settles, settled, Settles, ChecksOrder}
-use Rattle.lock_floor.specs.Ties.{IsTied}
 use Rattle.lock_floor.proofs.Finding.{held_then}
 use Rattle.lock_floor.proofs.May.{may_take}
 use Rattle.lock_floor.proofs.OrderStep.{SettledGraph, settle_allowed}
 use Rattle.lock_floor.proofs.Tied.{tied_on}
-use Rattle.std.proofs.Common.{arith}
 
 -- 1. Held locks, and their classes
 

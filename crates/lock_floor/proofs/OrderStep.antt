@@ -1,42 +1,19 @@
 -- The class graph goes home with the lock of a blocking call admitted, or refused. The work on the graph is done first,
 -- where nobody else can see it.
-use Rattle.std.proofs.Common.{◌≡◌, ◌≢◌, ℕ, ◌<◌, List, [], ◌∷◌, ◌++◌, length, map, reverse, Option, Some, None, refl, sym, ap, ◌∙◌, subst}
-use Rattle.std.specs.Box.{with_value}
-use Rattle.std.proofs.lemmas.List.{reverse-append, reverse-reverse, map-append}
-use Rattle.atomic_table.specs.Table.{Me, gives, rest, Allows}
-use Rattle.lock_laws.proofs.Kit.{put_same, put_other}
-use Rattle.lock_model.specs.Config.{Config}
-use Rattle.lock_model.specs.Orders.{IsAdmitted, IsFirstToForbid, edges_behind}
-use Rattle.lock_model.proofs.Orders.{same_admitted, same_first}
-use Rattle.lock_model.specs.declared.event.Held.{Held}
-use Rattle.lock_state.specs.State.{State, HeldLock, OrderRefused, gained_order, put}
-use Rattle.lock_state.specs.Steps.{Step, Admits, Refuses, HasItem, ChecksOutsideRounds}
-use Rattle.lock_state.specs.Steps.Items.{Item, TurnstileChain, SleepChain, RecordOf, CellOf, ClassGraph}
-use Rattle.lock_state.specs.Steps.LockWords.{is_taking_back}
-use Rattle.lock_state.specs.Steps.Orders.{IsFreeToTake, held_classes, classes_held, after_admit, after_refuse}
+use Rattle.lock_floor.proofs.Names
+use Names.{ℕ, List, [], length, map, reverse, Option, Some, None, refl, sym, ap, subst, with_value, reverse-append}
+use Names.{reverse-reverse, map-append, Me, gives, rest, Allows, put_same, put_other, Config, IsAdmitted}
+use Names.{IsFirstToForbid, edges_behind, same_admitted, same_first, Held, State, HeldLock, OrderRefused, gained_order}
+use Names.{put, Step, Admits, Refuses, HasItem, ChecksOutsideRounds, Item, TurnstileChain, SleepChain, RecordOf, CellOf}
+use Names.{ClassGraph, is_taking_back, IsFreeToTake, held_classes, classes_held, after_admit, after_refuse}
+use Names.{RepresentsGraph, graph_behind, config_in, Description, Slot, Graph, IsAllowed, spot, latch_line, latch_word}
+use Names.{graph_place, Board, Objects, IsPosed, RepresentsObjects, RepresentsShare, objects_in, FloorHolds, columns_of}
+use Names.{share_in, found, Fits, Makes, Knowledge, OfThread, seeing, Finds, Steps, allows, give_made_with, OwnSteps}
+use Names.{SaySame, one_own, found_first, MayOrder, HasGraph, IsVerdict, settles, settled, arith}
+use Rattle.std.proofs.Common.{◌≡◌, ◌≢◌, ◌<◌, ◌∷◌, ◌++◌, ◌∙◌}
 use Rattle.witness_orders.specs.Graph as orders
-use Rattle.witness_orders.specs.Graph.{RepresentsGraph}
-use Rattle.witness_orders.proofs.Columns.{graph_behind}
-use Rattle.floor_table.specs.Descriptions.{config_in}
-use Rattle.floor_table.specs.declared.description.Description.{Description}
-use Rattle.floor_table.specs.declared.slot.Slot.{Slot}
-use Rattle.floor_table.specs.declared.slot.Slot.TheVariants.{Graph}
-use Rattle.floor_table.specs.Past.{IsAllowed}
-use Rattle.floor_table.specs.Places.{spot, latch_line, latch_word, graph_place}
-use Rattle.floor_table.specs.Represents.{Board, Objects, IsPosed, RepresentsObjects, RepresentsShare, objects_in}
-use Rattle.floor_table.specs.Rule.{FloorHolds}
-use Rattle.floor_table.specs.Shares.{columns_of, share_in}
-use Rattle.floor_table.specs.Shelves.{found}
-use Rattle.floor_table.specs.Steps.{Fits, Makes}
-use Rattle.floor_table.specs.Views.{Knowledge, OfThread, seeing}
-use Rattle.floor_table.proofs.Made.{Finds, Steps, allows, give_made_with, OwnSteps}
-use Rattle.floor_table.proofs.Objects.{SaySame}
-use Rattle.floor_table.proofs.Seen.{one_own}
-use Rattle.floor_table.proofs.Shelved.{found_first}
-use Rattle.lock_floor.specs.Ordering.{MayOrder, HasGraph, IsVerdict, settles, settled}
 use Rattle.lock_floor.proofs.Changing.{OnlyChanges, object_changed}
 use Rattle.lock_floor.proofs.May.{column, doing_it, holds_it, own_log, goes_on}
-use Rattle.std.proofs.Common.{arith}
 
 -- 1. The classes of held locks
 

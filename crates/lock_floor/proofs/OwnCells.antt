@@ -1,12 +1,8 @@
 -- Whether a cell is one of the floor's shows by the key that the floor has for its place.
-use Rattle.std.proofs.Common.{◌≡◌, ℕ, ◌+◌, ◌-◌, ◌<◌, ◌≤◌, true, nat_eq, length, get_or, Some, sym, ap, ◌∙◌, subst, arith, eq-eqb}
+use Rattle.lock_floor.proofs.Names.{ℕ, true, nat_eq, length, get_or, Some, sym, ap, subst, arith, eq-eqb, eqb-true}
+use Rattle.lock_floor.proofs.Names.{CellOf, IsSized, Description, slot_of, cell_place}
+use Rattle.std.proofs.Common.{◌≡◌, ◌+◌, ◌-◌, ◌<◌, ◌≤◌, ◌∙◌}
 use Rattle.std.specs.Prelude.{◌↔◌}
-use Rattle.std.proofs.lemmas.Bool.{eqb-true}
-use Rattle.lock_state.specs.Steps.Items.{CellOf}
-use Rattle.floor_table.specs.Descriptions.{IsSized}
-use Rattle.floor_table.specs.declared.description.Description.{Description}
-use Rattle.floor_table.specs.Places.{slot_of}
-use Rattle.floor_table.proofs.Items.{cell_place}
 use Rattle.lock_floor.proofs.CellPlaces.{cell_at}
 
 module _ (floor : Description) (sized : IsSized floor) (l key slot first : ℕ) (at : ℕ × ℕ)

@@ -1,24 +1,12 @@
 -- What a thread finds in its own record, where its seat knows that it stands on no queue.
-use Rattle.std.proofs.Common.{◌≡◌, ℕ, suc, ◌<◌, true, length, None, sym, ap, ◌∙◌, subst, inl, inr, arith}
-use Rattle.std.proofs.lemmas.Bool.{cases_lt}
+use Rattle.lock_floor.proofs.Names
+use Names.{ℕ, suc, true, length, None, sym, ap, subst, inl, inr, arith, cases_lt, Global, Box, State, RecordOf}
+use Names.{after_take, RecordColumns, RepresentsRecord, record_in, ThreadRec, config_in, Description, Record, IsPosed}
+use Names.{IsOf, objects_in, thread_in, found, OfThread, OfNobody, is_off_queues, Knowledge, nothing, or_past}
+use Names.{stands_nowhere, has_turnstile, has_sleep_queue, found_first, Takes}
+use Rattle.std.proofs.Common.{◌≡◌, ◌<◌, ◌∙◌}
 use Rattle.std.specs.Option.{IsSome}
-use Rattle.std.specs.declared.alloc.Global.{Global}
-use Rattle.std.specs.declared.boxed.Box.{Box}
 use mathlib.Core.Option.{some}
-use Rattle.lock_state.specs.State.{State}
-use Rattle.lock_state.specs.Steps.Items.{RecordOf, after_take}
-use Rattle.lock_objects.specs.Represents.{RecordColumns, RepresentsRecord, record_in}
-use Rattle.thread_records.specs.declared.record.ThreadRec.{ThreadRec}
-use Rattle.floor_table.specs.Descriptions.{config_in}
-use Rattle.floor_table.specs.declared.description.Description.{Description}
-use Rattle.floor_table.specs.declared.slot.Slot.TheVariants.{Record}
-use Rattle.floor_table.specs.Represents.{IsPosed, IsOf, objects_in, thread_in}
-use Rattle.floor_table.specs.Shelves.{found}
-use Rattle.floor_table.specs.Views.{OfThread, OfNobody, is_off_queues, Knowledge, nothing}
-use Rattle.floor_table.proofs.Lists.{or_past}
-use Rattle.floor_table.proofs.Poses.{stands_nowhere, has_turnstile, has_sleep_queue}
-use Rattle.floor_table.proofs.Shelved.{found_first}
-use Rattle.lock_floor.specs.Latches.{Takes}
 use Rattle.lock_floor.proofs.Taking.{record_at}
 
 module _ (floor : Description) (old new : Knowledge) (b : Box ThreadRec Global)

@@ -1,33 +1,14 @@
 -- A thread that has its own record out: the record says what the columns say, so the thread may show its priorities,
 -- and change its base.
-use Rattle.std.proofs.Common.{◌≡◌, ℕ, ◌<◌, Bool, None, Some, [], ◌∷◌, length, refl, sym, ap, ◌∙◌, subst}
-use Rattle.std.specs.Global.{Vec}
-use Rattle.std.specs.declared.alloc.Global.{Global}
-use Rattle.std.specs.declared.boxed.Box.{Box}
-use Rattle.atomic_table.specs.Table.{Me, rest}
-use Rattle.lock_history.specs.Books.{Book}
-use Rattle.lock_model.specs.declared.event.Event.TheVariants.{Base, Shown}
-use Rattle.lock_model.specs.declared.event.Held.{Held}
-use Rattle.lock_model.specs.declared.numbers.Prio.{Prio}
-use Rattle.lock_objects.specs.Represents.{RecordColumns, RepresentsRecord, record_in}
-use Rattle.lock_state.specs.State.{State}
-use Rattle.lock_state.specs.Steps.{TakesItem, Stamps, HasItem}
-use Rattle.lock_state.specs.Steps.Items.{RecordOf}
-use Rattle.thread_records.specs.declared.record.ThreadRec.{ThreadRec}
-use Rattle.floor_table.specs.declared.description.Description.{Description}
-use Rattle.floor_table.specs.declared.slot.Slot.{Slot}
-use Rattle.floor_table.specs.declared.slot.Slot.TheVariants.{Record, Cell, Turnstiles, SleepQueues, Graph}
-use Rattle.floor_table.specs.Places.{slot_of}
-use Rattle.floor_table.specs.Steps.{Fits, MayMake}
-use Rattle.floor_table.specs.Views.{Knowledge}
-use Rattle.lock_floor.specs.Passes.{IsAtRest}
-use Rattle.lock_objects.specs.declared.marked.Marked.{Marked}
-use Rattle.lock_floor.specs.Ties.{IsTied}
-use Rattle.lock_floor.specs.Latches.{IsOfKind, Takes}
+use Rattle.lock_floor.proofs.Names
+use Names.{ℕ, Bool, None, Some, [], length, refl, sym, ap, subst, Vec, Global, Box, Me, rest, Book, Base, Shown, Held}
+use Names.{Prio, RecordColumns, RepresentsRecord, record_in, State, TakesItem, Stamps, HasItem, RecordOf, ThreadRec}
+use Names.{Description, Slot, Record, Cell, Turnstiles, SleepQueues, Graph, slot_of, Fits, MayMake, Knowledge, IsAtRest}
+use Names.{Marked, IsTied, IsOfKind, Takes, arith}
+use Rattle.std.proofs.Common.{◌≡◌, ◌<◌, ◌∷◌, ◌∙◌}
 use Rattle.lock_floor.proofs.May.{may_take, says_its}
 use Rattle.lock_floor.proofs.Resting.{open_as_held, may_note, rest_with}
 use Rattle.lock_floor.proofs.Taking.{record_at}
-use Rattle.std.proofs.Common.{arith}
 
 -- the place of a thread's own record
 pub own_place : (floor : Description) (v : Knowledge) (me : Me Slot Knowledge) (who : ℕ) (locks : Vec Held)

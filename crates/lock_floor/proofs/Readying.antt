@@ -1,25 +1,11 @@
 -- A thread is made ready for a queue, or runs again: its own wait word says so.
-use Rattle.std.proofs.Common.{◌≡◌, ◌≢◌, ℕ, Bool, true, false, cond, List, [], ◌∷◌, refl, sym, subst}
-use Rattle.std.specs.Prelude.{slice_index}
-use Rattle.atomic_table.specs.Table.{Me, keeps, Allows}
-use Rattle.lock_laws.proofs.Kit.{put_same, put_other}
-use Rattle.lock_model.specs.declared.plan.QueueName.{QueueName}
-use Rattle.lock_state.specs.State.{State, Wait, Running, Queued, put}
-use Rattle.lock_state.specs.Steps.{Step}
-use Rattle.lock_state.specs.Steps.LockWords.{after_ready, after_unready}
-use Rattle.floor_table.specs.Descriptions.{config_in}
-use Rattle.floor_table.specs.declared.description.Description.{Description}
-use Rattle.floor_table.specs.declared.slot.Slot.{Slot}
-use Rattle.floor_table.specs.Places.{spot, wait_line, latch_word, slots_for, home_at}
-use Rattle.floor_table.specs.Represents.{Board, IsPosed}
-use Rattle.floor_table.specs.Rule.{FloorHolds}
-use Rattle.floor_table.specs.Shelves.{Shelves}
-use Rattle.floor_table.specs.Steps.{MayMake, FitAll, Makes}
-use Rattle.floor_table.specs.Views.{Knowledge, OfThread, Pose, Runs, seeing}
-use Rattle.floor_table.proofs.Made.{Finds, Steps, allows, wait_made, outs_stay, OwnSteps}
-use Rattle.floor_table.proofs.Poses.{stands_nowhere}
-use Rattle.floor_table.proofs.Seen.{one_own}
-use Rattle.lock_floor.specs.Waits.{readies, readied}
+use Rattle.lock_floor.proofs.Names
+use Names.{ℕ, Bool, true, false, cond, List, [], refl, sym, subst, slice_index, Me, keeps, Allows, put_same, put_other}
+use Names.{QueueName, State, Wait, Running, Queued, put, Step, after_ready, after_unready, config_in, Description, Slot}
+use Names.{spot, wait_line, latch_word, slots_for, home_at, Board, IsPosed, FloorHolds, Shelves, MayMake, FitAll, Makes}
+use Names.{Knowledge, OfThread, Pose, Runs, seeing, Finds, Steps, allows, wait_made, outs_stay, OwnSteps}
+use Names.{stands_nowhere, one_own, readies, readied}
+use Rattle.std.proofs.Common.{◌≡◌, ◌≢◌, ◌∷◌}
 
 -- what it tells
 abbrev pub Readied : Description → QueueName → Bool → Me Slot Knowledge → ℕ → Me Slot Knowledge → Type 0

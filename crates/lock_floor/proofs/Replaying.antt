@@ -1,28 +1,11 @@
 -- An entry takes the next ticket, and a lock's table is what the entries before it leave.
-use Rattle.std.proofs.Common.{◌≡◌, ◌≢◌, ℕ, Option, Some, [], ◌∷◌, length, refl, sym, ap, ◌∙◌, inl, inr}
-use Rattle.std.proofs.lemmas.Bool.{cases_eq}
-use Rattle.lock_laws.proofs.Derived.{tables}
-use Rattle.lock_laws.proofs.Kit.{put_same, put_at_same, put_at_other, put_at_beside}
-use Rattle.lock_model.specs.Config.{Config}
-use Rattle.lock_model.specs.History.{added, value_at}
-use Rattle.lock_model.specs.declared.event.Event.{Event}
-use Rattle.lock_model.specs.declared.event.Event.TheVariants.{Got}
-use Rattle.lock_model.specs.declared.numbers.LockNo.{LockNo}
-use Rattle.lock_state.specs.Facts.{NextIsNew}
-use Rattle.lock_state.specs.State.{State, put_at}
-use Rattle.lock_state.specs.Steps.{Stamps}
-use Rattle.lock_state.specs.Steps.LockWords.{after_stamp, entry_of, table_after}
-use Rattle.floor_table.specs.Descriptions.{config_in}
-use Rattle.floor_table.specs.declared.description.Description.{Description}
-use Rattle.floor_table.specs.Shares.{ShareColumns}
-use Rattle.floor_table.specs.Steps.{Makes}
-use Rattle.floor_table.specs.Views.{Knowledge}
-use Rattle.floor_table.proofs.Sound.{sound_kept}
-use Rattle.lock_floor.specs.declared.tables.Change.{Change}
-use Rattle.lock_floor.specs.declared.tables.Change.TheVariants.{Set, Add}
-use Rattle.lock_floor.specs.Changes.{event_of, cell_after}
-use Rattle.lock_floor.specs.Views.{entry_by}
-use Rattle.std.proofs.Common.{arith}
+use Rattle.lock_floor.proofs.Names
+use Names.{ℕ, Option, Some, [], length, refl, sym, ap, inl, inr, cases_eq, tables, put_same, put_at_same, put_at_other}
+use Names.{put_at_beside, Config, value_at, Event, Got, LockNo, NextIsNew, State, put_at, Stamps, after_stamp, entry_of}
+use Names.{table_after, config_in, Description, ShareColumns, Makes, Knowledge, sound_kept, Change, Set, Add, event_of}
+use Names.{cell_after, entry_by, arith}
+use Rattle.std.proofs.Common.{◌≡◌, ◌≢◌, ◌∷◌, ◌∙◌}
+use Rattle.lock_model.specs.History.{added}
 
 module _ (floor : Description) (e : Event) (old new : Knowledge)
     (m : Makes floor (Stamps old.thread e ∷ []) old new) where

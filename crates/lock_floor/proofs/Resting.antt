@@ -1,38 +1,18 @@
 -- A thread at rest is at rest again behind its calls: behind an entry, behind the use of an item, behind a busy try,
 -- behind a gain with its entry, and behind a release with its entry.
-use Rattle.std.proofs.Common.{◌≡◌, ◌≢◌, ℕ, ◌+◌, ◌≤◌, Bool, true, false, ◌||◌, cond, eqb, Option, None, Some, List, [], ◌∷◌, ◌++◌, refl, sym, ap, ◌∙◌, subst, inl, inr, arith, eq-eqb}
-use Rattle.std.proofs.lemmas.Bool.{cases_eq, ne_eqb}
-use Rattle.atomic_table.specs.Table.{rest}
-use Rattle.lock_laws.proofs.HeldLists.{hold_in-push}
-use Rattle.lock_laws.proofs.Sections.{own_section}
-use Rattle.lock_laws.proofs.OwnEntries.{sections_stay}
-use Rattle.lock_model.specs.Config.{Config}
-use Rattle.lock_model.specs.History.{Sections, open_in, sections_in, sections_by, replaced}
-use Rattle.lock_model.specs.Holds.{Hold, NotHeld, Holds}
-use Rattle.lock_model.specs.Operations.{hold_in, without_lock}
-use Rattle.lock_model.specs.Words.{Word}
-use Rattle.lock_model.specs.declared.event.Entry.{Entry}
-use Rattle.lock_model.specs.declared.event.Event.{Event}
-use Rattle.lock_model.specs.declared.event.Event.TheVariants.{Locked, Tried, Busy, Unlocked, Sleeps, Woke, HaltedChan, HaltedLock, WokeOne, WokeAll}
-use Rattle.lock_model.specs.declared.event.Held.{Held}
-use Rattle.lock_model.specs.declared.numbers.LockNo.{LockNo}
-use Rattle.lock_model.specs.declared.plan.Mode.{Mode}
-use Rattle.lock_state.specs.State.{State, NoWalk, Round, Wake, start_state}
-use Rattle.lock_state.specs.Steps.{Step, Stamps, GivesItem, NotesInRound, HasOutForEntry}
-use Rattle.lock_state.specs.Steps.Items.{Item, is_chain, in_its_chain, seen_after}
-use Rattle.lock_state.specs.Steps.LockWords.{Asks, is_sleep, is_taking_back, changes_sections, looks_after, round_after, taking_after, unstamped_after, after_stamp}
-use Rattle.floor_table.specs.Descriptions.{config_in}
-use Rattle.floor_table.specs.declared.description.Description.{Description}
-use Rattle.floor_table.specs.declared.slot.Slot.{Slot}
-use Rattle.floor_table.specs.Places.{slot_of}
-use Rattle.floor_table.specs.Shares.{Doing, ShareColumns, is_among}
-use Rattle.floor_table.specs.Steps.{Fits, MayMake, Makes, MakesEach}
-use Rattle.floor_table.specs.Views.{Runs, Knowledge, seeing}
-use Rattle.lock_floor.specs.Changes.{changed, last_changed, stamped_change}
-use Rattle.lock_floor.specs.Floors.{Floor, Pass}
-use Rattle.lock_floor.specs.Passes.{IsOf, IsGoing, IsAtRest, IsReady, MakesEntry, with_item}
-use Rattle.lock_floor.specs.Latches.{Takes}
-use Rattle.lock_floor.specs.Views.{looked, others, gained, put_down, begun_by, took, gave, entry_by, stamped}
+use Rattle.lock_floor.proofs.Names
+use Names.{ℕ, Bool, true, false, cond, eqb, Option, None, Some, List, [], refl, sym, ap, subst, inl, inr, arith, eq-eqb}
+use Names.{cases_eq, ne_eqb, rest, hold_in-push, own_section, sections_stay, Config, Sections, open_in, sections_in}
+use Names.{sections_by, replaced, Hold, NotHeld, Holds, hold_in, without_lock, Word, Entry, Event, Locked, Tried, Busy}
+use Names.{Unlocked, Sleeps, Woke, HaltedChan, HaltedLock, WokeOne, WokeAll, Held, LockNo, Mode, State, NoWalk, Round}
+use Names.{Wake, start_state, Step, Stamps, GivesItem, NotesInRound, HasOutForEntry, Item, is_chain, in_its_chain}
+use Names.{seen_after, Asks, is_sleep, is_taking_back, changes_sections, looks_after, round_after, taking_after}
+use Names.{unstamped_after, after_stamp, config_in, Description, Slot, slot_of, Doing, ShareColumns, is_among, Fits}
+use Names.{MayMake, Makes, MakesEach, Runs, Knowledge, seeing, changed, last_changed, stamped_change, Floor, Pass}
+use Names.{IsGoing, IsAtRest, IsReady, MakesEntry, with_item, Takes, looked, others, gained, put_down, begun_by, took}
+use Names.{gave, entry_by, stamped}
+use Rattle.std.proofs.Common.{◌≡◌, ◌≢◌, ◌+◌, ◌≤◌, ◌||◌, ◌∷◌, ◌++◌, ◌∙◌}
+use Rattle.lock_floor.specs.Passes.{IsOf}
 use Rattle.lock_floor.proofs.May.{is_record_or_cell, own_log, may_stamp, may_give}
 use Rattle.lock_floor.proofs.Shares.{among_stays}
 

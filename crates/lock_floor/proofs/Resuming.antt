@@ -1,29 +1,14 @@
 -- A thread that was woken runs again: the last bit of its own wait word is kept, which changes the word of one that was
 -- woken, and leaves that of one that is queued still.
-use Rattle.std.proofs.Common.{◌≡◌, ◌≢◌, ◌⊎◌, ℕ, bit_and, List, [], ◌∷◌, refl, sym, ap, ◌∙◌, subst, inl, inr, arith}
-use Rattle.atomic_table.specs.Table.{Me, keeps, carried_after, Allows}
-use Rattle.lock_laws.proofs.Kit.{put_same, put_other}
-use Rattle.lock_model.specs.Config.{Config}
-use Rattle.lock_model.specs.Queues.{Cause, BySignal, ByAbort}
-use Rattle.lock_model.specs.declared.plan.QueueName.{QueueName}
-use Rattle.lock_state.specs.State.{State, Wait, Running, Queued, Woken, Awake}
-use Rattle.lock_state.specs.Steps.{Step, Resumes}
-use Rattle.lock_state.specs.Steps.LockWords.{is_taking_back}
-use Rattle.lock_state.specs.Steps.Turnstiles.{after_resume, called_after, wanted_after, noted_after, taking_by, woken_from_by, round_for}
-use Rattle.floor_table.specs.Descriptions.{config_in}
-use Rattle.floor_table.specs.declared.description.Description.{Description}
-use Rattle.floor_table.specs.declared.slot.Slot.{Slot}
-use Rattle.floor_table.specs.Past.{IsSeenBy}
-use Rattle.floor_table.specs.Places.{spot, wait_line, wait_word, latch_word, slots_for, home_at}
-use Rattle.floor_table.specs.Represents.{Board, IsPosed, RepresentsShare, wait_number}
-use Rattle.floor_table.specs.Rule.{FloorHolds}
-use Rattle.floor_table.specs.Shares.{ShareColumns, columns_of, share_in}
-use Rattle.floor_table.specs.Shelves.{Shelves}
-use Rattle.floor_table.specs.Steps.{MayMake, Makes, Fits}
-use Rattle.floor_table.specs.Views.{Knowledge, OfThread, Pose, StandsOn, seeing}
-use Rattle.floor_table.proofs.Made.{Finds, Steps, allows, wait_made, none_made, sooner, outs_stay, OwnSteps}
-use Rattle.floor_table.proofs.Seen.{one_own, seen_on}
-use Rattle.lock_floor.specs.Resumes.{resumed, FindsQueued, MayRunAgain, RunsAgain}
+use Rattle.lock_floor.proofs.Names
+use Names.{ℕ, bit_and, List, [], refl, sym, ap, subst, inl, inr, arith, Me, keeps, carried_after, Allows, put_same}
+use Names.{put_other, Config, Cause, BySignal, ByAbort, QueueName, State, Wait, Running, Queued, Woken, Awake, Step}
+use Names.{Resumes, is_taking_back, after_resume, called_after, wanted_after, noted_after, taking_by, woken_from_by}
+use Names.{round_for, config_in, Description, Slot, IsSeenBy, spot, wait_line, wait_word, latch_word, slots_for}
+use Names.{home_at, Board, IsPosed, RepresentsShare, wait_number, FloorHolds, ShareColumns, columns_of, share_in}
+use Names.{Shelves, MayMake, Makes, Fits, Knowledge, OfThread, Pose, StandsOn, seeing, Finds, Steps, allows, wait_made}
+use Names.{none_made, sooner, outs_stay, OwnSteps, one_own, seen_on, resumed, FindsQueued, MayRunAgain, RunsAgain}
+use Rattle.std.proofs.Common.{◌≡◌, ◌≢◌, ◌⊎◌, ◌∷◌, ◌∙◌}
 use Rattle.lock_floor.proofs.Taking.{HasWaited}
 
 -- 1. The shares behind it

@@ -1,24 +1,13 @@
 -- A binary search among the keys of a floor finds each of them, where its cell lies, and no other.
-use Rattle.std.proofs.Common.{◌≡◌, ℕ, ◌+◌, ◌<◌, true, false, cond, List, length, get_or, is_lt, is_eq, Some, None, Result, Ok, Err, refl, sym, ap, ◌∙◌, subst, inl, inr, arith, lt-ltb}
-use Rattle.std.specs.List.{Contains, position, position_or_len, list_any}
-use Rattle.std.specs.List.Sorted.{IsSearchInRange, IsBinarySearchResult, IsPartitionPoint, IsSorted}
-use Rattle.std.specs.Ordering.{ordering_reverse}
-use Rattle.std.specs.Prelude.{MatchResult, nat_lt, option_map}
-use Rattle.std.specs.declared.cmp.Ordering.{Ordering}
-use Rattle.std.specs.declared.cmp.Ordering.TheVariants.{Less, Equal, Greater}
-use Rattle.std.proofs.lemmas.Bool.{cases_lt}
-use Rattle.std.proofs.lemmas.Cmp.{tied_itself}
-use Rattle.std.proofs.lemmas.List.Folds.{list_any_none}
-use Rattle.std.proofs.lemmas.List.Sorted.{searchable_from_sorted}
-use Rattle.std.proofs.lemmas.List.Sums.{position_or_len_is}
-use Rattle.std.proofs.lemmas.Map.Keys.{Less-from_sorted}
-use Rattle.lock_history.proofs.Places.{place_total, place_exact}
-use Rattle.lock_model.specs.History.{place_cmp}
-use Rattle.lock_state.specs.Steps.Items.{CellOf}
-use Rattle.floor_table.specs.Descriptions.{IsSized}
-use Rattle.floor_table.specs.declared.description.Description.{Description}
-use Rattle.floor_table.specs.Places.{is_cell, slot_of}
-use Rattle.floor_table.proofs.PlanKeys.{cell_test, key_found}
+use Rattle.lock_floor.proofs.Names
+use Names.{ℕ, true, false, cond, List, length, get_or, is_lt, is_eq, Some, None, Result, Ok, Err, refl, sym, ap, subst}
+use Names.{inl, inr, arith, lt-ltb, Contains, position_or_len, list_any, IsSearchInRange, IsBinarySearchResult}
+use Names.{IsPartitionPoint, ordering_reverse, MatchResult, nat_lt, option_map, Ordering, Less, Equal, Greater}
+use Names.{cases_lt, tied_itself, list_any_none, searchable_from_sorted, position_or_len_is, Less-from_sorted}
+use Names.{place_total, place_exact, place_cmp, CellOf, IsSized, Description, is_cell, slot_of, cell_test, key_found}
+use Rattle.std.proofs.Common.{◌≡◌, ◌+◌, ◌<◌, ◌∙◌}
+use Rattle.std.specs.List.{position}
+use Rattle.std.specs.List.Sorted.{IsSorted}
 
 module _ (floor : Description) (sized : IsSized floor) (l key : ℕ) where
   abbrev ks : List (ℕ × ℕ)

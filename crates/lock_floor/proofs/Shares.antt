@@ -1,24 +1,16 @@
 -- What a thread's seat knows of its share behind a step, and that the other threads' shares stay.
-use Rattle.std.proofs.Common.{◌≡◌, ◌≢◌, ℕ, suc, Bool, true, false, not, ◌||◌, cond, Some, None, List, [], ◌∷◌, ◌++◌, refl, sym, ap, ◌∙◌, subst, inl, inr, eq-eqb}
+use Rattle.lock_floor.proofs.Names
+use Names.{ℕ, suc, Bool, true, false, not, cond, Some, None, List, [], refl, sym, ap, subst, inl, inr, eq-eqb, cases_eq}
+use Names.{ne_eqb, eqb-true, gained_order-push, gained_order-without, put_same, put_other, put_at_same, put_at_row}
+use Names.{put_at_beside, gained_order, State, put, put_at, Config, OfSection, NoSection, BeginsIn, EndsFrom, LeftFor}
+use Names.{TakenBack, facets, NotHeld, Holds, hold_in, without_lock, Event, Held, apart_once, once_push, once_without}
+use Names.{column_push, column_without, round_of, taking_from, after_seek, after_look, after_gain, after_drop}
+use Names.{after_stamp, without_held, entry_of, begun_after, begun_with, looks_after, round_after, taking_after}
+use Names.{unstamped_after, Item, after_take, after_give, is_chain, in_its_chain, seen_after, Slot, ShareColumns}
+use Names.{columns_of, share_in, is_among, Knowledge, RepresentsShare, counts, looked, sought, others, gained, put_down}
+use Names.{begun_behind, begun_by, stamped, took, gave}
+use Rattle.std.proofs.Common.{◌≡◌, ◌≢◌, ◌||◌, ◌∷◌, ◌++◌, ◌∙◌}
 use Rattle.std.specs.Prelude.{◌==◌}
-use Rattle.std.proofs.lemmas.Bool.{cases_eq, ne_eqb, eqb-true}
-use Rattle.lock_laws.proofs.HeldLists.{gained_order-push, gained_order-without}
-use Rattle.lock_laws.proofs.Kit.{put_same, put_other, put_at_same, put_at_row, put_at_beside}
-use Rattle.lock_state.specs.State.{gained_order, State, put, put_at}
-use Rattle.lock_model.specs.Config.{Config}
-use Rattle.lock_model.specs.Events.{OfSection, NoSection, BeginsIn, EndsFrom, LeftFor, TakenBack, facets}
-use Rattle.lock_model.specs.Holds.{NotHeld, Holds}
-use Rattle.lock_model.specs.Operations.{hold_in, without_lock}
-use Rattle.lock_model.specs.declared.event.Event.{Event}
-use Rattle.lock_model.specs.declared.event.Held.{Held}
-use Rattle.lock_objects.proofs.Held.{apart_once, once_push, once_without, column_push, column_without}
-use Rattle.lock_state.specs.Steps.LockWords.{round_of, taking_from, after_seek, after_look, after_gain, after_drop, after_stamp, without_held, entry_of, begun_after, begun_with, looks_after, round_after, taking_after, unstamped_after}
-use Rattle.lock_state.specs.Steps.Items.{Item, after_take, after_give, is_chain, in_its_chain, seen_after}
-use Rattle.floor_table.specs.declared.slot.Slot.{Slot}
-use Rattle.floor_table.specs.Shares.{ShareColumns, columns_of, share_in, is_among}
-use Rattle.floor_table.specs.Views.{Knowledge}
-use Rattle.floor_table.specs.Represents.{RepresentsShare}
-use Rattle.lock_floor.specs.Views.{counts, looked, sought, others, gained, put_down, begun_behind, begun_by, stamped, took, gave}
 
 -- 1. Locks of which a section began
 

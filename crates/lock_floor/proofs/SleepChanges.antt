@@ -1,31 +1,13 @@
 -- The chain of sleep queues in which a queue stands, where the sleep queue of that one changes, and what the columns
 -- say of the other values then: so it is in an add and a wake of a channel, and in an enter and an open of an sx lock.
-use Rattle.std.proofs.Common.{◌≡◌, ◌≢◌, ℕ, Bool, true, false, not, cond, ltb, Option, Some, None, List, [], ◌∷◌, IfSome, sym, ap, ◌∙◌}
-use Rattle.chain_table.specs.Chains.{head_of, without}
-use Rattle.lock_model.specs.Config.{Config}
-use Rattle.lock_model.specs.Counts.{is_empty}
-use Rattle.lock_model.specs.Queues.{Waiter, is_turnstile_queue, stands}
-use Rattle.lock_model.specs.declared.plan.QueueName.{QueueName}
-use Rattle.lock_model.specs.declared.plan.Side.{Side}
-use Rattle.lock_laws.proofs.Kit.{put_queue_other}
-use Rattle.lock_laws.proofs.Standing.{standing_named, asleep_out}
-use Rattle.lock_laws.proofs.Sums.{zero_unless}
-use Rattle.lock_objects.specs.Enters.{CanStand}
-use Rattle.lock_objects.specs.Represents.{SleepColumns, RepresentsSleepQueue, sleepers_in}
-use Rattle.lock_objects.specs.Sleeps.{head_asleep, chain_asleep, chain_woken}
-use Rattle.lock_objects.proofs.Chains.{is_queue-other}
-use Rattle.lock_objects.proofs.SleepChains.{ShowsSleepers}
-use Rattle.lock_objects.proofs.StepsOfSleepers.{somebody_stands}
-use Rattle.lock_state.specs.Facts.{Lawful}
-use Rattle.lock_state.specs.State.{State, put_queue}
-use Rattle.lock_state.specs.Steps.Items.{Item, TurnstileChain, SleepChain}
-use Rattle.sleep_queues.specs.Seen.{SleepQueue}
-use Rattle.sleep_queues.specs.Changes.{all_waiters, without_woken}
-use Rattle.floor_table.specs.Descriptions.{config_in}
-use Rattle.floor_table.specs.Represents.{StandsIn, HasNames, RepresentsSleepChain, objects_in}
-use Rattle.floor_table.specs.declared.description.Description.{Description}
-use Rattle.floor_table.proofs.Objects.{SaySame}
-use Rattle.lock_floor.specs.Waits.{its_chain}
+use Rattle.lock_floor.proofs.Names
+use Names.{ℕ, Bool, true, false, not, cond, ltb, Option, Some, None, List, [], IfSome, sym, ap, head_of, without}
+use Names.{Config, is_empty, Waiter, is_turnstile_queue, stands, QueueName, Side, put_queue_other, standing_named}
+use Names.{asleep_out, zero_unless, CanStand, SleepColumns, RepresentsSleepQueue, sleepers_in, head_asleep}
+use Names.{chain_asleep, chain_woken, is_queue-other, ShowsSleepers, somebody_stands, Lawful, State, put_queue, Item}
+use Names.{TurnstileChain, SleepChain, SleepQueue, all_waiters, without_woken, config_in, StandsIn, HasNames}
+use Names.{RepresentsSleepChain, objects_in, Description, SaySame, its_chain}
+use Rattle.std.proofs.Common.{◌≡◌, ◌≢◌, ◌∷◌, ◌∙◌}
 use Rattle.lock_floor.proofs.ChainNames.{names_placed, names_without}
 
 -- 1. The other values

@@ -1,37 +1,15 @@
 -- What the call by which a thread comes to stand on the sleep queue of an sx lock leaves of the pass, and tells of it.
-use Rattle.std.proofs.Common.{◌≡◌, ℕ, Bool, false, Some, List, [], ◌∷◌, refl, ◌∙◌}
-use Rattle.std.specs.Box.{with_value}
-use Rattle.std.specs.Global.{Vec}
+use Rattle.lock_floor.proofs.Names
+use Names.{ℕ, Bool, false, Some, List, [], refl, with_value, Vec, Global, Box, Me, head_of, Book, lock_queue, side_of}
+use Names.{Held, Mode, QueueName, Side, CanStand, sleeper_of, record_asleep, chain_asleep, Marked, EntersSleepQueue}
+use Names.{SleepQueue, ThreadRec, Knowledge, Description, Slot, Record, SleepQueues, EntersAsleep, entered_asleep}
+use Names.{out_asleep, IsTied, chain_place, arith}
+use Rattle.std.proofs.Common.{◌≡◌, ◌∷◌, ◌∙◌}
 use Rattle.std.specs.Prelude.{IsSome}
-use Rattle.std.specs.declared.alloc.Global.{Global}
-use Rattle.std.specs.declared.boxed.Box.{Box}
-use Rattle.atomic_table.specs.Table.{Me}
-use Rattle.chain_table.specs.Chains.{head_of}
-use Rattle.lock_history.specs.Books.{Book}
-use Rattle.lock_model.specs.Queues.{lock_queue, side_of}
-use Rattle.lock_model.specs.declared.event.Held.{Held}
-use Rattle.lock_model.specs.declared.plan.Mode.{Mode}
-use Rattle.lock_model.specs.declared.plan.QueueName.{QueueName}
-use Rattle.lock_model.specs.declared.plan.Side.{Side}
-use Rattle.lock_objects.specs.Enters.{CanStand}
-use Rattle.lock_objects.specs.Sleeps.{sleeper_of, record_asleep, chain_asleep}
-use Rattle.lock_objects.specs.declared.marked.Marked.{Marked}
-use Rattle.lock_state.specs.Steps.{EntersSleepQueue}
-use Rattle.sleep_queues.specs.Seen.{SleepQueue}
-use Rattle.thread_records.specs.declared.record.ThreadRec.{ThreadRec}
-use Rattle.floor_table.specs.Views.{Knowledge}
-use Rattle.floor_table.specs.declared.description.Description.{Description}
-use Rattle.floor_table.specs.declared.slot.Slot.{Slot}
-use Rattle.floor_table.specs.declared.slot.Slot.TheVariants.{Record, SleepQueues}
-use Rattle.lock_floor.specs.SleepLocks.{EntersAsleep, entered_asleep}
-use Rattle.lock_floor.specs.Sleeps.{out_asleep}
-use Rattle.lock_floor.specs.Ties.{IsTied}
-use Rattle.lock_floor.specs.Waits.{chain_place}
 use Rattle.lock_floor.proofs.BothChanged.{Worked}
 use Rattle.lock_floor.proofs.LieDownCall.{before_work, lain_down}
 use Rattle.lock_floor.proofs.SleepEnterStep.{EntersWord, ToldEntered}
 use Rattle.lock_floor.proofs.Tied.{tied_on}
-use Rattle.std.proofs.Common.{arith}
 
 module _ (floor : Description) (me behind : Me Slot Knowledge) (l : ℕ) (mode : Mode) (seen found : ℕ)
     (tells : ToldEntered floor l mode seen me found behind) (hit : found ≡ seen)

@@ -1,48 +1,18 @@
 -- An enter on a sleep queue: an exchange of an sx lock's word by which the thread comes to stand on the lock's queue.
 -- Its record and the chain, which it has out, are then what the work on them will make of them.
-use Rattle.std.proofs.Common.{◌≡◌, ◌≢◌, ℕ, ◌<◌, ◌%◌, eqb, false, cond, Some, None, List, [], ◌∷◌, length, refl, sym, ap, ◌∙◌, subst, inl}
-use Rattle.std.specs.Box.{with_value}
-use Rattle.std.specs.declared.alloc.Global.{Global}
-use Rattle.std.specs.declared.boxed.Box.{Box}
+use Rattle.lock_floor.proofs.Names
+use Names.{ℕ, eqb, false, cond, Some, None, List, [], length, refl, sym, ap, subst, inl, with_value, Global, Box, Me}
+use Names.{keeps, Allows, head_of, put_same, put_other, Config, Waiter, lock_queue, side_of, word_of, is_turnstile}
+use Names.{Mode, QueueName, CanStand, RecordColumns, RepresentsRecord, record_in, sleepers_in, sleeper_of}
+use Names.{record_asleep, chain_asleep, slept, chain_slept, balanced, sleeper_is, enter_sleep_changes, Lawful, State}
+use Names.{Step, Looks, EntersSleepQueue, Item, TurnstileChain, SleepChain, RecordOf, CellOf, ClassGraph}
+use Names.{after_enter_sleep, SleepQueue, ThreadRec, config_in, Description, Slot, SleepQueues, spot, lock_line}
+use Names.{lock_word, Board, RepresentsSleepChain, RepresentsShare, IsPosed, StandsIn, objects_in, FloorHolds}
+use Names.{columns_of, share_in, MayMake, Makes, Knowledge, OfThread, seeing, Finds, Steps, exchange_allows, OwnSteps}
+use Names.{SaySame, one_own, MayEnterAsleep, entered_asleep, out_asleep, counts, chain_place}
+use Rattle.std.proofs.Common.{◌≡◌, ◌≢◌, ◌<◌, ◌%◌, ◌∷◌, ◌∙◌}
 use prog.Atomic.{either}
-use Rattle.atomic_table.specs.Table.{Me, keeps, Allows}
-use Rattle.chain_table.specs.Chains.{head_of}
-use Rattle.lock_laws.proofs.Kit.{put_same, put_other}
-use Rattle.lock_model.specs.Config.{Config}
-use Rattle.lock_model.specs.Queues.{Waiter, lock_queue, side_of}
 use Rattle.lock_model.specs.Words as words
-use Rattle.lock_model.specs.Words.{word_of, is_turnstile}
-use Rattle.lock_model.specs.declared.plan.Mode.{Mode}
-use Rattle.lock_model.specs.declared.plan.QueueName.{QueueName}
-use Rattle.lock_objects.specs.Enters.{CanStand}
-use Rattle.lock_objects.specs.Represents.{RecordColumns, RepresentsRecord, record_in, sleepers_in}
-use Rattle.lock_objects.specs.Sleeps.{sleeper_of, record_asleep, chain_asleep, slept}
-use Rattle.lock_objects.proofs.SleepChains.{chain_slept}
-use Rattle.lock_objects.proofs.StepsOfSleepers.{balanced, sleeper_is, enter_sleep_changes}
-use Rattle.lock_state.specs.Facts.{Lawful}
-use Rattle.lock_state.specs.State.{State}
-use Rattle.lock_state.specs.Steps.{Step, Looks, EntersSleepQueue}
-use Rattle.lock_state.specs.Steps.Items.{Item, TurnstileChain, SleepChain, RecordOf, CellOf, ClassGraph}
-use Rattle.lock_state.specs.Steps.SleepQueues.{after_enter_sleep}
-use Rattle.sleep_queues.specs.Seen.{SleepQueue}
-use Rattle.thread_records.specs.declared.record.ThreadRec.{ThreadRec}
-use Rattle.floor_table.specs.Descriptions.{config_in}
-use Rattle.floor_table.specs.declared.description.Description.{Description}
-use Rattle.floor_table.specs.declared.slot.Slot.{Slot}
-use Rattle.floor_table.specs.declared.slot.Slot.TheVariants.{SleepQueues}
-use Rattle.floor_table.specs.Places.{spot, lock_line, lock_word}
-use Rattle.floor_table.specs.Represents.{Board, RepresentsSleepChain, RepresentsShare, IsPosed, StandsIn, objects_in}
-use Rattle.floor_table.specs.Rule.{FloorHolds}
-use Rattle.floor_table.specs.Shares.{columns_of, share_in}
-use Rattle.floor_table.specs.Steps.{MayMake, Makes}
-use Rattle.floor_table.specs.Views.{Knowledge, OfThread, seeing}
-use Rattle.floor_table.proofs.Made.{Finds, Steps, exchange_allows, OwnSteps}
-use Rattle.floor_table.proofs.Objects.{SaySame}
-use Rattle.floor_table.proofs.Seen.{one_own}
-use Rattle.lock_floor.specs.SleepLocks.{MayEnterAsleep, entered_asleep}
-use Rattle.lock_floor.specs.Sleeps.{out_asleep}
-use Rattle.lock_floor.specs.Views.{counts}
-use Rattle.lock_floor.specs.Waits.{chain_place}
 use Rattle.lock_floor.proofs.BothChanged.{record_says, chain_says, both_made}
 use Rattle.lock_floor.proofs.Looking.{Looked, looks, found_word}
 use Rattle.lock_floor.proofs.SleepChanges.{turnstiles_same, sleepers_same, names_asleep, can_sleep_there, sleep_chain_shown}

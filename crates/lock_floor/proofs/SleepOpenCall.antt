@@ -1,34 +1,12 @@
 -- What the call that releases an sx lock with waiters needs of its parts, leaves of the pass, and tells of it.
-use Rattle.std.proofs.Common.{◌≡◌, ◌≢◌, ℕ, ◌≤◌, Bool, true, false, IfSome, List, [], ◌∷◌, refl, sym, ap, ◌∙◌, subst, vec_capacity}
-use Rattle.std.specs.Global.{Vec}
-use Rattle.std.specs.declared.alloc.Global.{Global}
-use Rattle.std.specs.declared.boxed.Box.{Box}
-use Rattle.atomic_table.specs.Table.{Me, rest, turned}
-use Rattle.chain_table.specs.Chains.{head_of}
-use Rattle.lock_history.specs.Books.{Book}
-use Rattle.lock_model.specs.Operations.{without_lock}
-use Rattle.lock_model.specs.Queues.{lock_queue}
-use Rattle.lock_model.specs.Words.{word_of, side_woken, is_turnstile}
-use Rattle.lock_model.specs.declared.event.Held.{Held}
-use Rattle.lock_model.specs.declared.plan.QueueName.{QueueName}
-use Rattle.lock_model.specs.declared.plan.Side.{Side}
-use Rattle.lock_objects.specs.Sleeps.{woken_of, chain_woken}
-use Rattle.lock_objects.specs.declared.marked.Marked.{Marked}
-use Rattle.lock_objects.specs.declared.marked.Marked.TheVariants.{Sleepers}
-use Rattle.lock_state.specs.Steps.{OpensSleepQueue}
-use Rattle.sleep_queues.specs.Changes.{all_waiters}
-use Rattle.sleep_queues.specs.Seen.{SleepQueue, Place}
-use Rattle.thread_records.specs.declared.record.ThreadRec.{ThreadRec}
-use Rattle.floor_table.specs.Descriptions.{config_in}
-use Rattle.floor_table.specs.Steps.{Makes}
-use Rattle.floor_table.specs.Views.{Knowledge, seeing}
-use Rattle.floor_table.specs.declared.description.Description.{Description}
-use Rattle.floor_table.specs.declared.slot.Slot.{Slot}
-use Rattle.floor_table.specs.declared.slot.Slot.TheVariants.{Record, SleepQueues}
-use Rattle.lock_floor.specs.Marks.{AreMarked}
-use Rattle.lock_floor.specs.SleepLocks.{OpensSleepers, opened_sleepers, sleepers_opened}
-use Rattle.lock_floor.specs.Ties.{IsTied}
-use Rattle.lock_floor.specs.Waits.{chain_place}
+use Rattle.lock_floor.proofs.Names
+use Names.{ℕ, Bool, true, false, IfSome, List, [], refl, sym, ap, subst, vec_capacity, Vec, Global, Box, Me, rest}
+use Names.{turned, head_of, Book, without_lock, lock_queue, word_of, side_woken, is_turnstile, Held, QueueName, Side}
+use Names.{chain_woken, Marked, Sleepers, OpensSleepQueue, all_waiters, SleepQueue, Place, ThreadRec, config_in, Makes}
+use Names.{Knowledge, seeing, Description, Slot, Record, SleepQueues, AreMarked, OpensSleepers, opened_sleepers}
+use Names.{sleepers_opened, IsTied, chain_place}
+use Rattle.std.proofs.Common.{◌≡◌, ◌≢◌, ◌≤◌, ◌∷◌, ◌∙◌}
+use Rattle.lock_objects.specs.Sleeps.{woken_of}
 use Rattle.lock_floor.proofs.SleepOpenStep.{ToldOpened, OpensWord}
 use Rattle.lock_floor.proofs.Tied.{tied_then}
 

@@ -1,56 +1,21 @@
 -- An open of a sleep queue: an exchange of an sx lock's word by which its last holder releases it and takes all
 -- sleepers of a side off its sleep queue. The chain, which the thread has out behind its record, is then what the work
 -- on it will make of it. The record stays.
-use Rattle.std.proofs.Common.{◌≡◌, ◌≢◌, ℕ, ◌<◌, ◌%◌, eqb, false, true, None, IfSome, IsSome, List, [], ◌∷◌, map, length, refl, sym, ap, ◌∙◌}
-use Rattle.std.specs.List.{All}
-use Rattle.std.specs.declared.alloc.Global.{Global}
-use Rattle.std.specs.declared.boxed.Box.{Box}
+use Rattle.lock_floor.proofs.Names
+use Names.{ℕ, eqb, false, true, None, IfSome, IsSome, List, [], map, length, refl, sym, ap, All, Global, Box, Me, keeps}
+use Names.{Allows, head_of, head_of-without_itself, gained_order-without, put_same, put_other, put_at_row, Config}
+use Names.{NotHeld, hold_in, without_lock, lock_queue, dealt, list_of, word_of, side_woken, is_turnstile, QueueName}
+use Names.{Side, RepresentsRecord, mark_of, record_in, sleepers_in, chain_woken, woken, apart_once, once_without}
+use Names.{column_without, marks_woken, chain_woken_shown, balanced, open_sleep_changes, Lawful, State, gained_order}
+use Names.{put, Step, Looks, OpensSleepQueue, Item, TurnstileChain, SleepChain, RecordOf, CellOf, ClassGraph}
+use Names.{without_held, after_open_sleep, all_waiters, SleepQueue, Place, ThreadRec, config_in, Description, Slot}
+use Names.{SleepQueues, spot, lock_line, lock_word, Board, RepresentsSleepChain, RepresentsShare, StandsIn, objects_in}
+use Names.{FloorHolds, ShareColumns, columns_of, share_in, IsSound, MayMake, Makes, Knowledge, OfThread, seeing, Finds}
+use Names.{Steps, exchange_allows, OwnSteps, SaySame, one_own, sound_kept, MayOpenSleepers, opened_sleepers}
+use Names.{sleepers_opened, HasSleeperOut, counts, chain_place}
+use Rattle.std.proofs.Common.{◌≡◌, ◌≢◌, ◌<◌, ◌%◌, ◌∷◌, ◌∙◌}
 use prog.Atomic.{either}
-use Rattle.atomic_table.specs.Table.{Me, keeps, Allows}
-use Rattle.chain_table.specs.Chains.{head_of}
-use Rattle.chain_table.proofs.Lookups.{head_of-without_itself}
-use Rattle.lock_laws.proofs.HeldLists.{gained_order-without}
-use Rattle.lock_laws.proofs.Kit.{put_same, put_other, put_at_row}
-use Rattle.lock_model.specs.Config.{Config}
-use Rattle.lock_model.specs.Holds.{NotHeld}
-use Rattle.lock_model.specs.Operations.{hold_in, without_lock}
-use Rattle.lock_model.specs.Queues.{lock_queue, dealt, list_of}
 use Rattle.lock_model.specs.Words as words
-use Rattle.lock_model.specs.Words.{word_of, side_woken, is_turnstile}
-use Rattle.lock_model.specs.declared.plan.QueueName.{QueueName}
-use Rattle.lock_model.specs.declared.plan.Side.{Side}
-use Rattle.lock_objects.specs.Represents.{RepresentsRecord, mark_of, record_in, sleepers_in}
-use Rattle.lock_objects.specs.Sleeps.{chain_woken, woken}
-use Rattle.lock_objects.proofs.Held.{apart_once, once_without, column_without}
-use Rattle.lock_objects.proofs.SleepChains.{marks_woken, chain_woken_shown}
-use Rattle.lock_objects.proofs.StepsOfSleepers.{balanced, open_sleep_changes}
-use Rattle.lock_state.specs.Facts.{Lawful}
-use Rattle.lock_state.specs.State.{State, gained_order, put}
-use Rattle.lock_state.specs.Steps.{Step, Looks, OpensSleepQueue}
-use Rattle.lock_state.specs.Steps.Items.{Item, TurnstileChain, SleepChain, RecordOf, CellOf, ClassGraph}
-use Rattle.lock_state.specs.Steps.LockWords.{without_held}
-use Rattle.lock_state.specs.Steps.SleepQueues.{after_open_sleep}
-use Rattle.sleep_queues.specs.Changes.{all_waiters}
-use Rattle.sleep_queues.specs.Seen.{SleepQueue, Place}
-use Rattle.thread_records.specs.declared.record.ThreadRec.{ThreadRec}
-use Rattle.floor_table.specs.Descriptions.{config_in}
-use Rattle.floor_table.specs.declared.description.Description.{Description}
-use Rattle.floor_table.specs.declared.slot.Slot.{Slot}
-use Rattle.floor_table.specs.declared.slot.Slot.TheVariants.{SleepQueues}
-use Rattle.floor_table.specs.Places.{spot, lock_line, lock_word}
-use Rattle.floor_table.specs.Represents.{Board, RepresentsSleepChain, RepresentsShare, StandsIn, objects_in}
-use Rattle.floor_table.specs.Rule.{FloorHolds}
-use Rattle.floor_table.specs.Shares.{ShareColumns, columns_of, share_in}
-use Rattle.floor_table.specs.Steps.{IsSound, MayMake, Makes}
-use Rattle.floor_table.specs.Views.{Knowledge, OfThread, seeing}
-use Rattle.floor_table.proofs.Made.{Finds, Steps, exchange_allows, OwnSteps}
-use Rattle.floor_table.proofs.Objects.{SaySame}
-use Rattle.floor_table.proofs.Seen.{one_own}
-use Rattle.floor_table.proofs.Sound.{sound_kept}
-use Rattle.lock_floor.specs.SleepLocks.{MayOpenSleepers, opened_sleepers, sleepers_opened}
-use Rattle.lock_floor.specs.Sleeps.{HasSleeperOut}
-use Rattle.lock_floor.specs.Views.{counts}
-use Rattle.lock_floor.specs.Waits.{chain_place}
 use Rattle.lock_floor.proofs.BothChanged.{record_says, chain_says, both_made}
 use Rattle.lock_floor.proofs.Looking.{Looked, looks, found_word}
 use Rattle.lock_floor.proofs.OpenStep.{marked_low}

@@ -1,19 +1,10 @@
 -- What holds of sleepers in each state to which steps of a floor's threads lead.
-use Rattle.std.proofs.Common.{◌≡◌, ◌⊎◌, ℕ, ◌≤◌, Bool, true, false, None, List, [], ◌∷◌, refl, ap, arith}
-use Rattle.lock_model.specs.Counts.{one}
-use Rattle.lock_model.specs.Law.{is_asleep, is_named}
-use Rattle.lock_model.specs.Queues.{BySignal, chan_queue, stands}
-use Rattle.lock_state.specs.Facts.Sleeps.{is_signalled}
-use Rattle.lock_state.specs.State.{State}
-use Rattle.lock_state.specs.Steps.{Step, Resumes}
-use Rattle.sleep_laws.specs.Sleepers.{IsWithChannel, NamedAreWoken, WasAborted, by_chain}
+use Rattle.lock_floor.proofs.Names
+use Names.{ℕ, Bool, true, false, None, List, [], refl, ap, arith, one, is_asleep, is_named, BySignal, chan_queue}
+use Names.{stands, is_signalled, State, Step, Resumes, IsWithChannel, NamedAreWoken, WasAborted, by_chain, config_in}
+use Names.{Description, LeadsTo, none, more, IsSound, Makes, Knowledge, sound_begins, sound_kept}
+use Rattle.std.proofs.Common.{◌≡◌, ◌⊎◌, ◌≤◌, ◌∷◌}
 use Rattle.sleep_laws.proofs.SleepFacts.Found as sleepers
-use Rattle.floor_table.specs.Descriptions.{config_in}
-use Rattle.floor_table.specs.declared.description.Description.{Description}
-use Rattle.floor_table.specs.Past.{LeadsTo, none, more}
-use Rattle.floor_table.specs.Steps.{IsSound, Makes}
-use Rattle.floor_table.specs.Views.{Knowledge}
-use Rattle.floor_table.proofs.Sound.{sound_begins, sound_kept}
 
 sound_then : (floor : Description) {past : List Step} {s : State} → LeadsTo floor past s → IsSound floor past s
 sound_then floor none = sound_begins floor

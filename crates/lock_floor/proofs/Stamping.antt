@@ -1,28 +1,12 @@
 -- An entry: the ticket word goes up by one. A value that is out may change with it.
-use Rattle.std.proofs.Common.{◌≡◌, ℕ, suc, ◌+◌, ◌%◌, ◌^◌, ◌<◌, ◌≤◌, false, List, [], ◌∷◌, refl, sym, ap, subst, arith}
-use Rattle.atomic_table.specs.Table.{Me, keeps, Allows}
-use Rattle.lock_laws.proofs.Kit.{put_back}
-use Rattle.lock_laws.proofs.OwnEntries.{bases_stay, effective_stays, tables_stay}
-use Rattle.lock_model.specs.Config.{Config}
-use Rattle.lock_model.specs.declared.event.Event.{Event}
-use Rattle.lock_objects.specs.Represents.{record_in}
-use Rattle.lock_state.specs.State.{State, put}
-use Rattle.lock_state.specs.Steps.{Step, Stamps}
-use Rattle.lock_state.specs.Steps.LockWords.{after_stamp, changes_base, changes_table}
-use Rattle.floor_table.specs.Descriptions.{config_in}
-use Rattle.floor_table.specs.declared.description.Description.{Description}
-use Rattle.floor_table.specs.declared.slot.Slot.{Slot}
-use Rattle.floor_table.specs.Past.{past_with}
-use Rattle.floor_table.specs.Places.{spot, ticket_line, word_at, latch_word, slots_for, home_at}
-use Rattle.floor_table.specs.Shelves.{Shelves}
-use Rattle.floor_table.specs.Represents.{Board, RepresentsShare, RepresentsObjects, objects_in, thread_in}
-use Rattle.floor_table.specs.Rule.{FloorHolds}
-use Rattle.floor_table.specs.Steps.{MayMake, FitAll, Makes}
-use Rattle.floor_table.specs.Views.{Knowledge, OfThread, nothing, seeing}
-use Rattle.floor_table.proofs.Lists.{at_or}
-use Rattle.floor_table.proofs.Made.{Finds, Steps, allows, ticket_made, OwnSteps}
-use Rattle.floor_table.proofs.Seen.{one_own}
-use Rattle.lock_floor.specs.Views.{entry_by, stamped}
+use Rattle.lock_floor.proofs.Names
+use Names.{ℕ, suc, false, List, [], refl, sym, ap, subst, arith, Me, keeps, Allows, put_back, bases_stay}
+use Names.{effective_stays, tables_stay, Config, Event, record_in, State, put, Step, Stamps, after_stamp, changes_base}
+use Names.{changes_table, config_in, Description, Slot, past_with, spot, ticket_line, word_at, latch_word, slots_for}
+use Names.{home_at, Shelves, Board, RepresentsShare, RepresentsObjects, objects_in, thread_in, FloorHolds, MayMake}
+use Names.{FitAll, Makes, Knowledge, OfThread, nothing, seeing, at_or, Finds, Steps, allows, ticket_made, OwnSteps}
+use Names.{one_own, entry_by, stamped}
+use Rattle.std.proofs.Common.{◌≡◌, ◌+◌, ◌%◌, ◌^◌, ◌<◌, ◌≤◌, ◌∷◌}
 use Rattle.lock_floor.proofs.Shares.{stamp_own, stamp_others}
 
 -- what it tells, where out is what the thread has out then

@@ -1,30 +1,17 @@
 -- Latches: an item goes out with the thread that finds it at home, and comes home again.
-use Rattle.std.proofs.Common.{◌≡◌, ◌≢◌, ℕ, zero, suc, ◌<◌, eqb, Some, None, List, [], ◌∷◌, length, cond, lt-ltb, refl, sym, ap, ◌∙◌, subst, arith}
-use Rattle.std.proofs.lemmas.List.Elements.{All-nil}
+use Rattle.lock_floor.proofs.Names
+use Names.{ℕ, zero, suc, eqb, Some, None, List, [], length, cond, lt-ltb, refl, sym, ap, subst, arith, All-nil, Me}
+use Names.{keeps, takes, gives, rest, Allows, State, Step, TakesItem, GivesItem, maker, Item, TurnstileChain}
+use Names.{SleepChain, RecordOf, CellOf, ClassGraph, item_with, after_take, after_give, Description, Slot, Record, Cell}
+use Names.{Turnstiles, SleepQueues, Graph, RecordColumns, IsSeenBy, spot, latch_line, latch_word, slot_of, slots_for}
+use Names.{taker, Board, RepresentsLatches, taken_from, IsOf, objects_in, FloorHolds, MayMake, FitAll, Makes, Knowledge}
+use Names.{OfThread, seeing, place_low, one_place, or_at, Finds, Steps, allows, exchange_allows, take_made, give_made}
+use Names.{none_made, sooner, OwnSteps, one_own, seen_on, FindsOut, Takes, IsOfKind, took, gave}
+use Rattle.std.proofs.Common.{◌≡◌, ◌≢◌, ◌<◌, ◌∷◌, ◌∙◌}
 use mathlib.Core.Option as slots
 use mathlib.Core.Option.{some}
 use lib.ListN.{get_elem?}
 use prog.Atomic.{either}
-use Rattle.atomic_table.specs.Table.{Me, keeps, takes, gives, rest, Allows}
-use Rattle.lock_state.specs.State.{State}
-use Rattle.lock_state.specs.Steps.{Step, TakesItem, GivesItem, maker}
-use Rattle.lock_state.specs.Steps.Items.{Item, TurnstileChain, SleepChain, RecordOf, CellOf, ClassGraph, item_with, after_take, after_give}
-use Rattle.floor_table.specs.declared.description.Description.{Description}
-use Rattle.floor_table.specs.declared.slot.Slot.{Slot}
-use Rattle.floor_table.specs.declared.slot.Slot.TheVariants.{Record, Cell, Turnstiles, SleepQueues, Graph}
-use Rattle.lock_objects.specs.Represents.{RecordColumns}
-use Rattle.floor_table.specs.Past.{IsSeenBy}
-use Rattle.floor_table.specs.Places.{spot, latch_line, latch_word, slot_of, slots_for, taker}
-use Rattle.floor_table.specs.Represents.{Board, RepresentsLatches, taken_from, IsOf, objects_in}
-use Rattle.floor_table.specs.Rule.{FloorHolds}
-use Rattle.floor_table.specs.Steps.{MayMake, FitAll, Makes}
-use Rattle.floor_table.specs.Views.{Knowledge, OfThread, seeing}
-use Rattle.floor_table.proofs.Items.{place_low, one_place}
-use Rattle.floor_table.proofs.Lists.{or_at}
-use Rattle.floor_table.proofs.Made.{Finds, Steps, allows, exchange_allows, take_made, give_made, none_made, sooner, OwnSteps}
-use Rattle.floor_table.proofs.Seen.{one_own, seen_on}
-use Rattle.lock_floor.specs.Latches.{FindsOut, Takes, IsOfKind}
-use Rattle.lock_floor.specs.Views.{took, gave}
 use Rattle.lock_floor.proofs.Shares.{take_own, take_others, give_own, give_others}
 
 -- 1. A take

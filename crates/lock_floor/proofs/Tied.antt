@@ -1,30 +1,13 @@
 -- A pass stays tied to what its seat knows.
-use Rattle.std.proofs.Common.{◌≡◌, ◌-◌, ◌<◌, ◌≤◌, ℕ, Bool, true, false, Some, List, [], ◌∷◌, ◌++◌, inl, inr, refl, sym, ap, ◌∙◌, subst, reverse, length, vec_capacity}
-use Rattle.std.proofs.lemmas.Bool.{cases_eq}
-use Rattle.std.proofs.lemmas.List.{reverse-append}
-use Rattle.std.specs.Global.{Vec}
-use Rattle.atomic_table.specs.Table.{Me, rest}
-use Rattle.lock_history.specs.Books.{Book}
-use Rattle.lock_model.specs.Operations.{without_lock}
-use Rattle.lock_model.specs.Config.{Config}
-use Rattle.lock_model.specs.declared.event.Entry.{Entry}
-use Rattle.lock_model.specs.declared.event.Held.{Held}
-use Rattle.lock_model.specs.Queues.{Mark}
-use Rattle.lock_model.specs.Words.{word_of}
-use Rattle.lock_objects.specs.declared.marked.Marked.{Marked}
-use Rattle.lock_state.specs.Steps.Items.{Item}
-use Rattle.floor_table.specs.declared.description.Description.{Description}
-use Rattle.floor_table.specs.declared.slot.Slot.{Slot}
-use Rattle.floor_table.specs.Places.{slot_of}
-use Rattle.floor_table.specs.Views.{Role, Knowledge, seeing}
-use Rattle.lock_floor.specs.Floors.{Floor, Pass}
-use Rattle.lock_floor.specs.Marks.{AreMarked}
+use Rattle.lock_floor.proofs.Names
+use Names.{ℕ, Bool, true, false, Some, List, [], inl, inr, refl, sym, ap, subst, reverse, length, vec_capacity}
+use Names.{cases_eq, reverse-append, Vec, Me, rest, Book, without_lock, Config, Entry, Held, Mark, word_of, Marked}
+use Names.{Item, Description, Slot, slot_of, Role, Knowledge, seeing, Floor, Pass, AreMarked, IsTied, looked, put_down}
+use Names.{took, gave, stamped, arith}
+use Rattle.std.proofs.Common.{◌≡◌, ◌-◌, ◌<◌, ◌≤◌, ◌∷◌, ◌++◌, ◌∙◌}
 use Rattle.lock_floor.specs.Passes.{IsOf}
-use Rattle.lock_floor.specs.Ties.{IsTied}
-use Rattle.lock_floor.specs.Views.{looked, put_down, took, gave, stamped}
 use Rattle.lock_floor.proofs.Looking.{Looked}
 use Rattle.lock_floor.proofs.Taking.{Taken}
-use Rattle.std.proofs.Common.{arith}
 
 -- a pass is the floor's behind a call, too
 pub of_floor_still : (f : Floor Description) (old inside new : Pass Knowledge) → inside ≡ old → IsOf f old

@@ -1,18 +1,11 @@
 -- Calls that wait for a record or a cell, over their tries: a thread that found the item out so far is ready still, and
 -- what a try makes then it makes from what the thread knew before.
-use Rattle.std.proofs.Common.{◌≡◌, ℕ, [], ◌∷◌, sym, subst}
-use Rattle.lock_model.specs.declared.event.Event.{Event}
-use Rattle.lock_state.specs.Steps.{TakesItem}
-use Rattle.lock_state.specs.Steps.Items.{Item}
-use Rattle.floor_table.specs.declared.description.Description.{Description}
-use Rattle.floor_table.specs.Steps.{MakesEach}
-use Rattle.floor_table.specs.Views.{Knowledge, seeing}
-use Rattle.floor_table.proofs.Made.{sooner}
-use Rattle.lock_floor.specs.Floors.{Floor, Pass}
-use Rattle.lock_floor.specs.Passes.{IsOf, IsAtRest, IsReady, MakesEntry, with_item}
+use Rattle.lock_floor.proofs.Names.{ℕ, [], sym, subst, Event, TakesItem, Item, Description, MakesEach, Knowledge}
+use Rattle.lock_floor.proofs.Names.{seeing, sooner, Floor, Pass, IsAtRest, IsReady, MakesEntry, with_item, arith}
+use Rattle.std.proofs.Common.{◌≡◌, ◌∷◌}
+use Rattle.lock_floor.specs.Passes.{IsOf}
 use Rattle.lock_floor.proofs.Resting.{rest_seeing}
 use Rattle.lock_floor.proofs.Taking.{HasWaited}
-use Rattle.std.proofs.Common.{arith}
 
 -- a pass that was ready is ready behind a try that found the item out
 pub ready_still : (f : Floor Description) (p q : Pass Knowledge) → IsReady f p → IsOf f q

@@ -1,19 +1,11 @@
 -- Two of the values behind latches, which a thread has out, change with one step.
-use Rattle.std.proofs.Common.{◌≡◌, ◌≢◌, ℕ, suc, ◌<◌, cond, List, [], ◌∷◌, Some, refl, sym, ap, ◌∙◌, subst, inl, inr, arith}
+use Rattle.lock_floor.proofs.Names
+use Names.{ℕ, suc, cond, List, [], Some, refl, sym, ap, subst, inl, inr, arith, cases_eq, same_Some, put_same}
+use Names.{put_other, at_put, each_place, put, Item, slot_of, Objects, IsOf, RepresentsObjects, found, AreApart}
+use Names.{Shelves, Description, Slot, one_place, put_twice, found_first, found_later, shelf_changed}
+use Rattle.std.proofs.Common.{◌≡◌, ◌≢◌, ◌<◌, ◌∷◌, ◌∙◌}
 use Rattle.std.specs.Prelude.{◌==◌}
-use Rattle.std.proofs.lemmas.Bool.{cases_eq}
-use Rattle.std.proofs.lemmas.Option.{same_Some}
 use mathlib.Core.Option.{Option, some, some-injective}
-use Rattle.lock_laws.proofs.Kit.{put_same, put_other, at_put, each_place}
-use Rattle.lock_state.specs.State.{put}
-use Rattle.lock_state.specs.Steps.Items.{Item}
-use Rattle.floor_table.specs.Places.{slot_of}
-use Rattle.floor_table.specs.Represents.{Objects, IsOf, RepresentsObjects}
-use Rattle.floor_table.specs.Shelves.{found, AreApart, Shelves}
-use Rattle.floor_table.specs.declared.description.Description.{Description}
-use Rattle.floor_table.specs.declared.slot.Slot.{Slot}
-use Rattle.floor_table.proofs.Items.{one_place}
-use Rattle.floor_table.proofs.Shelved.{put_twice, found_first, found_later, shelf_changed}
 
 -- 1. Where they are
 

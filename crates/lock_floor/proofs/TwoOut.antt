@@ -1,9 +1,7 @@
 -- Two values that are out while one is worked on beside the other: the one that was taken last moves out of its place,
 -- and then the other is first.
-use Rattle.std.proofs.Common.{◌≡◌, ◌++◌, ℕ, List, [], ◌∷◌, sym, ap, ◌∙◌}
-use Rattle.atomic_table.specs.Table.{Me, rest, turned}
-use Rattle.floor_table.specs.declared.slot.Slot.{Slot}
-use Rattle.floor_table.specs.Views.{Knowledge}
+use Rattle.lock_floor.proofs.Names.{ℕ, List, [], sym, ap, Me, rest, turned, Slot, Knowledge}
+use Rattle.std.proofs.Common.{◌≡◌, ◌++◌, ◌∷◌, ◌∙◌}
 
 pub first_of : (xs : List (ℕ × Slot)) (a : ℕ × Slot) (ys : List (ℕ × Slot)) → xs ≡ a ∷ ys → xs ≡ a ∷ rest xs
 first_of xs a ys e = e ∙ ap (λ zs. a ∷ zs) (sym (ap rest e))

@@ -1,15 +1,8 @@
 -- What a thread's seat knows of its share behind an enter, and that the other threads' shares stay.
-use Rattle.std.proofs.Common.{◌≡◌, ◌≢◌, ℕ, Option, Some, None, List, sym, ap, ◌∙◌}
-use Rattle.lock_laws.proofs.Kit.{put_same, put_other}
-use Rattle.lock_model.specs.Words.{owner_of}
-use Rattle.lock_model.specs.declared.plan.Mode.{Mode}
-use Rattle.lock_state.specs.State.{State}
-use Rattle.lock_state.specs.Steps.Turnstiles.{after_enter, walk_up}
-use Rattle.floor_table.specs.declared.slot.Slot.{Slot}
-use Rattle.floor_table.specs.Shares.{columns_of, share_in}
-use Rattle.floor_table.specs.Views.{Knowledge}
-use Rattle.floor_table.specs.Represents.{RepresentsShare}
-use Rattle.lock_floor.specs.Waits.{entered}
+use Rattle.lock_floor.proofs.Names
+use Names.{ℕ, Option, Some, None, List, sym, ap, put_same, put_other, owner_of, Mode, State, after_enter, walk_up, Slot}
+use Names.{columns_of, share_in, Knowledge, RepresentsShare, entered}
+use Rattle.std.proofs.Common.{◌≡◌, ◌≢◌, ◌∙◌}
 
 module _ (s : State) (v : Knowledge) (fit : RepresentsShare v.share s v.thread) where
   abbrev t : ℕ

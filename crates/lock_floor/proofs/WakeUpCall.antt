@@ -1,30 +1,11 @@
 -- What the call that wakes sleepers of a channel leaves of the pass, and tells of it.
-use Rattle.std.proofs.Common.{◌≡◌, ◌≢◌, ℕ, ◌<◌, ◌^◌, Bool, false, IfSome, List, [], ◌∷◌, map, refl, sym, ap, ◌∙◌, subst}
-use Rattle.std.specs.Global.{Vec}
-use Rattle.atomic_table.specs.Table.{Me, rest}
-use Rattle.chain_table.specs.Chains.{head_of}
-use Rattle.lock_history.specs.Books.{Book}
-use Rattle.lock_model.specs.Queues.{chan_queue}
-use Rattle.lock_model.specs.declared.event.Held.{Held}
-use Rattle.lock_model.specs.declared.plan.QueueName.{QueueName}
-use Rattle.lock_model.specs.declared.plan.Side.TheVariants.{X}
-use Rattle.lock_objects.specs.Represents.{mark_of}
-use Rattle.lock_objects.specs.Sleeps.{woken_of, chain_woken}
-use Rattle.lock_objects.specs.declared.marked.Marked.{Marked}
-use Rattle.lock_objects.specs.declared.marked.Marked.TheVariants.{Sleepers}
-use Rattle.lock_state.specs.Steps.{Wakes}
-use Rattle.lock_state.specs.Steps.LockWords.{bits_of_threads}
-use Rattle.sleep_queues.specs.Seen.{SleepQueue, Place}
-use Rattle.sleep_queues.specs.Changes.{all_waiters}
-use Rattle.floor_table.specs.Steps.{Makes}
-use Rattle.floor_table.specs.Views.{Knowledge, seeing}
-use Rattle.floor_table.specs.declared.description.Description.{Description}
-use Rattle.floor_table.specs.declared.slot.Slot.{Slot}
-use Rattle.floor_table.specs.declared.slot.Slot.TheVariants.{SleepQueues}
-use Rattle.lock_floor.specs.Marks.{AreMarked}
-use Rattle.lock_floor.specs.Sleeps.{WakesSleepers, sleepers_woken, out_woken, woke}
-use Rattle.lock_floor.specs.Ties.{IsTied}
-use Rattle.lock_floor.specs.Waits.{chain_place}
+use Rattle.lock_floor.proofs.Names
+use Names.{ℕ, Bool, false, IfSome, List, [], map, refl, sym, ap, subst, Vec, Me, rest, head_of, Book, chan_queue, Held}
+use Names.{QueueName, X, mark_of, chain_woken, Marked, Sleepers, Wakes, bits_of_threads, SleepQueue, Place, all_waiters}
+use Names.{Makes, Knowledge, seeing, Description, Slot, SleepQueues, AreMarked, WakesSleepers, sleepers_woken}
+use Names.{out_woken, woke, IsTied, chain_place}
+use Rattle.std.proofs.Common.{◌≡◌, ◌≢◌, ◌<◌, ◌^◌, ◌∷◌, ◌∙◌}
+use Rattle.lock_objects.specs.Sleeps.{woken_of}
 use Rattle.lock_floor.proofs.Tied.{tied_then}
 use Rattle.lock_floor.proofs.WakeUpStep.{WokenOff}
 

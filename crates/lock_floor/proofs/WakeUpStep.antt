@@ -1,47 +1,17 @@
 -- A wake of a channel: a load of the latch of the channel's chain, by which the best sleeper, or all, are taken off the
 -- channel's queue. The chain, which the thread has out, is then what the work on it will make of it.
-use Rattle.std.proofs.Common.{◌≡◌, ◌≢◌, ℕ, ◌<◌, ◌^◌, ◌%◌, Bool, Option, Some, IfSome, IsSome, List, [], ◌∷◌, map, length, refl, sym, ap, ◌∙◌, subst, arith}
-use Rattle.std.specs.List.{All}
-use Rattle.atomic_table.specs.Table.{Me, keeps, rest, Allows}
-use Rattle.chain_table.specs.Chains.{head_of}
-use Rattle.chain_table.proofs.Lookups.{head_of-without_itself}
-use Rattle.lock_laws.proofs.Kit.{put_same, put_other}
-use Rattle.lock_laws.proofs.Taken.{few_bits}
-use Rattle.lock_model.specs.Config.{Config}
-use Rattle.lock_model.specs.Queues.{chan_queue, taken_off}
-use Rattle.lock_model.specs.declared.plan.QueueName.{QueueName}
-use Rattle.lock_model.specs.declared.plan.Side.TheVariants.{X}
-use Rattle.lock_objects.specs.Represents.{mark_of, sleepers_in}
-use Rattle.lock_objects.specs.Sleeps.{chain_woken, woken}
-use Rattle.lock_objects.proofs.SleepChains.{marks_woken, chain_woken_shown}
-use Rattle.lock_objects.proofs.StepsOfSleepers.{balanced, taken_are, wake_changes}
-use Rattle.lock_state.specs.Facts.{Lawful}
-use Rattle.lock_state.specs.State.{State, Wake, put}
-use Rattle.lock_state.specs.Steps.{Step, Wakes}
-use Rattle.lock_state.specs.Steps.Items.{Item, TurnstileChain, SleepChain, RecordOf, CellOf, ClassGraph}
-use Rattle.lock_state.specs.Steps.LockWords.{bits_of_threads}
-use Rattle.lock_state.specs.Steps.SleepQueues.{after_wake}
-use Rattle.sleep_queues.specs.Seen.{SleepQueue, Place}
-use Rattle.sleep_queues.specs.Changes.{all_waiters}
-use Rattle.floor_table.specs.Descriptions.{config_in}
-use Rattle.floor_table.specs.declared.description.Description.{Description}
-use Rattle.floor_table.specs.declared.slot.Slot.{Slot}
-use Rattle.floor_table.specs.declared.slot.Slot.TheVariants.{SleepQueues}
-use Rattle.floor_table.specs.Places.{spot, latch_line, latch_word, slots_for, slot_of, home_at}
-use Rattle.floor_table.specs.Represents.{Board, RepresentsSleepChain, RepresentsObjects, RepresentsShare, StandsIn, objects_in, thread_in}
-use Rattle.floor_table.specs.Rule.{FloorHolds}
-use Rattle.floor_table.specs.Shares.{columns_of, share_in}
-use Rattle.floor_table.specs.Shelves.{Shelves, found}
-use Rattle.floor_table.specs.Steps.{FitAll, IsSound, MayMake, Makes}
-use Rattle.floor_table.specs.Views.{Knowledge, OfThread, seeing}
-use Rattle.floor_table.proofs.Items.{place_low}
-use Rattle.floor_table.proofs.Made.{Finds, Steps, allows, latch_seen_with, own_out, OwnSteps}
-use Rattle.floor_table.proofs.Objects.{SaySame}
-use Rattle.floor_table.proofs.Seen.{one_own}
-use Rattle.floor_table.proofs.Shelved.{found_first, shelf_changed}
-use Rattle.floor_table.proofs.Sound.{sound_kept}
-use Rattle.lock_floor.specs.Sleeps.{HasSleepersOut, sleepers_woken, out_woken, woke}
-use Rattle.lock_floor.specs.Waits.{chain_place}
+use Rattle.lock_floor.proofs.Names
+use Names.{ℕ, Bool, Option, Some, IfSome, IsSome, List, [], map, length, refl, sym, ap, subst, arith, All, Me, keeps}
+use Names.{rest, Allows, head_of, head_of-without_itself, put_same, put_other, few_bits, Config, chan_queue, taken_off}
+use Names.{QueueName, X, mark_of, sleepers_in, chain_woken, woken, marks_woken, chain_woken_shown, balanced, taken_are}
+use Names.{wake_changes, Lawful, State, Wake, put, Step, Wakes, Item, TurnstileChain, SleepChain, RecordOf, CellOf}
+use Names.{ClassGraph, bits_of_threads, after_wake, SleepQueue, Place, all_waiters, config_in, Description, Slot}
+use Names.{SleepQueues, spot, latch_line, latch_word, slots_for, slot_of, home_at, Board, RepresentsSleepChain}
+use Names.{RepresentsObjects, RepresentsShare, StandsIn, objects_in, thread_in, FloorHolds, columns_of, share_in}
+use Names.{Shelves, found, FitAll, IsSound, MayMake, Makes, Knowledge, OfThread, seeing, place_low, Finds, Steps}
+use Names.{allows, latch_seen_with, own_out, OwnSteps, SaySame, one_own, found_first, shelf_changed, sound_kept}
+use Names.{HasSleepersOut, sleepers_woken, out_woken, woke, chain_place}
+use Rattle.std.proofs.Common.{◌≡◌, ◌≢◌, ◌<◌, ◌^◌, ◌%◌, ◌∷◌, ◌∙◌}
 use Rattle.lock_floor.proofs.Changing.{OnlyChanges, object_changed}
 use Rattle.lock_floor.proofs.ChainPlaces.{chain_at}
 use Rattle.lock_floor.proofs.OpenStep.{marked_low}

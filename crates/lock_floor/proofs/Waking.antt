@@ -1,36 +1,17 @@
 -- The first of a marked list is woken: its record is taken, it is counted in and marked, and the record is given back.
-use Rattle.std.proofs.Common.{◌≡◌, ◌≢◌, ℕ, ◌<◌, cond, None, List, [], ◌∷◌, length, refl, sym, ap, ◌∙◌, subst, inl}
-use Rattle.std.specs.Box.{with_value}
-use Rattle.std.specs.List.{All}
-use Rattle.std.specs.declared.alloc.Global.{Global}
-use Rattle.std.specs.declared.boxed.Box.{Box}
-use Rattle.std.proofs.lemmas.Bool.{ne_eqb}
-use Rattle.std.proofs.lemmas.List.Elements.{All-head}
-use Rattle.atomic_table.specs.Table.{rest}
-use Rattle.lock_model.specs.Queues.{Mark}
-use Rattle.lock_state.specs.State.{Awake, SelfAborted}
-use Rattle.lock_model.specs.declared.plan.QueueName.{QueueName}
-use Rattle.lock_state.specs.Steps.{TakesItem, GivesItem, CountsIn, Marks}
-use Rattle.lock_state.specs.Steps.Items.{RecordOf}
-use Rattle.lock_state.specs.Steps.Turnstiles.{phase_marked}
-use Rattle.thread_records.specs.declared.record.ThreadRec.{ThreadRec}
-use Rattle.floor_table.specs.Descriptions.{config_in}
-use Rattle.floor_table.specs.Steps.{MayMake, Makes}
-use Rattle.floor_table.specs.Views.{Knowledge, StandsOn, seeing}
-use Rattle.floor_table.specs.declared.description.Description.{Description}
-use Rattle.floor_table.specs.declared.slot.Slot.TheVariants.{Record}
-use Rattle.lock_floor.specs.Counts.{counted_first, counted_in_more}
-use Rattle.lock_floor.specs.Latches.{Takes}
-use Rattle.lock_floor.specs.Marks.{CanMark, HasFirstOut, MarksFirst, MayMark, WakesFirst, marked_first, out_marked, record_marked, with_marks}
-use Rattle.lock_floor.specs.Views.{gave}
+use Rattle.lock_floor.proofs.Names
+use Names.{ℕ, cond, None, List, [], length, refl, sym, ap, subst, inl, with_value, All, Global, Box, ne_eqb, All-head}
+use Names.{rest, Mark, Awake, SelfAborted, QueueName, TakesItem, GivesItem, CountsIn, Marks, RecordOf, phase_marked}
+use Names.{ThreadRec, config_in, MayMake, Makes, Knowledge, StandsOn, seeing, Description, Record, counted_first}
+use Names.{counted_in_more, Takes, CanMark, HasFirstOut, MarksFirst, MayMark, WakesFirst, marked_first, out_marked}
+use Names.{record_marked, with_marks, gave, IsGoing, IsOffTheWay, arith}
+use Rattle.std.proofs.Common.{◌≡◌, ◌≢◌, ◌<◌, ◌∷◌, ◌∙◌}
 use Rattle.lock_floor.proofs.Marked.{head_or, tail_of}
 use Rattle.lock_floor.proofs.MarkedRecords.{lacks}
 use Rattle.lock_floor.proofs.May.{may_give_settled}
 use Rattle.lock_floor.proofs.MayWake.{is_another, may_count_in, may_mark}
 use Rattle.lock_floor.proofs.Taking.{record_at}
-use Rattle.lock_floor.specs.Passes.{IsGoing, IsOffTheWay}
 use Rattle.lock_floor.proofs.Priorities.{a_record}
-use Rattle.std.proofs.Common.{arith}
 
 -- 1. The first of it
 

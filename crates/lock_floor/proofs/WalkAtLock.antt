@@ -1,27 +1,12 @@
 -- A hop at a lock, as the call makes it: it takes the chain at a place, finds the owner of the lock's turnstile there
 -- or none, and goes on.
-use Rattle.std.proofs.Common.{◌≡◌, ℕ, ◌<◌, Some, None, List, [], ◌∷◌, length, sym, ap, ◌∙◌, subst}
-use Rattle.std.specs.declared.alloc.Global.{Global}
-use Rattle.std.specs.declared.boxed.Box.{Box}
-use Rattle.atomic_table.specs.Table.{rest}
-use Rattle.chain_table.specs.Chains.{head_of}
-use Rattle.lock_model.specs.Queues.{lock_queue}
-use Rattle.lock_model.specs.declared.plan.QueueName.{QueueName}
-use Rattle.lock_state.specs.State.{Walk, NoWalk, AtLock}
-use Rattle.lock_state.specs.Steps.{Lends, EndsWalk, TakesItem, GivesItem}
-use Rattle.lock_state.specs.Steps.Items.{Item, RecordOf}
-use Rattle.thread_records.specs.declared.record.ThreadRec.{ThreadRec}
-use Rattle.turnstile_core.specs.Seen.{Turnstile}
-use Rattle.floor_table.specs.Places.{slot_of}
-use Rattle.floor_table.specs.Steps.{MayMake, Makes}
-use Rattle.floor_table.specs.Views.{Knowledge, seeing}
-use Rattle.floor_table.specs.declared.description.Description.{Description}
-use Rattle.floor_table.specs.declared.slot.Slot.{Slot}
-use Rattle.floor_table.specs.declared.slot.Slot.TheVariants.{Record, Turnstiles}
-use Rattle.lock_floor.specs.Floors.{Pass}
-use Rattle.lock_floor.specs.Latches.{FindsOut, Takes}
-use Rattle.lock_floor.specs.Views.{gave}
-use Rattle.lock_floor.specs.Walks.{HasTurnstilesOut, HopsOn, IsHopTo, NeedsRecord, MayLendTo, StepsInHop, hopped, owner_of_head, turnstiles, turnstiles_place}
+use Rattle.lock_floor.proofs.Names
+use Names.{ℕ, Some, None, List, [], length, sym, ap, subst, Global, Box, rest, head_of, lock_queue, QueueName, Walk}
+use Names.{NoWalk, AtLock, Lends, EndsWalk, TakesItem, GivesItem, Item, RecordOf, ThreadRec, Turnstile, slot_of}
+use Names.{MayMake, Makes, Knowledge, seeing, Description, Slot, Record, Turnstiles, Pass, FindsOut, Takes, gave}
+use Names.{HasTurnstilesOut, HopsOn, IsHopTo, NeedsRecord, MayLendTo, StepsInHop, hopped, owner_of_head, turnstiles}
+use Names.{turnstiles_place}
+use Rattle.std.proofs.Common.{◌≡◌, ◌<◌, ◌∷◌, ◌∙◌}
 use Rattle.lock_floor.proofs.WalkHops.{chain_at_slot, chain_last_out, may_take_it, owner_of_floor, may_end, ended_last, ended_may_give, ended_hop, may_lend_it, record_last, may_give_it, chain_last, may_give_back, hop_of, lend_hop, b_thread}
 
 -- the chain was looked at, which left the pass as it was

@@ -1,26 +1,11 @@
 -- What the calls of single steps of a walk leave of the pass and tell.
-use Rattle.std.proofs.Common.{◌≡◌, ℕ, Bool, false, List, [], ◌∷◌, refl, sym, ap, ◌∙◌, subst}
-use Rattle.std.specs.Global.{Vec}
-use Rattle.std.specs.declared.alloc.Global.{Global}
-use Rattle.std.specs.declared.boxed.Box.{Box}
-use Rattle.atomic_table.specs.Table.{Me}
-use Rattle.lock_history.specs.Books.{Book}
-use Rattle.lock_model.specs.declared.event.Held.{Held}
-use Rattle.lock_model.specs.declared.plan.QueueName.{QueueName}
-use Rattle.lock_objects.specs.declared.marked.Marked.{Marked}
-use Rattle.lock_state.specs.State.{Walk}
-use Rattle.lock_state.specs.Steps.{Step}
-use Rattle.thread_records.specs.declared.record.ThreadRec.{ThreadRec}
-use Rattle.turnstile_core.specs.Seen.{Turnstile}
-use Rattle.floor_table.specs.Steps.{Makes}
-use Rattle.floor_table.specs.Views.{Knowledge, seeing}
-use Rattle.floor_table.specs.declared.description.Description.{Description}
-use Rattle.floor_table.specs.declared.slot.Slot.{Slot}
-use Rattle.lock_floor.specs.Ties.{IsTied}
-use Rattle.lock_floor.specs.Walks.{StepsInHop, hopped, record_and_chain}
+use Rattle.lock_floor.proofs.Names
+use Names.{ℕ, Bool, false, List, [], refl, sym, ap, subst, Vec, Global, Box, Me, Book, Held, QueueName, Marked, Walk}
+use Names.{Step, ThreadRec, Turnstile, Makes, Knowledge, seeing, Description, Slot, IsTied, StepsInHop, hopped}
+use Names.{record_and_chain, arith}
+use Rattle.std.proofs.Common.{◌≡◌, ◌∷◌, ◌∙◌}
 use Rattle.lock_floor.proofs.Tied.{tied_on}
 use Rattle.lock_floor.proofs.WalkStep.{Hopped}
-use Rattle.std.proofs.Common.{arith}
 
 -- the pass was worked on, by which its seat knows what it knew, and then made the step
 module _ (floor : Description) (me worked behind : Me Slot Knowledge) (step : ℕ → Step) (w : Walk)

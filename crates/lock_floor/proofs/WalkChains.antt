@@ -1,23 +1,11 @@
 -- The one chain of turnstiles of a floor: every lock of a kind with turnstiles has its queue there, and no other chain
 -- of turnstiles has a queue.
-use Rattle.std.proofs.Common.{◌≡◌, ◌≢◌, ℕ, ◌+◌, ◌%◌, ◌<◌, true, cond, List, None, Some, length, lt-ltb, refl, sym, ap, ◌∙◌, arith}
-use Rattle.std.proofs.Math.Nat.{mod-lt}
-use Rattle.chain_table.specs.Chains.{head_of}
-use Rattle.lock_model.specs.Queues.{lock_queue}
-use Rattle.lock_model.specs.Words.{is_turnstile}
-use Rattle.lock_model.specs.declared.plan.QueueName.{QueueName}
-use Rattle.lock_model.specs.declared.plan.QueueName.TheVariants.{Lock, Chan}
-use Rattle.lock_objects.specs.Represents.{RepresentsQueue, RepresentsQueues, queue_in}
-use Rattle.lock_state.specs.State.{State}
-use Rattle.lock_state.specs.Steps.Items.{TurnstileChain, SleepChain, RecordOf}
-use Rattle.turnstile_core.specs.Seen.{Turnstile}
-use Rattle.floor_table.specs.Descriptions.{config_in}
-use Rattle.floor_table.specs.Places.{first_turnstile_chain, slot_of}
-use Rattle.floor_table.specs.Represents.{StandsIn, HasNames, RepresentsTurnstiles, objects_in}
-use Rattle.floor_table.specs.declared.description.Description.{Description}
-use Rattle.floor_table.proofs.Items.{one_place}
-use Rattle.lock_floor.specs.Waits.{its_chain}
-use Rattle.lock_floor.specs.Walks.{turnstiles, turnstiles_place}
+use Rattle.lock_floor.proofs.Names
+use Names.{ℕ, true, cond, List, None, Some, length, lt-ltb, refl, sym, ap, arith, mod-lt, head_of, lock_queue}
+use Names.{is_turnstile, QueueName, Lock, Chan, RepresentsQueue, RepresentsQueues, queue_in, State, TurnstileChain}
+use Names.{SleepChain, RecordOf, Turnstile, config_in, first_turnstile_chain, slot_of, StandsIn, HasNames}
+use Names.{RepresentsTurnstiles, objects_in, Description, one_place, its_chain, turnstiles, turnstiles_place}
+use Rattle.std.proofs.Common.{◌≡◌, ◌≢◌, ◌+◌, ◌%◌, ◌<◌, ◌∙◌}
 use Rattle.lock_floor.proofs.ChainChanges.{stands_by, its_own}
 use Rattle.lock_floor.proofs.Taking.{record_at}
 

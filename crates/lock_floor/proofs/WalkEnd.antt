@@ -1,21 +1,10 @@
 -- The end of a walk: a look at the latch of the chain of turnstiles.
-use Rattle.std.proofs.Common.{◌≡◌, ℕ, [], ◌∷◌, refl, subst}
-use Rattle.atomic_table.specs.Table.{Me, keeps, Allows}
-use Rattle.lock_state.specs.State.{State, NoWalk}
-use Rattle.lock_state.specs.Steps.{Step, EndsWalk}
-use Rattle.lock_state.specs.Steps.Lending.{after_end_walk}
-use Rattle.floor_table.specs.declared.description.Description.{Description}
-use Rattle.floor_table.specs.declared.slot.Slot.{Slot}
-use Rattle.floor_table.specs.Places.{spot, latch_line, latch_word, slots_for, home_at}
-use Rattle.floor_table.specs.Represents.{Board}
-use Rattle.floor_table.specs.Rule.{FloorHolds}
-use Rattle.floor_table.specs.Shelves.{Shelves, found}
-use Rattle.floor_table.specs.Steps.{FitAll, MayMake}
-use Rattle.floor_table.specs.Views.{Knowledge, OfThread, seeing}
-use Rattle.floor_table.proofs.Items.{place_low}
-use Rattle.floor_table.proofs.Made.{Finds, Steps, allows, latch_seen_with, outs_stay, OwnSteps}
-use Rattle.floor_table.proofs.Seen.{one_own}
-use Rattle.lock_floor.specs.Walks.{hopped, turnstiles, turnstiles_place}
+use Rattle.lock_floor.proofs.Names
+use Names.{ℕ, [], refl, subst, Me, keeps, Allows, State, NoWalk, Step, EndsWalk, after_end_walk, Description, Slot}
+use Names.{spot, latch_line, latch_word, slots_for, home_at, Board, FloorHolds, Shelves, found, FitAll, MayMake}
+use Names.{Knowledge, OfThread, seeing, place_low, Finds, Steps, allows, latch_seen_with, outs_stay, OwnSteps, one_own}
+use Names.{hopped, turnstiles, turnstiles_place}
+use Rattle.std.proofs.Common.{◌≡◌, ◌∷◌}
 use Rattle.lock_floor.proofs.WalkChains.{turnstiles_at}
 use Rattle.lock_floor.proofs.WalkShares.{end_own, end_others}
 use Rattle.lock_floor.proofs.WalkStep.{Hopped}

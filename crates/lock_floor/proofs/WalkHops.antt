@@ -1,29 +1,16 @@
 -- A hop of a walk, from its atomic steps: the chain of turnstiles is taken and then a record, the walk makes its step,
 -- and both are given back.
-use Rattle.std.proofs.Common.{◌≡◌, ◌≢◌, ℕ, ◌<◌, Option, Some, None, List, [], ◌∷◌, ◌++◌, length, refl, sym, ap, ◌∙◌, subst, inl, inr}
-use Rattle.std.specs.declared.alloc.Global.{Global}
-use Rattle.std.specs.declared.boxed.Box.{Box}
-use Rattle.atomic_table.specs.Table.{rest}
-use Rattle.chain_table.specs.Chains.{head_of}
-use Rattle.lock_model.specs.Queues.{lock_queue}
-use Rattle.lock_state.specs.State.{Walk, NoWalk, AtLock, AtThread}
-use Rattle.lock_state.specs.Steps.{Step, TakesItem, GivesItem, Lends, EndsWalk}
-use Rattle.lock_state.specs.Steps.Items.{Item, RecordOf, in_its_chain, item_with}
-use Rattle.thread_records.specs.declared.record.ThreadRec.{ThreadRec}
-use Rattle.turnstile_core.specs.Seen.{Turnstile}
-use Rattle.floor_table.specs.Places.{slot_of}
-use Rattle.floor_table.specs.Steps.{MayMake, Makes}
-use Rattle.floor_table.specs.Views.{Knowledge, IsReady, seeing}
-use Rattle.floor_table.specs.declared.description.Description.{Description}
-use Rattle.floor_table.specs.declared.slot.Slot.{Slot}
-use Rattle.floor_table.specs.declared.slot.Slot.TheVariants.{Record, Turnstiles}
-use Rattle.lock_floor.specs.Latches.{Takes}
-use Rattle.lock_floor.specs.Passes.{IsGoing}
-use Rattle.lock_floor.specs.Views.{gave}
-use Rattle.lock_floor.specs.Walks.{IsOnFloor, CanWalk, IsHop, IsStepAtThread, in_chain, with_record, Hops, HopsOn, HasTurnstilesOut, InHop, MayLendTo, MaySort, StepsInHop, hopped, walked, owner_of_head, record_and_chain, turnstiles, turnstiles_place}
+use Rattle.lock_floor.proofs.Names
+use Names.{ℕ, Option, Some, None, List, [], length, refl, sym, ap, subst, inl, inr, Global, Box, rest, head_of}
+use Names.{lock_queue, Walk, NoWalk, AtLock, AtThread, Step, TakesItem, GivesItem, Lends, EndsWalk, Item, RecordOf}
+use Names.{in_its_chain, item_with, ThreadRec, Turnstile, slot_of, MayMake, Makes, Knowledge, seeing, Description, Slot}
+use Names.{Record, Turnstiles, Takes, IsGoing, gave, IsOnFloor, CanWalk, IsHop, IsStepAtThread, in_chain, with_record}
+use Names.{Hops, HopsOn, HasTurnstilesOut, InHop, MayLendTo, MaySort, StepsInHop, hopped, walked, owner_of_head}
+use Names.{record_and_chain, turnstiles, turnstiles_place, fits_made}
+use Rattle.std.proofs.Common.{◌≡◌, ◌≢◌, ◌<◌, ◌∷◌, ◌++◌, ◌∙◌}
+use Rattle.floor_table.specs.Views.{IsReady}
 use Rattle.lock_floor.proofs.Priorities.{a_record}
 use Rattle.lock_floor.proofs.WalkChains.{turnstiles_at}
-use Rattle.floor_table.proofs.Known.{fits_made}
 use Rattle.lock_floor.proofs.WalkMay.{may_take_turnstiles, may_take_under, may_give_record, may_give_turnstiles, may_end_at_lock, uncounted_under}
 use Rattle.lock_floor.proofs.WalkRecords.{a_chain, owner_low, can_lend_to}
 

@@ -1,40 +1,16 @@
 -- A lend: a look at the latch of the chain of turnstiles, by which the work that was done on the owner's record and on
 -- the chain becomes the state's.
-use Rattle.std.proofs.Common.{◌≡◌, ◌≢◌, ℕ, false, Some, List, [], ◌∷◌, refl, sym, ap, ◌∙◌, subst}
-use Rattle.std.specs.Box.{with_value}
-use Rattle.std.specs.declared.alloc.Global.{Global}
-use Rattle.std.specs.declared.boxed.Box.{Box}
-use Rattle.atomic_table.specs.Table.{Me, keeps, Allows}
-use Rattle.lock_model.specs.Config.{Config}
-use Rattle.lock_model.specs.declared.plan.QueueName.{QueueName}
-use Rattle.lock_objects.specs.Represents.{RepresentsQueues, RepresentsRecord, record_in, queue_in, walk_of}
-use Rattle.lock_state.specs.Facts.{Lawful}
-use Rattle.lock_state.specs.State.{State, put}
-use Rattle.lock_state.specs.Steps.{Step, Lends}
-use Rattle.lock_state.specs.Steps.Items.{RecordOf}
-use Rattle.lock_state.specs.Steps.Lending.{MayLend, after_lend}
+use Rattle.lock_floor.proofs.Names
+use Names.{ℕ, false, Some, List, [], refl, sym, ap, subst, with_value, Global, Box, Me, keeps, Allows, Config}
+use Names.{QueueName, RepresentsQueues, RepresentsRecord, record_in, queue_in, walk_of, Lawful, State, put, Step, Lends}
+use Names.{RecordOf, MayLend, after_lend, with_contents, RecordSeen, ThreadRec, with_loan_home, Turnstile, config_in}
+use Names.{Description, Slot, Record, Turnstiles, spot, latch_line, latch_word, slots_for, slot_of, home_at, Board}
+use Names.{HasNames, RepresentsTurnstiles, RepresentsObjects, objects_in, thread_in, FloorHolds, Shelves, found, FitAll}
+use Names.{Knowledge, OfThread, seeing, place_low, Finds, Steps, allows, latch_seen_with, own_out, OwnSteps, still_of}
+use Names.{one_own, found_first, found_later, IsOnFloor, MayLendTo, IsLentTo, hopped, record_and_chain, turnstiles}
+use Names.{turnstiles_place}
+use Rattle.std.proofs.Common.{◌≡◌, ◌≢◌, ◌∷◌, ◌∙◌}
 use Rattle.prio_lending.specs.declared.walk.Walk as run_time
-use Rattle.prio_lending.specs.Hops.{with_contents}
-use Rattle.thread_records.specs.Records.{Record as RecordSeen}
-use Rattle.thread_records.specs.declared.record.ThreadRec.{ThreadRec}
-use Rattle.turnstile_core.specs.Changes.{with_loan_home}
-use Rattle.turnstile_core.specs.Seen.{Turnstile}
-use Rattle.floor_table.specs.Descriptions.{config_in}
-use Rattle.floor_table.specs.declared.description.Description.{Description}
-use Rattle.floor_table.specs.declared.slot.Slot.{Slot}
-use Rattle.floor_table.specs.declared.slot.Slot.TheVariants.{Record, Turnstiles}
-use Rattle.floor_table.specs.Places.{spot, latch_line, latch_word, slots_for, slot_of, home_at}
-use Rattle.floor_table.specs.Represents.{Board, HasNames, RepresentsTurnstiles, RepresentsObjects, objects_in, thread_in}
-use Rattle.floor_table.specs.Rule.{FloorHolds}
-use Rattle.floor_table.specs.Shelves.{Shelves, found}
-use Rattle.floor_table.specs.Steps.{FitAll}
-use Rattle.floor_table.specs.Views.{Knowledge, OfThread, seeing}
-use Rattle.floor_table.proofs.Items.{place_low}
-use Rattle.floor_table.proofs.Made.{Finds, Steps, allows, latch_seen_with, own_out, OwnSteps}
-use Rattle.floor_table.proofs.Objects.{still_of}
-use Rattle.floor_table.proofs.Seen.{one_own}
-use Rattle.floor_table.proofs.Shelved.{found_first, found_later}
-use Rattle.lock_floor.specs.Walks.{IsOnFloor, MayLendTo, IsLentTo, hopped, record_and_chain, turnstiles, turnstiles_place}
 use Rattle.lock_floor.proofs.Taking.{record_at}
 use Rattle.lock_floor.proofs.TwoChanged.{shelf_both, two_changed}
 use Rattle.lock_floor.proofs.WalkChains.{turnstiles_at, apart_from, all_queues, of_queues}

@@ -1,37 +1,19 @@
 -- What a thread's seat knows allows the steps of a hop: it takes the chain of turnstiles and then a record, lends,
 -- sorts anew or ends its walk, and gives both back.
-use Rattle.std.proofs.Common.{◌≡◌, ◌≢◌, ℕ, ◌<◌, ◌≤◌, true, false, ltb, Option, Some, None, IfSome, List, [], ◌∷◌, length, refl, sym, ap, ◌∙◌, subst, inl, inr, arith}
-use Rattle.std.specs.Prelude.{IsSomeAnd}
-use Rattle.std.proofs.lemmas.Bool.{cases_eq, ltb-true, ltb-false}
+use Rattle.lock_floor.proofs.Names
+use Names.{ℕ, true, false, ltb, Option, Some, None, IfSome, List, [], length, refl, sym, ap, subst, inl, inr, arith}
+use Names.{IsSomeAnd, cases_eq, ltb-true, ltb-false, head_of, no_owner, none_stands, Config, Lists, lock_queue, stands}
+use Names.{is_turnstile, QueueName, QueueColumns, RecordColumns, RepresentsQueue, RepresentsRecord, queue_in, record_in}
+use Names.{Lawful, State, Wait, Running, Queued, Round, AtLock, AtThread, is_parked, TakesItem, GivesItem, Lends}
+use Names.{Shifts, EndsWalk, HasItem, HasOutForEnd, IsOfRound, IsRunnable, OwesNoStep, GoesOn, Item, RecordOf}
+use Names.{item_with, go_together, is_bound, IsOnItsWay, IsSettled, IsAtEnd, is_woken, lists_of, Turnstile, config_in}
+use Names.{slot_of, IsOf, IsPosed, RepresentsTurnstiles, objects_in, found, Fits, MayMake, Pose, Runs, StandsOn}
+use Names.{Knowledge, Description, Slot, Record, Turnstiles, one_place, found_first, found_later, IsGoing, CanWalk}
+use Names.{InHop, MayLendTo, MaySort, StandsThere, StandsNowhere, owner_of_head, turnstiles, turnstiles_place}
+use Rattle.std.proofs.Common.{◌≡◌, ◌≢◌, ◌<◌, ◌≤◌, ◌∷◌, ◌∙◌}
 use mathlib.Core.Option.{some-ne-none}
-use Rattle.chain_table.specs.Chains.{head_of}
-use Rattle.lock_laws.proofs.AtTurn.{no_owner, none_stands}
-use Rattle.lock_model.specs.Config.{Config}
-use Rattle.lock_model.specs.Queues.{Lists, lock_queue, stands}
-use Rattle.lock_model.specs.Words.{is_turnstile}
-use Rattle.lock_model.specs.declared.plan.QueueName.{QueueName}
-use Rattle.lock_objects.specs.Represents.{QueueColumns, RecordColumns, RepresentsQueue, RepresentsRecord, queue_in, record_in}
-use Rattle.lock_state.specs.Facts.{Lawful}
-use Rattle.lock_state.specs.State.{State, Wait, Running, Queued, Round, AtLock, AtThread, is_parked}
-use Rattle.lock_state.specs.Steps.{TakesItem, GivesItem, Lends, Shifts, EndsWalk, HasItem, HasOutForEnd, IsOfRound, IsRunnable, OwesNoStep, GoesOn}
-use Rattle.lock_state.specs.Steps.Items.{Item, RecordOf, item_with, go_together, is_bound, IsOnItsWay, IsSettled}
-use Rattle.lock_state.specs.Steps.Lending.{IsAtEnd}
-use Rattle.lock_state.specs.Steps.LockWords.{is_woken}
-use Rattle.turnstile_core.specs.Changes.{lists_of, waits}
-use Rattle.turnstile_core.specs.Seen.{Turnstile}
-use Rattle.floor_table.specs.Descriptions.{config_in}
-use Rattle.floor_table.specs.Places.{slot_of}
-use Rattle.floor_table.specs.Represents.{IsOf, IsPosed, RepresentsTurnstiles, objects_in}
-use Rattle.floor_table.specs.Shelves.{found}
-use Rattle.floor_table.specs.Steps.{Fits, MayMake}
-use Rattle.floor_table.specs.Views.{Pose, Runs, IsReady, StandsOn, Knowledge}
-use Rattle.floor_table.specs.declared.description.Description.{Description}
-use Rattle.floor_table.specs.declared.slot.Slot.{Slot}
-use Rattle.floor_table.specs.declared.slot.Slot.TheVariants.{Record, Turnstiles}
-use Rattle.floor_table.proofs.Items.{one_place}
-use Rattle.floor_table.proofs.Shelved.{found_first, found_later}
-use Rattle.lock_floor.specs.Passes.{IsGoing}
-use Rattle.lock_floor.specs.Walks.{CanWalk, InHop, MayLendTo, MaySort, StandsThere, StandsNowhere, owner_of_head, turnstiles, turnstiles_place}
+use Rattle.turnstile_core.specs.Changes.{waits}
+use Rattle.floor_table.specs.Views.{IsReady}
 use Rattle.lock_floor.proofs.May.{doing_it, keeps_out, none_counted, nothing_with, no_wanted_round}
 use Rattle.lock_floor.proofs.Taking.{record_at}
 use Rattle.lock_floor.proofs.WalkChains.{turnstiles_at, apart_from, lock_chain}

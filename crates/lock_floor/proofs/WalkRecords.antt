@@ -1,39 +1,16 @@
 -- What a thread finds in the chain of turnstiles and in a record that it takes under it: the owner of a turnstile is a
 -- thread of the floor, and what its record has fits the turnstile, so that it can be lent to.
-use Rattle.std.proofs.Common.{◌≡◌, ℕ, ◌<◌, true, Option, Some, None, List, [], ◌∷◌, length, refl, sym, ap, ◌∙◌, subst}
-use Rattle.std.specs.Prelude.{IsSomeAnd}
-use Rattle.std.specs.declared.alloc.Global.{Global}
-use Rattle.std.specs.declared.boxed.Box.{Box}
+use Rattle.lock_floor.proofs.Names
+use Names.{ℕ, true, Option, Some, None, List, [], length, refl, sym, ap, subst, IsSomeAnd, Global, Box, head_of}
+use Names.{owner_thread, Config, lock_queue, is_turnstile, QueueName, CanHop, QueueColumns, RepresentsQueue}
+use Names.{RepresentsRecord, queue_in, record_in, can_hop, Lawful, State, AtLock, RecordOf, after_take, MayLend}
+use Names.{ThreadRec, Turnstile, config_in, IsOf, RepresentsTurnstiles, RepresentsShare, objects_in, thread_in}
+use Names.{ShareColumns, found, OfThread, Knowledge, Description, Slot, Record, Cell, Turnstiles, SleepQueues, Graph}
+use Names.{found_first, IsOfKind, Takes, owner_of_head, turnstiles, turnstiles_place, arith}
+use Rattle.std.proofs.Common.{◌≡◌, ◌<◌, ◌∷◌, ◌∙◌}
 use mathlib.Core.Option.{some}
-use Rattle.chain_table.specs.Chains.{head_of}
-use Rattle.lock_laws.proofs.HeadsAndNodes.{owner_thread}
-use Rattle.lock_model.specs.Config.{Config}
-use Rattle.lock_model.specs.Queues.{lock_queue}
-use Rattle.lock_model.specs.Words.{is_turnstile}
-use Rattle.lock_model.specs.declared.plan.QueueName.{QueueName}
-use Rattle.lock_objects.specs.Hops.{CanHop}
-use Rattle.lock_objects.specs.Represents.{QueueColumns, RepresentsQueue, RepresentsRecord, queue_in, record_in}
-use Rattle.lock_objects.proofs.Hops.{can_hop}
-use Rattle.lock_state.specs.Facts.{Lawful}
-use Rattle.lock_state.specs.State.{State, AtLock}
-use Rattle.lock_state.specs.Steps.Items.{RecordOf, after_take}
-use Rattle.lock_state.specs.Steps.Lending.{MayLend}
-use Rattle.thread_records.specs.declared.record.ThreadRec.{ThreadRec}
-use Rattle.turnstile_core.specs.Seen.{Turnstile}
-use Rattle.floor_table.specs.Descriptions.{config_in}
-use Rattle.floor_table.specs.Represents.{IsOf, RepresentsTurnstiles, RepresentsShare, objects_in, thread_in}
-use Rattle.floor_table.specs.Shares.{ShareColumns}
-use Rattle.floor_table.specs.Shelves.{found}
-use Rattle.floor_table.specs.Views.{OfThread, Knowledge}
-use Rattle.floor_table.specs.declared.description.Description.{Description}
-use Rattle.floor_table.specs.declared.slot.Slot.{Slot}
-use Rattle.floor_table.specs.declared.slot.Slot.TheVariants.{Record, Cell, Turnstiles, SleepQueues, Graph}
-use Rattle.floor_table.proofs.Shelved.{found_first}
-use Rattle.lock_floor.specs.Latches.{IsOfKind, Takes}
-use Rattle.lock_floor.specs.Walks.{owner_of_head, turnstiles, turnstiles_place}
 use Rattle.lock_floor.proofs.Taking.{record_at}
 use Rattle.lock_floor.proofs.WalkChains.{turnstiles_at, lock_chain, all_queues}
-use Rattle.std.proofs.Common.{arith}
 
 -- a value of the chain has turnstiles
 pub a_chain : (y : Slot) → IsOfKind turnstiles y → (chain : List (QueueName × Turnstile)) × (y ≡ Turnstiles chain)

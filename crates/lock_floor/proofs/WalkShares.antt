@@ -1,15 +1,8 @@
 -- The share of a thread behind a step of its walk, and those of others: the walk alone changes.
-use Rattle.std.proofs.Common.{◌≡◌, ◌≢◌, ℕ, List, sym}
-use Rattle.lock_laws.proofs.Kit.{put_same, put_other}
-use Rattle.lock_model.specs.Config.{Config}
-use Rattle.lock_state.specs.State.{State, Walk, NoWalk}
-use Rattle.lock_state.specs.Steps.Lending.{after_lend, after_shift, after_end_walk}
-use Rattle.floor_table.specs.Represents.{RepresentsShare}
-use Rattle.floor_table.specs.Shares.{columns_of, share_in}
-use Rattle.floor_table.specs.Views.{Knowledge}
-use Rattle.floor_table.specs.declared.slot.Slot.{Slot}
-use Rattle.lock_floor.specs.Walks.{hopped}
-use Rattle.std.proofs.Common.{arith}
+use Rattle.lock_floor.proofs.Names
+use Names.{ℕ, List, sym, put_same, put_other, Config, State, Walk, NoWalk, after_lend, after_shift, after_end_walk}
+use Names.{RepresentsShare, columns_of, share_in, Knowledge, Slot, hopped, arith}
+use Rattle.std.proofs.Common.{◌≡◌, ◌≢◌}
 
 -- 1. The thread's own
 

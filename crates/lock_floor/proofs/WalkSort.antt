@@ -1,41 +1,16 @@
 -- A sorting anew: a look at the latch of the chain of turnstiles, by which the work that was done on the chain becomes
 -- the state's.
-use Rattle.std.proofs.Common.{◌≡◌, ◌≢◌, ℕ, Option, Some, None, List, [], ◌∷◌, refl, sym, ap, ◌∙◌, subst}
-use Rattle.std.specs.Prelude.{IsSomeAnd}
-use Rattle.std.specs.declared.alloc.Global.{Global}
-use Rattle.std.specs.declared.boxed.Box.{Box}
-use Rattle.atomic_table.specs.Table.{Me, keeps, Allows}
-use Rattle.chain_table.specs.Chains.{head_of}
-use Rattle.lock_model.specs.Config.{Config}
-use Rattle.lock_model.specs.Queues.{lock_queue}
-use Rattle.lock_model.specs.declared.plan.QueueName.{QueueName}
-use Rattle.lock_objects.specs.Represents.{RepresentsQueues, RepresentsRecord, record_in, queue_in, walk_of}
-use Rattle.lock_state.specs.Facts.{Lawful}
-use Rattle.lock_state.specs.State.{State, put}
-use Rattle.lock_state.specs.Steps.{Step, Shifts}
-use Rattle.lock_state.specs.Steps.Items.{RecordOf}
-use Rattle.lock_state.specs.Steps.Lending.{MayShift, after_shift}
+use Rattle.lock_floor.proofs.Names
+use Names.{ℕ, Option, Some, None, List, [], refl, sym, ap, subst, IsSomeAnd, Global, Box, Me, keeps, Allows, head_of}
+use Names.{Config, lock_queue, QueueName, RepresentsQueues, RepresentsRecord, record_in, queue_in, walk_of, Lawful}
+use Names.{State, put, Step, Shifts, RecordOf, MayShift, after_shift, with_contents, ThreadRec, moved, Turnstile}
+use Names.{config_in, Description, Slot, Record, Turnstiles, spot, latch_line, latch_word, slots_for, slot_of, home_at}
+use Names.{Board, HasNames, RepresentsTurnstiles, RepresentsObjects, objects_in, thread_in, FloorHolds, Shelves, found}
+use Names.{FitAll, Knowledge, OfThread, seeing, place_low, Finds, Steps, allows, latch_seen_with, own_out, OwnSteps}
+use Names.{still_of, one_own, found_first, found_later, IsOnFloor, MaySort, IsSorted, hopped, record_and_chain}
+use Names.{turnstiles, turnstiles_place}
+use Rattle.std.proofs.Common.{◌≡◌, ◌≢◌, ◌∷◌, ◌∙◌}
 use Rattle.prio_lending.specs.declared.walk.Walk as run_time
-use Rattle.prio_lending.specs.Hops.{with_contents}
-use Rattle.thread_records.specs.declared.record.ThreadRec.{ThreadRec}
-use Rattle.turnstile_core.specs.Changes.{moved}
-use Rattle.turnstile_core.specs.Seen.{Turnstile}
-use Rattle.floor_table.specs.Descriptions.{config_in}
-use Rattle.floor_table.specs.declared.description.Description.{Description}
-use Rattle.floor_table.specs.declared.slot.Slot.{Slot}
-use Rattle.floor_table.specs.declared.slot.Slot.TheVariants.{Record, Turnstiles}
-use Rattle.floor_table.specs.Places.{spot, latch_line, latch_word, slots_for, slot_of, home_at}
-use Rattle.floor_table.specs.Represents.{Board, HasNames, RepresentsTurnstiles, RepresentsObjects, objects_in, thread_in}
-use Rattle.floor_table.specs.Rule.{FloorHolds}
-use Rattle.floor_table.specs.Shelves.{Shelves, found}
-use Rattle.floor_table.specs.Steps.{FitAll}
-use Rattle.floor_table.specs.Views.{Knowledge, OfThread, seeing}
-use Rattle.floor_table.proofs.Items.{place_low}
-use Rattle.floor_table.proofs.Made.{Finds, Steps, allows, latch_seen_with, own_out, OwnSteps}
-use Rattle.floor_table.proofs.Objects.{still_of}
-use Rattle.floor_table.proofs.Seen.{one_own}
-use Rattle.floor_table.proofs.Shelved.{found_first, found_later}
-use Rattle.lock_floor.specs.Walks.{IsOnFloor, MaySort, IsSorted, hopped, record_and_chain, turnstiles, turnstiles_place}
 use Rattle.lock_floor.proofs.Taking.{record_at}
 use Rattle.lock_floor.proofs.TwoChanged.{shelf_both, two_changed}
 use Rattle.lock_floor.proofs.WalkChains.{turnstiles_at, apart_from, all_queues, of_queues}

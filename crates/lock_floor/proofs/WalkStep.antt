@@ -1,32 +1,12 @@
 -- The steps of a walk: where each leaves the walk, and what it leaves of other values.
-use Rattle.std.proofs.Common.{◌≡◌, ◌≢◌, ℕ, ◌<◌, Bool, true, false, Option, Some, None, IfSome, List, [], ◌∷◌, length, refl, sym, ap, ◌∙◌, subst}
-use Rattle.atomic_table.specs.Table.{Me}
-use Rattle.chain_table.specs.Chains.{head_of, without}
-use Rattle.lock_laws.proofs.HeadsAndNodes.{head_lock}
-use Rattle.lock_laws.proofs.HeadsOfWaiters.{standing_head}
-use Rattle.lock_laws.proofs.Kit.{put_same, put_other, put_at_other, put_queue_other}
-use Rattle.lock_model.specs.Config.{Config}
-use Rattle.lock_model.specs.Queues.{lock_queue}
-use Rattle.lock_model.specs.Words.{is_turnstile}
-use Rattle.lock_model.specs.declared.plan.QueueName.{QueueName}
-use Rattle.lock_objects.specs.Represents.{record_in, queue_in}
-use Rattle.lock_objects.proofs.Chains.{is_queue-other}
-use Rattle.lock_state.specs.Facts.{Lawful}
-use Rattle.lock_state.specs.State.{State, Walk, AtLock}
-use Rattle.lock_state.specs.Steps.{Step}
-use Rattle.lock_state.specs.Steps.Items.{Item, TurnstileChain, SleepChain, RecordOf, CellOf, ClassGraph}
-use Rattle.lock_state.specs.Steps.Lending.{after_lend, walk_to, MayShift, after_shift}
-use Rattle.lock_state.specs.Steps.Turnstiles.{walk_up}
-use Rattle.turnstile_core.specs.Seen.{Turnstile}
-use Rattle.floor_table.specs.Descriptions.{config_in}
-use Rattle.floor_table.specs.declared.description.Description.{Description}
-use Rattle.floor_table.specs.declared.slot.Slot.{Slot}
-use Rattle.floor_table.specs.Represents.{StandsIn, HasNames, objects_in, sleepers}
-use Rattle.floor_table.specs.Steps.{Makes}
-use Rattle.floor_table.specs.Views.{Knowledge, seeing}
-use Rattle.floor_table.proofs.Objects.{SaySame}
-use Rattle.lock_floor.specs.Waits.{its_chain}
-use Rattle.lock_floor.specs.Walks.{IsOnFloor, hopped, turnstiles}
+use Rattle.lock_floor.proofs.Names
+use Names.{ℕ, Bool, true, false, Option, Some, None, IfSome, List, [], length, refl, sym, ap, subst, Me, head_of}
+use Names.{without, head_lock, standing_head, put_same, put_other, put_at_other, put_queue_other, Config, lock_queue}
+use Names.{is_turnstile, QueueName, record_in, queue_in, is_queue-other, Lawful, State, Walk, AtLock, Step, Item}
+use Names.{TurnstileChain, SleepChain, RecordOf, CellOf, ClassGraph, after_lend, walk_to, MayShift, after_shift}
+use Names.{walk_up, Turnstile, config_in, Description, Slot, StandsIn, HasNames, objects_in, sleepers, Makes, Knowledge}
+use Names.{seeing, SaySame, its_chain, IsOnFloor, hopped, turnstiles}
+use Rattle.std.proofs.Common.{◌≡◌, ◌≢◌, ◌<◌, ◌∷◌, ◌∙◌}
 use Rattle.lock_floor.proofs.ChainNames.{names_placed}
 use Rattle.lock_floor.proofs.WalkChains.{lock_chain, only_chain}
 

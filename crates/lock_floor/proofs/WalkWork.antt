@@ -1,31 +1,15 @@
 -- The work on the values that are out, before the step of a hop: what it asks, and that the step may be made behind it.
-use Rattle.std.proofs.Common.{◌≡◌, ℕ, Option, List, [], ◌∷◌, sym, ap, ◌∙◌, subst}
-use Rattle.std.specs.Box.{with_value}
-use Rattle.std.specs.Prelude.{IsSomeAnd}
-use Rattle.std.specs.declared.alloc.Global.{Global}
-use Rattle.std.specs.declared.boxed.Box.{Box}
-use Rattle.atomic_table.specs.Table.{Me, Allows}
-use Rattle.chain_table.specs.Chains.{head_of}
-use Rattle.lock_model.specs.Queues.{lock_queue}
-use Rattle.lock_model.specs.declared.plan.QueueName.{QueueName}
-use Rattle.lock_objects.specs.Hops.{CanHop}
+use Rattle.lock_floor.proofs.Names
+use Names.{ℕ, Option, List, [], sym, ap, subst, with_value, IsSomeAnd, Global, Box, Me, Allows, head_of, lock_queue}
+use Names.{QueueName, CanHop, RecordSeen, ThreadRec, Turnstile, spot, latch_line, FloorHolds, Knowledge, OfThread}
+use Names.{Description, Slot, Record, Turnstiles, IsGoing, InHop, MayLendTo, MaySort, IsLentTo, IsSorted, StandsNowhere}
+use Names.{record_and_chain, turnstiles_place, arith}
+use Rattle.std.proofs.Common.{◌≡◌, ◌∷◌, ◌∙◌}
 use Rattle.prio_lending.specs.declared.walk.Walk as run_time
-use Rattle.thread_records.specs.Records.{Record as RecordSeen}
-use Rattle.thread_records.specs.declared.record.ThreadRec.{ThreadRec}
-use Rattle.turnstile_core.specs.Seen.{Turnstile}
-use Rattle.floor_table.specs.Places.{spot, latch_line}
-use Rattle.floor_table.specs.Rule.{FloorHolds}
-use Rattle.floor_table.specs.Views.{Knowledge, OfThread}
-use Rattle.floor_table.specs.declared.description.Description.{Description}
-use Rattle.floor_table.specs.declared.slot.Slot.{Slot}
-use Rattle.floor_table.specs.declared.slot.Slot.TheVariants.{Record, Turnstiles}
-use Rattle.lock_floor.specs.Passes.{IsGoing}
-use Rattle.lock_floor.specs.Walks.{InHop, MayLendTo, MaySort, IsLentTo, IsSorted, StandsNowhere, record_and_chain, turnstiles_place}
 use Rattle.lock_floor.proofs.WalkEnd.{Ended, end_allowed}
 use Rattle.lock_floor.proofs.WalkLend.{Lent, lend_allowed}
 use Rattle.lock_floor.proofs.WalkMay.{may_end_at_thread}
 use Rattle.lock_floor.proofs.WalkSort.{Shifted, shift_allowed}
-use Rattle.std.proofs.Common.{arith}
 
 -- the seat knows what it knew
 abbrev hop_behind : (floor : Description) (o : ℕ) (v w : Knowledge) → w ≡ v → InHop floor o v → InHop floor o w

@@ -1,20 +1,11 @@
 -- An abort of a sleeper, of an sx lock or of a channel, keeps each fact.
-use Rattle.std.proofs.Common.{◌≡◌, ℕ, ◌≤◌, Bool, true, false, not, List, [], ◌∷◌, Option, refl, ap, inl, inr, arith, ◌∙◌}
-use Rattle.std.proofs.lemmas.Bool.{cases_eq}
-use Rattle.lock_model.specs.Config.{Config}
-use Rattle.lock_model.specs.Counts.{one, is_empty}
-use Rattle.lock_model.specs.Words.{Word, shows_waiters, with_bit}
-use Rattle.lock_model.specs.Queues.{Waiter, Lists, Mark, lock_queue, list_of, with_list, times_waiting, dealt, free_after, head_after, without}
-use Rattle.lock_model.specs.declared.plan.Side.{Side}
-use Rattle.lock_model.specs.declared.plan.Side.TheVariants.{X, S}
-use Rattle.lock_model.specs.declared.plan.QueueName.{QueueName}
-use Rattle.lock_model.specs.declared.plan.QueueName.TheVariants.{Lock, Chan}
-use Rattle.lock_state.specs.State.{State, put, put_queue}
-use Rattle.lock_state.specs.Steps.SleepQueues.{IsQueueOf, MayAbort, sleeper, by_abort, after_abort}
-use Rattle.lock_state.specs.Facts.{Lawful, BitsShowWaiters, FreeWordHasCalled, FreeMutexShowsNone, WordsMatchHolders}
-use Rattle.lock_state.specs.Facts.Queues.{times_object, ShowsItsWaiters}
-use Rattle.lock_state.specs.Facts.Waits.{callers, calls_marked, times_marked}
-use Rattle.lock_state.specs.Facts.Words.{WordMatchesHolders}
+use Rattle.lock_laws.proofs.Names
+use Names.{ℕ, Bool, true, false, not, List, [], Option, refl, ap, inl, inr, arith, cases_eq, Config, one, is_empty}
+use Names.{Word, shows_waiters, with_bit, Waiter, Lists, Mark, lock_queue, list_of, with_list, times_waiting, dealt}
+use Names.{free_after, head_after, without, Side, X, S, QueueName, Lock, Chan, State, put, put_queue, IsQueueOf}
+use Names.{MayAbort, sleeper, by_abort, after_abort, Lawful, BitsShowWaiters, FreeWordHasCalled, FreeMutexShowsNone}
+use Names.{WordsMatchHolders, times_object, ShowsItsWaiters, callers, calls_marked, times_marked, WordMatchesHolders}
+use Rattle.std.proofs.Common.{◌≡◌, ◌≤◌, ◌∷◌, ◌∙◌}
 use Rattle.lock_laws.proofs.Kit.{put_same, put_other, sum_below-put, at_put}
 use Rattle.lock_laws.proofs.Places.{IsThere}
 use Rattle.lock_laws.proofs.Words.{matches_same}

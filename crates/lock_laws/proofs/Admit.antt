@@ -1,11 +1,9 @@
 -- An admission and a refusal of a lock, by the order of locks, keep each fact.
-use Rattle.std.proofs.Common.{◌≡◌, ℕ, Option, Some, None, sym, arith, ◌∙◌}
-use Rattle.lock_model.specs.Config.{Config}
-use Rattle.lock_model.specs.declared.plan.QueueName.{QueueName}
-use Rattle.lock_state.specs.State.{State, Running, Queued, put}
-use Rattle.lock_state.specs.Steps.Items.{Item, out_with, item_with}
-use Rattle.lock_state.specs.Steps.Orders.{IsFreeToTake, after_admit, after_refuse}
-use Rattle.lock_state.specs.Facts.{Lawful, StandingIsQueued, StandingWants, WokenWants, CalledWants, OutIsNarrow}
+use Rattle.lock_laws.proofs.Names
+use Names.{ℕ, Option, Some, None, sym, arith, Config, QueueName, State, Running, Queued, put, Item, out_with, item_with}
+use Names.{IsFreeToTake, after_admit, after_refuse, Lawful, StandingIsQueued, StandingWants, WokenWants, CalledWants}
+use Names.{OutIsNarrow}
+use Rattle.std.proofs.Common.{◌≡◌, ◌∙◌}
 use Rattle.lock_laws.proofs.Kit.{columns}
 
 -- what is out once the class graph is home

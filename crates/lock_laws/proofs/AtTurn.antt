@@ -1,14 +1,10 @@
 -- What a turn finds in a lawful state: words that can be, and objects where they are.
-use Rattle.std.proofs.Common.{◌≡◌, ◌⊎◌, ℕ, ◌+◌, ◌≤◌, true, false, not, ◌||◌, Option, Some, None, refl, arith}
-use Rattle.lock_model.specs.Counts.{some}
-use Rattle.lock_model.specs.Words.{IsWellFormed, word_of, bits_of, is_turnstile, owner_of, shows_waiters, is_drop}
-use Rattle.lock_model.specs.Holds.{Holds}
-use Rattle.lock_model.specs.Config.{Config}
-use Rattle.lock_state.specs.State.{State}
-use Rattle.lock_model.specs.Queues.{lock_queue, stands}
-use Rattle.lock_state.specs.Facts.{Lawful, TurnstileIsLent, SleepQueueIsLent, WordsMatchHolders, OnlyThreadsStand, HeadsFitWaiters, BitsShowWaiters, OwnersHold}
-use Rattle.lock_model.specs.declared.plan.Mode.TheVariants.{Excl}
-use Rattle.lock_model.specs.declared.plan.QueueName.{QueueName}
+use Rattle.lock_laws.proofs.Names
+use Names.{ℕ, true, false, not, Option, Some, None, refl, arith, some, IsWellFormed, word_of, bits_of, is_turnstile}
+use Names.{owner_of, shows_waiters, is_drop, Holds, Config, State, lock_queue, stands, Lawful, TurnstileIsLent}
+use Names.{SleepQueueIsLent, WordsMatchHolders, OnlyThreadsStand, HeadsFitWaiters, BitsShowWaiters, OwnersHold, Excl}
+use Names.{QueueName}
+use Rattle.std.proofs.Common.{◌≡◌, ◌⊎◌, ◌+◌, ◌≤◌, ◌||◌}
 use Rattle.lock_laws.proofs.Words.{word_again}
 use Rattle.lock_laws.proofs.WordsAndHeads.{possible_holder, headless_bare}
 

@@ -1,20 +1,14 @@
 -- Where no walk is under way and nobody waits in a cycle, each effective priority is the best behind it.
-use Rattle.std.proofs.Common.{◌≡◌, ℕ, zero, suc, ◌<◌, ◌≤◌, Bool, true, false, cond, eqb, leb, min, List, [], ◌∷◌, ◌++◌, length, Option, Some, None, refl, sym, ap, inl, inr, arith, eq-eqb, ◌∙◌, ◌&&◌, append_assoc, subst}
-use Rattle.std.proofs.lemmas.Bool.{ne_eqb, cases_eq, cases_Bool, leb-true, le-leb, or_cases, and_parts}
-use Rattle.std.proofs.lemmas.Map.Steps.{length-le_from_distinct_below}
-use Rattle.std.specs.List.{IsDistinct, AllByRecursion, list_any}
-use Rattle.lock_model.specs.Counts.{any_below, least, lower}
-use Rattle.lock_model.specs.Words.{is_turnstile}
-use Rattle.lock_state.specs.State.{State, Loan}
-use Rattle.lock_model.specs.Config.{Config}
-use Rattle.lock_model.specs.Queues.{Waiter, Lists, lock_queue, times_waiting, stands, least_kept, least_of_two, least_of}
-use Rattle.lock_model.specs.Holds.{NotHeld, Holds}
-use Rattle.lock_state.specs.Steps.LockWords.{prio_of}
-use Rattle.lock_state.specs.Facts.{Lawful, KeptIsEffective, LoansAreLeast, LoansAreWithOwners, OwnersHold, EffectiveIsLeast, StandsOnce, OnlyThreadsStand, StandingWants, WordsMatchHolders}
-use Rattle.lock_state.specs.Facts.Words.{owns}
-use Rattle.lock_state.specs.Facts.Loans.{Each, EachOf, IsKept, walkers_at_lock, walkers_at_thread, at_lock, at_thread}
-use Rattle.lock_state.specs.Best.{is_behind, best_within, best_behind, WaitsFor, WaitsAlong, HasCycle, NobodyWalks}
-use Rattle.lock_model.specs.declared.plan.Mode.TheVariants.{Excl}
+use Rattle.lock_laws.proofs.Names
+use Names.{ℕ, zero, suc, Bool, true, false, cond, eqb, leb, min, List, [], length, Option, Some, None, refl, sym, ap}
+use Names.{inl, inr, arith, eq-eqb, append_assoc, subst, ne_eqb, cases_eq, cases_Bool, leb-true, le-leb, or_cases}
+use Names.{and_parts, length-le_from_distinct_below, IsDistinct, AllByRecursion, list_any, any_below, least, lower}
+use Names.{is_turnstile, State, Loan, Config, Waiter, Lists, lock_queue, times_waiting, stands, least_kept}
+use Names.{least_of_two, least_of, NotHeld, Holds, prio_of, Lawful, KeptIsEffective, LoansAreLeast, LoansAreWithOwners}
+use Names.{OwnersHold, EffectiveIsLeast, StandsOnce, OnlyThreadsStand, StandingWants, WordsMatchHolders, owns, Each}
+use Names.{EachOf, IsKept, walkers_at_lock, walkers_at_thread, at_lock, at_thread, is_behind, best_within, best_behind}
+use Names.{WaitsFor, WaitsAlong, HasCycle, NobodyWalks, Excl}
+use Rattle.std.proofs.Common.{◌≡◌, ◌<◌, ◌≤◌, ◌∷◌, ◌++◌, ◌∙◌, ◌&&◌}
 use Rattle.lock_laws.proofs.Kit.{at_queue_one, sum_below-zero}
 use Rattle.lock_laws.proofs.HeadsOfWaiters.{standing_head}
 use Rattle.lock_laws.proofs.Lending.{least-le_base}

@@ -1,17 +1,12 @@
 -- Nobody waits at a turnstile of a lock that isn't one of the plan's: the plan's threads have a turnstile each, and
 -- these are all in its own places.
-use Rattle.std.proofs.Common.{◌≡◌, ℕ, suc, ◌+◌, ◌<◌, ◌≤◌, Bool, true, false, cond, eqb, ltb, ◌&&◌, List, [], ◌∷◌, length, Option, Some, None, refl, sym, ap, inl, inr, arith, eq-eqb, ◌∙◌}
-use Rattle.std.proofs.lemmas.Bool.{ne_eqb, cases_eq, lt-ltb}
-use Rattle.lock_model.specs.Counts.{sum_below, one, some, at_option, times}
-use Rattle.lock_model.specs.Words.{is_turnstile}
-use Rattle.lock_model.specs.Config.{Config}
-use Rattle.lock_state.specs.State.{State}
-use Rattle.lock_model.specs.Queues.{Mark, is_queue, lock_queue, is_turnstile_queue, names_turnstile, times_waiting, stands, waiting}
-use Rattle.lock_state.specs.Facts.{Lawful, OneTurnstileEach, TurnstileIsLent, HeadsFitWaiters, StandsOnce, OnlyThreadsStand}
-use Rattle.lock_state.specs.Facts.Queues.{only, turnstile_places, times_object}
-use Rattle.lock_state.specs.Facts.Waits.{times_marked, at_queue}
-use Rattle.lock_model.specs.declared.plan.QueueName.{QueueName}
-use Rattle.lock_model.specs.declared.plan.QueueName.TheVariants.{Lock, Chan}
+use Rattle.lock_laws.proofs.Names
+use Names.{ℕ, suc, Bool, true, false, cond, eqb, ltb, List, [], length, Option, Some, None, refl, sym, ap, inl, inr}
+use Names.{arith, eq-eqb, ne_eqb, cases_eq, lt-ltb, sum_below, one, some, at_option, times, is_turnstile, Config, State}
+use Names.{Mark, is_queue, lock_queue, is_turnstile_queue, names_turnstile, times_waiting, stands, waiting, Lawful}
+use Names.{OneTurnstileEach, TurnstileIsLent, HeadsFitWaiters, StandsOnce, OnlyThreadsStand, only, turnstile_places}
+use Names.{times_object, times_marked, at_queue, QueueName, Lock, Chan}
+use Rattle.std.proofs.Common.{◌≡◌, ◌+◌, ◌<◌, ◌≤◌, ◌&&◌, ◌∷◌, ◌∙◌}
 use Rattle.lock_laws.proofs.Kit.{sum_below-same, sum_below-zero, is_queue_same, same_lock, one_same}
 use Rattle.lock_laws.proofs.Standing.{standing_named, standing_thread, times_named}
 use Rattle.lock_laws.proofs.Sums.{sum_below-add, sum_below-le, sum_below-most, sum_below-all, sum_below-single, sum_below-beyond, columns-le, le-columns, option-sum, times-sum, only-sum, sum-only, only-le, zero_unless, marked_threads, object-sum, sum-times, sum-waiting}

@@ -1,10 +1,8 @@
 -- The bits of a set of threads are its members.
-use Rattle.std.proofs.Common.{◌≡◌, ℕ, zero, suc, ◌+◌, ◌-◌, ◌*◌, ◌/◌, ◌^◌, ◌<◌, ◌≤◌, cond, eqb, nat_lt, List, [], ◌∷◌, refl, sym, ap, arith, ◌∙◌}
-use Rattle.std.proofs.Math.Nat.{add-mul}
-use Rattle.std.proofs.lemmas.Nat.{pow-add, pow_pos, div-mul-add, mod-mul-add}
-use Rattle.std.proofs.lemmas.Bool.Decides.{nat_tests}
-use Rattle.lock_model.specs.Counts.{sum_below, one, times, has_bit}
-use Rattle.lock_state.specs.Steps.LockWords.{bits_of_threads}
+use Rattle.lock_laws.proofs.Names
+use Names.{ℕ, zero, suc, cond, eqb, nat_lt, List, [], refl, sym, ap, arith, add-mul, pow-add, pow_pos, div-mul-add}
+use Names.{mod-mul-add, nat_tests, sum_below, one, times, has_bit, bits_of_threads}
+use Rattle.std.proofs.Common.{◌≡◌, ◌+◌, ◌-◌, ◌*◌, ◌/◌, ◌^◌, ◌<◌, ◌≤◌, ◌∷◌, ◌∙◌}
 use Rattle.lock_laws.proofs.Sums.{sum_below-add, sum_below-le}
 use Rattle.lock_laws.proofs.Kit.{sum_below-zero, sum_below-same}
 

@@ -1,26 +1,15 @@
 -- A step that changes a lock's word leaves its thread with no last look; and an abort that changes none leaves it the
 -- last look that it had.
-use Rattle.std.proofs.Common.{◌≡◌, ◌≢◌, ℕ, ◌<◌, true, false, not, List, [], ◌∷◌, Option, None, refl, sym, ap, ◌∙◌, arith}
-use Rattle.lock_model.specs.Config.{Config}
-use Rattle.lock_model.specs.Counts.{is_empty}
-use Rattle.lock_model.specs.Queues.{Waiter, Lists, list_of, times_waiting, without}
-use Rattle.lock_model.specs.Words.{Word, with_bit}
-use Rattle.lock_model.specs.declared.numbers.LockNo.{LockNo}
-use Rattle.lock_model.specs.declared.plan.QueueName.{QueueName}
-use Rattle.lock_model.specs.declared.plan.QueueName.TheVariants.{Lock, Chan}
-use Rattle.lock_model.specs.declared.plan.Side.{Side}
-use Rattle.lock_model.specs.declared.plan.Side.TheVariants.{X, S}
-use Rattle.lock_state.specs.Facts.{Lawful, BitsShowWaiters}
-use Rattle.lock_state.specs.Facts.Queues.{ShowsItsWaiters}
-use Rattle.lock_state.specs.State.{State, Look}
-use Rattle.lock_state.specs.Steps.LockWords.{after_seek, after_look, after_gain, after_drop, after_stamp, after_ready, after_unready}
-use Rattle.lock_state.specs.Steps.Turnstiles.{after_enter, after_open, after_mark, after_resume}
-use Rattle.lock_state.specs.Steps.SleepQueues.{MayAbort, look_leaving, word_showing, after_enter_sleep, after_open_sleep, after_add, after_wake, after_abort}
-use Rattle.lock_state.specs.Steps.Lending.{after_claim, after_lend, after_shift, after_end_walk}
-use Rattle.lock_state.specs.Steps.Items.{after_take, after_give}
-use Rattle.lock_state.specs.Steps.Orders.{after_admit, after_refuse}
-use Rattle.lock_state.specs.Steps.Counting.{after_count_out, after_count_in, after_count_self_in, after_count_end, after_halt}
-use Rattle.lock_state.specs.Steps.{Step, Gains, Drops, Enters, Opens, EntersSleepQueue, OpensSleepQueue, Claims, Aborts, May, after, kind_of}
+use Rattle.lock_laws.proofs.Names
+use Names.{ℕ, true, false, not, List, [], Option, None, refl, sym, ap, arith, Config, is_empty, Waiter, Lists, list_of}
+use Names.{times_waiting, without, Word, with_bit, LockNo, QueueName, Lock, Chan, Side, X, S, Lawful, BitsShowWaiters}
+use Names.{ShowsItsWaiters, State, Look, after_seek, after_look, after_gain, after_drop, after_stamp, after_ready}
+use Names.{after_unready, after_enter, after_open, after_mark, after_resume, MayAbort, look_leaving, word_showing}
+use Names.{after_enter_sleep, after_open_sleep, after_add, after_wake, after_abort, after_claim, after_lend}
+use Names.{after_shift, after_end_walk, after_take, after_give, after_admit, after_refuse, after_count_out}
+use Names.{after_count_in, after_count_self_in, after_count_end, after_halt, Step, Gains, Drops, Enters, Opens}
+use Names.{EntersSleepQueue, OpensSleepQueue, Claims, Aborts, May, after, kind_of}
+use Rattle.std.proofs.Common.{◌≡◌, ◌≢◌, ◌<◌, ◌∷◌, ◌∙◌}
 use Rattle.lock_laws.proofs.Kit.{put_same, put_back}
 
 -- 1. The word of a lock, where somebody stands on a side

@@ -1,19 +1,12 @@
 -- A claim keeps each fact.
-use Rattle.std.proofs.Common.{◌≡◌, ℕ, Bool, true, Option, Some, None, refl, sym, ap, inl, inr, arith, ◌∙◌}
-use Rattle.std.proofs.lemmas.Bool.{cases_eq}
-use Rattle.lock_model.specs.Counts.{at_option}
-use Rattle.lock_model.specs.Words.{Free, HeldBy, is_turnstile, claimed}
-use Rattle.lock_state.specs.State.{State, Loan, put_at, put_queue}
-use Rattle.lock_model.specs.Config.{Config}
-use Rattle.lock_model.specs.Holds.{Holds}
-use Rattle.lock_state.specs.Steps.Lending.{MayClaim, after_claim, loan_of}
-use Rattle.lock_model.specs.Queues.{lock_queue, stands, least_of}
-use Rattle.lock_state.specs.Facts.{Lawful, OneNodeEach, HeadsFitWaiters, BitsShowWaiters, StandsOnce, CalledWants, FreeWordHasCalled, FreeMutexShowsNone, WordsMatchHolders, EffectiveIsLeast, OwnersHold, ChannelsHaveNoOwner, LoansAreLeast, LoansAreWithOwners, LoansAreOnHeads, KeptIsEffective, EffectiveIsKnown, LoansAreKnown, KeptIsKnown}
-use Rattle.lock_state.specs.Facts.Queues.{HeadFits}
-use Rattle.lock_state.specs.Facts.Waits.{callers}
-use Rattle.lock_state.specs.Facts.Loans.{owner_if, IsKnown}
-use Rattle.lock_model.specs.declared.plan.Mode.TheVariants.{Excl}
-use Rattle.lock_model.specs.declared.plan.QueueName.{QueueName}
+use Rattle.lock_laws.proofs.Names
+use Names.{ℕ, Bool, true, Option, Some, None, refl, sym, ap, inl, inr, arith, cases_eq, at_option, Free, HeldBy}
+use Names.{is_turnstile, claimed, State, Loan, put_at, put_queue, Config, Holds, MayClaim, after_claim, loan_of}
+use Names.{lock_queue, stands, least_of, Lawful, OneNodeEach, HeadsFitWaiters, BitsShowWaiters, StandsOnce, CalledWants}
+use Names.{FreeWordHasCalled, FreeMutexShowsNone, WordsMatchHolders, EffectiveIsLeast, OwnersHold, ChannelsHaveNoOwner}
+use Names.{LoansAreLeast, LoansAreWithOwners, LoansAreOnHeads, KeptIsEffective, EffectiveIsKnown, LoansAreKnown}
+use Names.{KeptIsKnown, HeadFits, callers, owner_if, IsKnown, Excl, QueueName}
+use Rattle.std.proofs.Common.{◌≡◌, ◌∙◌}
 use Rattle.lock_laws.proofs.Kit.{columns, put_same, put_other, put_at_same, put_at_other, put_at_beside, put_lock_same, put_lock_other, sum_below-put, at_put_queue}
 use Rattle.lock_laws.proofs.Gain.{gained_lock}
 use Rattle.lock_laws.proofs.Words.{free_is, all_match-put, matches-claim}

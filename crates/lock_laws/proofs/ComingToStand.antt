@@ -2,21 +2,16 @@
 -- sleep queue. Whichever the queue, its sort and the rule by which waiters are put in, what that could break is kept:
 -- places of objects, heads, the order of lists, who stands, and what those who stand want and are called for. A word's
 -- bits and callers, owners, loans and kept priorities are for the steps that change these.
-use Rattle.std.proofs.Common.{◌≡◌, ℕ, suc, ◌+◌, ◌<◌, Bool, true, false, not, eqb, List, [], length, Option, Some, None, refl, sym, ap, subst, arith, ◌∙◌}
-use Rattle.lock_model.specs.Counts.{is_empty, one}
-use Rattle.lock_model.specs.Config.{Config}
-use Rattle.lock_model.specs.Queues.{Waiter, Lists, Ascends, is_turnstile_queue, names_turnstile, names_sleep_queue, lock_queue, list_of, with_list, times_waiting, stands, waiting, insert, head_with, free_with, with_last}
-use Rattle.lock_model.specs.Words.{is_turnstile}
-use Rattle.lock_model.specs.declared.plan.Kind.TheVariants.{Mtx}
-use Rattle.lock_model.specs.declared.plan.Side.{Side}
-use Rattle.lock_model.specs.declared.plan.Side.TheVariants.{X}
-use Rattle.lock_model.specs.declared.plan.QueueName.{QueueName}
-use Rattle.lock_model.specs.declared.plan.QueueName.TheVariants.{Lock, Chan}
-use Rattle.lock_state.specs.State.{State, Queued, put}
-use Rattle.lock_state.specs.Steps.Turnstiles.{with_waiter}
-use Rattle.lock_state.specs.Facts.{Lawful, OneTurnstileEach, OneSleepQueueEach, TurnstileIsLent, SleepQueueIsLent, HeadsFitWaiters, ListsAscend, MutexWaitersAreExclusive, StandsOnce, OnlyThreadsStand, StandingIsQueued, StandingWants, WokenWants, CalledWants, StandingIsUncalled, WokenIsUncalled}
-use Rattle.lock_state.specs.Facts.Queues.{HeadFits, turnstile_places, sleep_queue_places}
-use Rattle.lock_model.proofs.Lists.{times_waiting-insert, length-insert, ascends-insert, times_waiting-last, length-last}
+use Rattle.lock_laws.proofs.Names
+use Names.{ℕ, suc, Bool, true, false, not, eqb, List, [], length, Option, Some, None, refl, sym, ap, subst, arith}
+use Names.{is_empty, one, Config, Waiter, Lists, Ascends, is_turnstile_queue, names_turnstile, names_sleep_queue}
+use Names.{lock_queue, list_of, with_list, times_waiting, stands, waiting, insert, head_with, free_with, with_last}
+use Names.{is_turnstile, Mtx, Side, X, QueueName, Lock, Chan, State, Queued, put, with_waiter, Lawful, OneTurnstileEach}
+use Names.{OneSleepQueueEach, TurnstileIsLent, SleepQueueIsLent, HeadsFitWaiters, ListsAscend, MutexWaitersAreExclusive}
+use Names.{StandsOnce, OnlyThreadsStand, StandingIsQueued, StandingWants, WokenWants, CalledWants, StandingIsUncalled}
+use Names.{WokenIsUncalled, HeadFits, turnstile_places, sleep_queue_places, times_waiting-insert, length-insert}
+use Names.{ascends-insert, times_waiting-last, length-last}
+use Rattle.std.proofs.Common.{◌≡◌, ◌+◌, ◌<◌, ◌∙◌}
 use Rattle.lock_laws.proofs.Kit.{columns, at_locks, is_queue_same}
 use Rattle.lock_laws.proofs.Queues.{stands-with, waiting-with, BothAscend, ascends-with}
 use Rattle.lock_laws.proofs.Places.{IsThere, at_home, is_sort, lent, own_there, lent_places, lent_named}

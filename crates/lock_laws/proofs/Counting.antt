@@ -1,9 +1,6 @@
 -- Countings out and in, ends and halts keep each fact of a lawful state: none reads a count.
-use Rattle.std.proofs.Common.{ℕ}
-use Rattle.lock_model.specs.Config.{Config}
-use Rattle.lock_state.specs.State.{State}
-use Rattle.lock_state.specs.Steps.Counting.{after_count_out, after_count_in, after_count_self_in, after_count_end, after_halt}
-use Rattle.lock_state.specs.Facts.{Lawful}
+use Rattle.lock_laws.proofs.Names.{ℕ, Config, State, after_count_out, after_count_in, after_count_self_in}
+use Rattle.lock_laws.proofs.Names.{after_count_end, after_halt, Lawful}
 
 module _ (c : Config) (s : State) (h : Lawful c s) where
   pub out_lawful : (t : ℕ) → Lawful c (after_count_out s t)

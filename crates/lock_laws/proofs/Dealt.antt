@@ -1,14 +1,9 @@
 -- Marks of threads that were taken off a channel by a signal.
-use Rattle.std.proofs.Common.{◌≡◌, ℕ, ◌+◌, ◌<◌, ◌≤◌, true, eqb, ◌&&◌, List, [], ◌∷◌, map, length, Option, Some, None, refl, ap, arith}
-use Rattle.std.proofs.lemmas.Bool.Decides.{nat_tests}
-use Rattle.lock_model.specs.Config.{Config}
-use Rattle.lock_model.specs.Counts.{sum_below, one, some, times}
-use Rattle.lock_model.specs.Queues.{Waiter, Mark, is_queue, lock_queue, chan_queue, dealt, times_waiting}
-use Rattle.lock_model.specs.declared.plan.QueueName.{QueueName}
-use Rattle.lock_state.specs.State.{State, Wake, put}
-use Rattle.lock_state.specs.Facts.{Lawful, StandsOnce}
-use Rattle.lock_state.specs.Facts.Waits.{times_marked, at_queue}
-use Rattle.lock_state.specs.Facts.Sleeps.{is_chan, signals, signals_noted, AreSignals}
+use Rattle.lock_laws.proofs.Names
+use Names.{ℕ, true, eqb, List, [], map, length, Option, Some, None, refl, ap, arith, nat_tests, Config, sum_below, one}
+use Names.{some, times, Waiter, Mark, is_queue, lock_queue, chan_queue, dealt, times_waiting, QueueName, State, Wake}
+use Names.{put, Lawful, StandsOnce, times_marked, at_queue, is_chan, signals, signals_noted, AreSignals}
+use Rattle.std.proofs.Common.{◌≡◌, ◌+◌, ◌<◌, ◌≤◌, ◌&&◌, ◌∷◌}
 use Rattle.lock_laws.proofs.Kit.{put_same, put_other, sum_below-at, sum_below-change, sum_below-two, is_queue_same}
 use Rattle.lock_laws.proofs.Standing.{times_named}
 

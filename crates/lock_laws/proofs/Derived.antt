@@ -1,17 +1,10 @@
 -- What follows from the facts of a lawful state.
-use Rattle.std.proofs.Common.{◌≡◌, ◌≢◌, ℕ, ◌+◌, ◌<◌, ◌≤◌, true, not, List, Option, Some, None, refl, sym, ap, arith, ◌∙◌}
-use Rattle.lock_model.specs.Counts.{is_empty}
-use Rattle.lock_model.specs.Words.{is_turnstile, shows_waiters}
-use Rattle.lock_model.specs.Config.{Config}
-use Rattle.lock_state.specs.State.{State, Queued, Loan}
-use Rattle.lock_model.specs.Queues.{Waiter, lock_queue, times_waiting, stands, waiting}
-use Rattle.lock_model.specs.Holds.{Hold, NotHeld, Holds}
-use Rattle.lock_model.specs.History.{value_at}
-use Rattle.lock_state.specs.Facts.{Lawful, BitsShowWaiters, StandsOnce, StandingIsQueued, StandingWants, LoansAreOnHeads, TablesReplay}
-use Rattle.lock_state.specs.Facts.Waits.{at_queue}
-use Rattle.lock_state.specs.Best.{best_behind, HasCycle, NobodyWalks}
-use Rattle.lock_model.specs.declared.plan.Mode.TheVariants.{Excl}
-use Rattle.lock_model.specs.declared.plan.QueueName.{QueueName}
+use Rattle.lock_laws.proofs.Names
+use Names.{ℕ, true, not, List, Option, Some, None, refl, sym, ap, arith, is_empty, is_turnstile, shows_waiters, Config}
+use Names.{State, Queued, Loan, Waiter, lock_queue, times_waiting, stands, waiting, Hold, NotHeld, Holds, value_at}
+use Names.{Lawful, BitsShowWaiters, StandsOnce, StandingIsQueued, StandingWants, LoansAreOnHeads, TablesReplay}
+use Names.{at_queue, best_behind, HasCycle, NobodyWalks, Excl, QueueName}
+use Rattle.std.proofs.Common.{◌≡◌, ◌≢◌, ◌+◌, ◌<◌, ◌≤◌, ◌∙◌}
 use Rattle.lock_laws.proofs.Kit.{at_queue_one}
 use Rattle.lock_laws.proofs.Sections as sections
 use Rattle.lock_laws.proofs.Shown.{lent_held}

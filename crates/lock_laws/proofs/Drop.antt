@@ -1,15 +1,9 @@
 -- A drop keeps each fact.
-use Rattle.std.proofs.Common.{◌≡◌, ℕ, arith, refl, ◌∙◌}
-use Rattle.lock_model.specs.Words.{is_turnstile}
-use Rattle.lock_state.specs.State.{State}
-use Rattle.lock_model.specs.Config.{Config}
-use Rattle.lock_model.specs.Holds.{NotHeld}
-use Rattle.lock_state.specs.Steps.LockWords.{MayDrop, after_drop}
-use Rattle.lock_model.specs.Queues.{lock_queue}
-use Rattle.lock_state.specs.Facts.{Lawful, BitsShowWaiters, HeadsFitWaiters, FreeWordHasCalled, FreeMutexShowsNone, WordsMatchHolders, OnlyThreadsHold, OwnersHold, SectionsAreHeld}
-use Rattle.lock_state.specs.Facts.Waits.{callers}
-use Rattle.lock_state.specs.Facts.Loans.{owner_if}
-use Rattle.lock_model.specs.declared.plan.Mode.{Mode}
+use Rattle.lock_laws.proofs.Names
+use Names.{ℕ, arith, refl, is_turnstile, State, Config, NotHeld, MayDrop, after_drop, lock_queue, Lawful}
+use Names.{BitsShowWaiters, HeadsFitWaiters, FreeWordHasCalled, FreeMutexShowsNone, WordsMatchHolders, OnlyThreadsHold}
+use Names.{OwnersHold, SectionsAreHeld, callers, owner_if, Mode}
+use Rattle.std.proofs.Common.{◌≡◌, ◌∙◌}
 use Rattle.lock_laws.proofs.Kit.{columns, at_put}
 use Rattle.lock_laws.proofs.Words.{all_match-put, matches-drop}
 use Rattle.lock_laws.proofs.Owners.{owner_dropped}

@@ -1,9 +1,7 @@
 -- Endtrys take no turn: a thread goes on at the first operation from a place on that is none.
-use Rattle.std.proofs.Common.{◌≡◌, ◌≢◌, ℕ, zero, suc, Bool, true, false, cond, List, [], ◌∷◌, slice_get, Some, refl, sym, ap, arith, subst}
-use Rattle.std.proofs.lemmas.Option.{none-some, same_Some}
-use Rattle.lock_model.specs.Operations.{is_endtry, next_at}
-use Rattle.lock_model.specs.declared.plan.Op.{Op}
-use Rattle.lock_model.specs.declared.plan.Op.TheVariants.{EndTry}
+use Rattle.lock_laws.proofs.Names.{ℕ, zero, suc, Bool, true, false, cond, List, [], slice_get, Some, refl, sym, ap}
+use Rattle.lock_laws.proofs.Names.{arith, subst, none-some, same_Some, is_endtry, next_at, Op, EndTry}
+use Rattle.std.proofs.Common.{◌≡◌, ◌≢◌, ◌∷◌}
 
 endtry_is : (op : Op) → is_endtry op ≡ true → Some op ≡ Some EndTry
 endtry_is op e = grind arith

@@ -1,16 +1,11 @@
 -- An enter on a turnstile keeps each fact.
-use Rattle.std.proofs.Common.{◌≡◌, ℕ, true, Option, refl, sym, ap, inl, inr, arith, ◌∙◌}
-use Rattle.std.proofs.lemmas.Bool.{cases_eq}
-use Rattle.lock_model.specs.Config.{Config}
-use Rattle.lock_model.specs.Words.{Holder, is_turnstile, owner_of}
-use Rattle.lock_model.specs.Queues.{Waiter, Lists, lock_queue, side_of, list_of, with_list, insert, head_with}
-use Rattle.lock_model.specs.declared.plan.Side.TheVariants.{X}
-use Rattle.lock_model.specs.declared.plan.Mode.{Mode}
-use Rattle.lock_model.specs.declared.plan.QueueName.{QueueName}
-use Rattle.lock_state.specs.State.{State, Walk, put_queue}
-use Rattle.lock_state.specs.Steps.Turnstiles.{MayEnter, after_enter, walk_up, owner_with}
-use Rattle.lock_state.specs.Facts.{Lawful, OwnersHold, ChannelsHaveNoOwner, LoansAreLeast, LoansAreWithOwners, LoansAreOnHeads, KeptIsEffective, EffectiveIsKnown, KeptIsKnown}
-use Rattle.lock_state.specs.Facts.Loans.{IsKept, IsKnown, EachOf, walkers_at_lock, walkers_at_thread, at_lock, at_thread, owner_if}
+use Rattle.lock_laws.proofs.Names
+use Names.{ℕ, true, Option, refl, sym, ap, inl, inr, arith, cases_eq, Config, Holder, is_turnstile, owner_of, Waiter}
+use Names.{Lists, lock_queue, side_of, list_of, with_list, insert, head_with, X, Mode, QueueName, State, Walk}
+use Names.{put_queue, MayEnter, after_enter, walk_up, owner_with, Lawful, OwnersHold, ChannelsHaveNoOwner}
+use Names.{LoansAreLeast, LoansAreWithOwners, LoansAreOnHeads, KeptIsEffective, EffectiveIsKnown, KeptIsKnown, IsKept}
+use Names.{IsKnown, EachOf, walkers_at_lock, walkers_at_thread, at_lock, at_thread, owner_if}
+use Rattle.std.proofs.Common.{◌≡◌, ◌∙◌}
 use Rattle.lock_laws.proofs.Kit.{columns, at_locks, put_lock_same, put_lock_other, put_queue_other, sum_below-put}
 use Rattle.lock_laws.proofs.Owners.{owners_put}
 use Rattle.lock_laws.proofs.Words.{entered_holder}

@@ -1,14 +1,8 @@
 -- An enter on an sx lock keeps each fact.
-use Rattle.std.proofs.Common.{◌≡◌, ℕ, false, refl}
-use Rattle.lock_model.specs.Config.{Config}
-use Rattle.lock_model.specs.Queues.{Lists, lock_queue, side_of, list_of, with_list, head_with, with_last}
-use Rattle.lock_model.specs.Words.{Word, entered}
-use Rattle.lock_model.specs.declared.plan.Side.TheVariants.{X}
-use Rattle.lock_model.specs.declared.plan.Mode.{Mode}
-use Rattle.lock_model.specs.declared.plan.QueueName.{QueueName}
-use Rattle.lock_state.specs.State.{State, put}
-use Rattle.lock_state.specs.Facts.{Lawful}
-use Rattle.lock_state.specs.Steps.SleepQueues.{MayEnterSleep, after_enter_sleep}
+use Rattle.lock_laws.proofs.Names
+use Names.{ℕ, false, refl, Config, Lists, lock_queue, side_of, list_of, with_list, head_with, with_last, Word, entered}
+use Names.{X, Mode, QueueName, State, put, Lawful, MayEnterSleep, after_enter_sleep}
+use Rattle.std.proofs.Common.{◌≡◌}
 use Rattle.lock_laws.proofs.ComingToStand.{IsOfMutex, MayStand, at_tail, comes_to_stand}
 use Rattle.lock_laws.proofs.SleepQueues.{loans_stay, sx_word}
 use Rattle.lock_laws.proofs.LockQueues.{entered_lock}

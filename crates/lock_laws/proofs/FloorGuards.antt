@@ -1,19 +1,12 @@
 -- The guards of a running floor can be met: p takes a free mutex by its first exchange, and q, whose first exchange
 -- misses, seeks it, looks, takes its chain and enters. And they refuse exchanges outside a round that are no first
 -- ones, but for the second one of a call of an rw lock.
-use Rattle.std.proofs.Common.{ℕ, Bool, true, false, List, [], ◌∷◌, ◌++◌, arith}
-use Rattle.lock_model.specs.Counts.{sum_below, least}
-use Rattle.lock_model.specs.Config.{Config}
-use Rattle.lock_model.specs.History.{sections_in}
-use Rattle.lock_model.specs.Queues.{lock_queue}
-use Rattle.lock_model.specs.declared.plan.Kind.TheVariants.{Mtx, Rw}
-use Rattle.lock_model.specs.declared.plan.Mode.TheVariants.{Shared, Excl}
-use Rattle.lock_model.specs.declared.event.Event.TheVariants.{Locked}
-use Rattle.lock_state.specs.State.{State, start_state, put, put_at, put_queue}
-use Rattle.lock_state.specs.Steps.LockWords.{after_seek, after_look, after_gain, after_stamp, after_ready}
-use Rattle.lock_state.specs.Steps.Turnstiles.{after_enter}
-use Rattle.lock_state.specs.Steps.Items.{TurnstileChain, RecordOf, after_take, after_give}
-use Rattle.lock_state.specs.Steps.{Step, Seeks, Looks, TakesItem, GivesItem, Gains, Stamps, Readies, Enters, after_all, EachStep, FitsFloor}
+use Rattle.lock_laws.proofs.Names
+use Names.{ℕ, Bool, true, false, List, [], arith, sum_below, least, Config, sections_in, lock_queue, Mtx, Rw, Shared}
+use Names.{Excl, Locked, State, start_state, put, put_at, put_queue, after_seek, after_look, after_gain, after_stamp}
+use Names.{after_ready, after_enter, TurnstileChain, RecordOf, after_take, after_give, Step, Seeks, Looks, TakesItem}
+use Names.{GivesItem, Gains, Stamps, Readies, Enters, after_all, EachStep, FitsFloor}
+use Rattle.std.proofs.Common.{◌∷◌, ◌++◌}
 
 -- each step of a list may be made on a floor of so many chains, where it comes
 abbrev pub FloorAll : ℕ → Config → State → List Step → Type 0

@@ -1,18 +1,13 @@
 -- On a running floor a thread that is Queued and about to stand on a queue has its own record out.
-use Rattle.std.proofs.Common.{◌≡◌, ◌≢◌, ℕ, Some, None, arith, sym, subst}
-use Rattle.lock_model.specs.Config.{Config}
-use Rattle.lock_model.specs.Queues.{Cause}
-use Rattle.lock_model.specs.declared.plan.QueueName.{QueueName}
-use Rattle.lock_state.specs.State.{State, Running, Queued, Woken, put, start_state}
-use Rattle.lock_state.specs.Facts.{LawfulFloor, QueuedHasRecord}
-use Rattle.lock_state.specs.Steps.LockWords.{after_seek, after_look, after_gain, after_drop, after_stamp, after_ready, after_unready}
-use Rattle.lock_state.specs.Steps.Turnstiles.{after_enter, after_open, after_mark, after_resume}
-use Rattle.lock_state.specs.Steps.SleepQueues.{after_enter_sleep, after_open_sleep, after_add, after_wake, after_abort}
-use Rattle.lock_state.specs.Steps.Lending.{after_claim, after_lend, after_shift, after_end_walk}
-use Rattle.lock_state.specs.Steps.Items.{RecordOf, after_take, after_give}
-use Rattle.lock_state.specs.Steps.Orders.{after_admit, after_refuse}
-use Rattle.lock_state.specs.Steps.Counting.{after_count_out, after_count_in, after_count_self_in, after_count_end, after_halt}
-use Rattle.lock_state.specs.Steps.{Step, TakesItem, GivesItem, Readies, Unreadies, Enters, EntersSleepQueue, Adds, Marks, Resumes, May, after, HasOut, IsFloorStep}
+use Rattle.lock_laws.proofs.Names
+use Names.{ℕ, Some, None, arith, sym, subst, Config, Cause, QueueName, State, Running, Queued, Woken, put, start_state}
+use Names.{LawfulFloor, QueuedHasRecord, after_seek, after_look, after_gain, after_drop, after_stamp, after_ready}
+use Names.{after_unready, after_enter, after_open, after_mark, after_resume, after_enter_sleep, after_open_sleep}
+use Names.{after_add, after_wake, after_abort, after_claim, after_lend, after_shift, after_end_walk, RecordOf}
+use Names.{after_take, after_give, after_admit, after_refuse, after_count_out, after_count_in, after_count_self_in}
+use Names.{after_count_end, after_halt, Step, TakesItem, GivesItem, Readies, Unreadies, Enters, EntersSleepQueue, Adds}
+use Names.{Marks, Resumes, May, after, HasOut, IsFloorStep}
+use Rattle.std.proofs.Common.{◌≡◌, ◌≢◌}
 use Rattle.lock_laws.proofs.Kit.{columns}
 use Rattle.lock_laws.proofs.Steps.{keeps}
 use Rattle.lock_laws.proofs.StateAtStart as start

@@ -1,16 +1,10 @@
 -- A gain keeps each fact.
-use Rattle.std.proofs.Common.{◌≡◌, ℕ, ◌<◌, Bool, None, arith, ◌∙◌}
-use Rattle.lock_model.specs.Counts.{at_option}
-use Rattle.lock_model.specs.Words.{is_turnstile}
-use Rattle.lock_model.specs.Queues.{lock_queue}
-use Rattle.lock_state.specs.State.{State, put, put_at}
-use Rattle.lock_model.specs.Config.{Config}
-use Rattle.lock_model.specs.Holds.{NotHeld, Holds}
-use Rattle.lock_state.specs.Steps.LockWords.{IsActing, MayGain, after_gain}
-use Rattle.lock_state.specs.Facts.{Lawful, BitsShowWaiters, HeadsFitWaiters, StandingWants, WokenWants, CalledWants, StandingIsUncalled, WokenIsUncalled, FreeWordHasCalled, FreeMutexShowsNone, WordsMatchHolders, OnlyThreadsHold, OwnersHold, SectionsAreHeld}
-use Rattle.lock_state.specs.Facts.Waits.{callers}
-use Rattle.lock_state.specs.Facts.Loans.{owner_if}
-use Rattle.lock_model.specs.declared.plan.Mode.{Mode}
+use Rattle.lock_laws.proofs.Names
+use Names.{ℕ, Bool, None, arith, at_option, is_turnstile, lock_queue, State, put, put_at, Config, NotHeld, Holds}
+use Names.{IsActing, MayGain, after_gain, Lawful, BitsShowWaiters, HeadsFitWaiters, StandingWants, WokenWants}
+use Names.{CalledWants, StandingIsUncalled, WokenIsUncalled, FreeWordHasCalled, FreeMutexShowsNone, WordsMatchHolders}
+use Names.{OnlyThreadsHold, OwnersHold, SectionsAreHeld, callers, owner_if, Mode}
+use Rattle.std.proofs.Common.{◌≡◌, ◌<◌, ◌∙◌}
 use Rattle.lock_laws.proofs.Kit.{columns, at_put, sum_below-put}
 use Rattle.lock_laws.proofs.Words.{all_match-put, matches-gain}
 use Rattle.lock_laws.proofs.Owners.{owner_gained}

@@ -1,15 +1,10 @@
 -- Where the turnstiles and the loan nodes of a lawful state are, and who owns a head.
-use Rattle.std.proofs.Common.{◌≡◌, ℕ, ◌+◌, ◌<◌, ◌≤◌, Bool, true, false, ltb, ◌&&◌, Option, Some, None, refl, sym, ap, inl, inr, arith, ◌∙◌}
-use Rattle.std.proofs.lemmas.Bool.{cases_lt}
-use Rattle.lock_model.specs.Counts.{sum_below, one, at_option}
-use Rattle.lock_model.specs.Words.{is_turnstile}
-use Rattle.lock_model.specs.Config.{Config}
-use Rattle.lock_state.specs.State.{State, Loan}
-use Rattle.lock_model.specs.Holds.{Holds}
-use Rattle.lock_model.specs.Queues.{lock_queue}
-use Rattle.lock_state.specs.Facts.{Lawful, OneTurnstileEach, OneNodeEach, OwnersHold, LoansAreWithOwners, LoansAreOnHeads, WordsMatchHolders, OnlyThreadsHold}
-use Rattle.lock_state.specs.Facts.Queues.{only, turnstile_places, at_loan, loans_on}
-use Rattle.lock_model.specs.declared.plan.Mode.TheVariants.{Excl}
+use Rattle.lock_laws.proofs.Names
+use Names.{ℕ, Bool, true, false, ltb, Option, Some, None, refl, sym, ap, inl, inr, arith, cases_lt, sum_below, one}
+use Names.{at_option, is_turnstile, Config, State, Loan, Holds, lock_queue, Lawful, OneTurnstileEach, OneNodeEach}
+use Names.{OwnersHold, LoansAreWithOwners, LoansAreOnHeads, WordsMatchHolders, OnlyThreadsHold, only, turnstile_places}
+use Names.{at_loan, loans_on, Excl}
+use Rattle.std.proofs.Common.{◌≡◌, ◌+◌, ◌<◌, ◌≤◌, ◌&&◌, ◌∙◌}
 use Rattle.lock_laws.proofs.Kit.{sum_below-zero, sum_below-at, one_same}
 use Rattle.lock_laws.proofs.Beyond.{beyond_none}
 use Rattle.lock_laws.proofs.Nodes.{some_waiting, heads_differ, head_inside}

@@ -1,12 +1,8 @@
 -- A queue of a lawful state on which a thread stands has a head.
-use Rattle.std.proofs.Common.{◌≡◌, ℕ, ◌<◌, ◌≤◌, eqb, List, [], ◌∷◌, length, Option, Some, None, inl, inr, refl, ap, arith}
-use Rattle.std.proofs.lemmas.Bool.{cases_Bool}
-use Rattle.lock_model.specs.Config.{Config}
-use Rattle.lock_state.specs.State.{State}
-use Rattle.lock_model.specs.Queues.{Waiter, Lists, times_waiting, stands}
-use Rattle.lock_state.specs.Facts.{Lawful, HeadsFitWaiters}
-use Rattle.lock_state.specs.Facts.Queues.{HeadFits}
-use Rattle.lock_model.specs.declared.plan.QueueName.{QueueName}
+use Rattle.lock_laws.proofs.Names
+use Names.{ℕ, eqb, List, [], length, Option, Some, None, inl, inr, refl, ap, arith, cases_Bool, Config, State, Waiter}
+use Names.{Lists, times_waiting, stands, Lawful, HeadsFitWaiters, HeadFits, QueueName}
+use Rattle.std.proofs.Common.{◌≡◌, ◌<◌, ◌≤◌, ◌∷◌}
 
 times_waiting-le : (u : ℕ) (ws : List Waiter) → times_waiting u ws ≤ length ws
 times_waiting-le u [] = omega arith

@@ -1,31 +1,15 @@
 -- Laws of lists of held locks, and of what a thread's operations in order lead to.
-use Rattle.std.proofs.Common.{◌≡◌, ◌≢◌, ℕ, zero, suc, ◌<◌, Bool, true, false, not, cond, eqb, ◌≤◌, ◌||◌, arith, List, [], ◌∷◌, ◌++◌, length, length-append, map, take, slice_get, Option, Some, None, option_map, refl, sym, ap, inl, inr, eq-eqb, ◌∙◌, subst}
-use Rattle.std.specs.Prelude.{⊤, unwrap_or}
-use Rattle.std.proofs.lemmas.Bool.{ne_eqb, cases_eq, not-true, eqb-true, eqb-false, ltb-true, and_parts}
-use Rattle.std.proofs.lemmas.List.{take_all, append-nil, reverse-append}
-use Rattle.std.proofs.lemmas.Option.{none-some, same_Some, slice_get-map, slice_get_within}
-use Rattle.lock_model.specs.Holds.{Hold, NotHeld, Holds, is_unheld}
-use Rattle.lock_model.specs.Limits.{most_held}
-use Rattle.lock_model.specs.Operations.{of_locks, wait_tests, channel_test, hold_in, without_lock, is_last, held_after, held_behind, held_through, held_of, is_kind, may_be_held, acquiring_tests, tests_of, operation_tests, IsBlock, next_at, IsProper}
-use Rattle.lock_model.specs.Plans.{lock_kind, chan_lock, operations_of}
-use Rattle.lock_model.specs.Tests.{Test, Passes, where_some}
-use Rattle.lock_model.proofs.LeastCodes.{passed}
-use Rattle.lock_model.specs.declared.plan.Kind.{Kind}
-use Rattle.lock_model.specs.declared.plan.Kind.TheVariants.{Mtx, Rw, Sx}
-use Rattle.lock_model.specs.declared.plan.LockDecl.{LockDecl}
-use Rattle.lock_model.specs.declared.plan.ChanDecl.{ChanDecl}
-use Rattle.lock_model.specs.declared.numbers.ChanNo.{ChanNo}
-use Rattle.lock_model.specs.declared.plan.Mode.{Mode}
-use Rattle.lock_model.specs.declared.plan.Mode.TheVariants.{Excl, Shared}
-use Rattle.lock_model.specs.declared.plan.Op.{Op}
-use Rattle.lock_model.specs.declared.plan.Op.TheVariants.{Try, EndTry, Release, Sleep}
-use Rattle.lock_model.specs.declared.plan.OfLocks.{OfLocks}
-use Rattle.lock_model.specs.declared.plan.OfLocks.TheVariants.{NoLock, Acquires, ClosesBlock, Releases, EditsAt, ReadsAt, SleepsOn, WakesOn}
-use Rattle.lock_model.specs.declared.plan.Plan.{Plan}
-use Rattle.lock_model.specs.declared.event.Held.{Held}
-use Rattle.lock_model.specs.declared.numbers.LockNo.{LockNo}
-use Rattle.lock_state.specs.State.{HeldLock, gained_order}
-use Rattle.lock_state.specs.Steps.LockWords.{without_held}
+use Rattle.lock_laws.proofs.Names
+use Names.{ℕ, zero, suc, Bool, true, false, not, cond, eqb, arith, List, [], length, length-append, map, take}
+use Names.{slice_get, Option, Some, None, option_map, refl, sym, ap, inl, inr, eq-eqb, subst, ⊤, unwrap_or, ne_eqb}
+use Names.{cases_eq, not-true, eqb-true, eqb-false, ltb-true, and_parts, take_all, append-nil, reverse-append}
+use Names.{none-some, same_Some, slice_get-map, slice_get_within, Hold, NotHeld, Holds, is_unheld, most_held, of_locks}
+use Names.{wait_tests, channel_test, hold_in, without_lock, is_last, held_after, held_behind, held_through, held_of}
+use Names.{is_kind, may_be_held, acquiring_tests, tests_of, operation_tests, IsBlock, next_at, IsProper, lock_kind}
+use Names.{chan_lock, operations_of, Test, Passes, where_some, passed, Kind, Mtx, Rw, Sx, LockDecl, ChanDecl, ChanNo}
+use Names.{Mode, Excl, Shared, Op, Try, EndTry, Release, Sleep, OfLocks, NoLock, Acquires, ClosesBlock, Releases}
+use Names.{EditsAt, ReadsAt, SleepsOn, WakesOn, Plan, Held, LockNo, HeldLock, gained_order, without_held}
+use Rattle.std.proofs.Common.{◌≡◌, ◌≢◌, ◌<◌, ◌≤◌, ◌||◌, ◌∷◌, ◌++◌, ◌∙◌}
 use Rattle.lock_laws.proofs.Endtries.{at_next}
 
 -- 1. Lists

@@ -1,12 +1,11 @@
 -- Taking something out of its home, and giving it back, keep each fact.
-use Rattle.std.proofs.Common.{◌≡◌, ◌⊎◌, ℕ, true, Option, Some, None, ap, refl, sym, inl, inr, ◌∙◌, subst}
-use Rattle.std.proofs.lemmas.Bool.{cases_eq}
-use Rattle.lock_state.specs.State.{State, put, put_at}
-use Rattle.lock_model.specs.Config.{Config}
-use Rattle.lock_state.specs.Steps.Items.{Item, TurnstileChain, SleepChain, RecordOf, CellOf, ClassGraph, MayTake, MayGive, after_take, after_give, item_with, out_with, go_together, turnstile_chains_after, sleep_chains_after, records_after, cells_after, graph_after}
-use Rattle.lock_state.specs.Facts.{Lawful, OutIsNarrow}
+use Rattle.lock_laws.proofs.Names
+use Names.{ℕ, true, Option, Some, None, ap, refl, sym, inl, inr, subst, cases_eq, State, put, put_at, Config, Item}
+use Names.{TurnstileChain, SleepChain, RecordOf, CellOf, ClassGraph, MayTake, MayGive, after_take, after_give}
+use Names.{item_with, out_with, go_together, turnstile_chains_after, sleep_chains_after, records_after, cells_after}
+use Names.{graph_after, Lawful, OutIsNarrow, arith}
+use Rattle.std.proofs.Common.{◌≡◌, ◌⊎◌, ◌∙◌}
 use Rattle.lock_laws.proofs.Kit.{put_same, put_other, put_at_same, put_at_other, put_at_beside}
-use Rattle.std.proofs.Common.{arith}
 
 by_place : (f : ℕ → Option ℕ) (i : ℕ) (o : Option ℕ) (j : ℕ) → (i ≡ j) ⊎ (put f i o j ≡ f j)
 by_place f i o j = elim (cases_eq i j) [ inl x ↦ inl x | inr x ↦ inr (put_other f i o j x) ]

@@ -1,12 +1,9 @@
 -- Laws of columns and of sums that each law of a kind uses.
-use Rattle.std.proofs.Common.{◌≡◌, ℕ, zero, suc, ◌+◌, ◌<◌, ◌≤◌, true, false, cond, eqb, Option, Some, None, refl, sym, ap, inl, inr, arith, eq-eqb, subst, ◌&&◌}
-use Rattle.std.proofs.lemmas.Bool.{ne_eqb, cases_eq}
-use Rattle.lock_model.specs.Counts.{sum_below, one, at_option}
-use Rattle.lock_state.specs.State.{put, put_at, put_queue}
-use Rattle.lock_model.specs.Queues.{is_queue, lock_queue, chan_queue}
-use Rattle.lock_state.specs.Facts.Waits.{at_queue}
-use Rattle.lock_model.specs.declared.plan.QueueName.{QueueName}
-use Rattle.lock_model.specs.declared.plan.QueueName.TheVariants.{Lock, Chan}
+use Rattle.lock_laws.proofs.Names
+use Names.{ℕ, zero, suc, true, false, cond, eqb, Option, Some, None, refl, sym, ap, inl, inr, arith, eq-eqb, subst}
+use Names.{ne_eqb, cases_eq, sum_below, one, at_option, put, put_at, put_queue, is_queue, lock_queue, chan_queue}
+use Names.{at_queue, QueueName, Lock, Chan}
+use Rattle.std.proofs.Common.{◌≡◌, ◌+◌, ◌<◌, ◌≤◌, ◌&&◌}
 
 pub is_queue_same : (q : QueueName) → is_queue q q ≡ true
 is_queue_same q = grind arith

@@ -1,18 +1,12 @@
 -- A hop of a walk at a lock keeps each fact.
-use Rattle.std.proofs.Common.{◌≡◌, ℕ, ◌<◌, ◌≤◌, Bool, true, false, not, eqb, ◌&&◌, Option, Some, refl, sym, ap, inl, inr, arith, ◌∙◌}
-use Rattle.std.proofs.lemmas.Bool.{cases_eq, ne_eqb}
-use Rattle.lock_model.specs.Counts.{one}
-use Rattle.lock_model.specs.Words.{is_turnstile}
-use Rattle.lock_state.specs.State.{State, Loan, put, put_at}
-use Rattle.lock_model.specs.Config.{Config}
-use Rattle.lock_model.specs.Queues.{Waiter, lock_queue, names_turnstile, stands, least_of}
-use Rattle.lock_model.specs.Holds.{Holds}
-use Rattle.lock_state.specs.Steps.LockWords.{effective_of}
-use Rattle.lock_state.specs.Steps.Lending.{MayLend, after_lend, loan_of, walk_to}
-use Rattle.lock_state.specs.Facts.{Lawful, OneNodeEach, StandsOnce, WordsMatchHolders, OnlyThreadsHold, EffectiveIsLeast, OwnersHold, LoansAreLeast, LoansAreWithOwners, LoansAreOnHeads, KeptIsEffective, EffectiveIsKnown, LoansAreKnown, KeptIsKnown}
-use Rattle.lock_state.specs.Facts.Loans.{IsKept, IsKnown, walkers_at_lock, walkers_at_thread, at_lock, at_thread}
-use Rattle.lock_model.specs.declared.plan.Mode.TheVariants.{Excl}
-use Rattle.lock_model.specs.declared.plan.QueueName.{QueueName}
+use Rattle.lock_laws.proofs.Names
+use Names.{ℕ, Bool, true, false, not, eqb, Option, Some, refl, sym, ap, inl, inr, arith, cases_eq, ne_eqb, one}
+use Names.{is_turnstile, State, Loan, put, put_at, Config, Waiter, lock_queue, names_turnstile, stands, least_of, Holds}
+use Names.{effective_of, MayLend, after_lend, loan_of, walk_to, Lawful, OneNodeEach, StandsOnce, WordsMatchHolders}
+use Names.{OnlyThreadsHold, EffectiveIsLeast, OwnersHold, LoansAreLeast, LoansAreWithOwners, LoansAreOnHeads}
+use Names.{KeptIsEffective, EffectiveIsKnown, LoansAreKnown, KeptIsKnown, IsKept, IsKnown, walkers_at_lock}
+use Names.{walkers_at_thread, at_lock, at_thread, Excl, QueueName}
+use Rattle.std.proofs.Common.{◌≡◌, ◌<◌, ◌≤◌, ◌&&◌, ◌∙◌}
 use Rattle.lock_laws.proofs.Kit.{columns, put_at_same, put_at_other, put_at_beside, sum_below-put, at_queue_one}
 use Rattle.lock_laws.proofs.Lending.{each_of-map, effective-put}
 use Rattle.lock_laws.proofs.Shown.{owner_from, owner-owns, exclusive_is}

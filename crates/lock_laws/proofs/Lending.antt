@@ -1,17 +1,13 @@
 -- Laws of loans, of kept priorities and of walks.
-use Rattle.std.proofs.Common.{◌≡◌, ◌≢◌, ℕ, zero, suc, ◌<◌, ◌≤◌, true, false, cond, eqb, leb, List, [], ◌∷◌, length, Option, Some, refl, sym, ap, inl, inr, arith, eq-eqb, ◌∙◌}
-use Rattle.std.proofs.lemmas.Bool.{ne_eqb, cases_eq}
-use Rattle.lock_model.specs.Counts.{one, least, lower, is_empty}
-use Rattle.lock_model.specs.Config.{Config}
-use Rattle.lock_model.specs.Queues.{Waiter, Lists, list_of, with_list, times_waiting, stands, waiting, insert, without, reinsert, with_kept}
-use Rattle.lock_state.specs.State.{Loan, Walk, put, put_at}
-use Rattle.lock_state.specs.Steps.LockWords.{effective_of, prio_of}
-use Rattle.lock_state.specs.Steps.Turnstiles.{walk_up}
-use Rattle.lock_state.specs.Facts.Loans.{Each, EachOf, IsKept, EffectiveIsLeast, at_lock, at_thread}
-use Rattle.lock_model.specs.declared.plan.Side.{Side}
-use Rattle.lock_model.specs.declared.plan.Side.TheVariants.{X, S}
+use Rattle.lock_laws.proofs.Names
+use Names.{ℕ, zero, suc, true, false, cond, eqb, leb, List, [], length, Option, Some, refl, sym, ap, inl, inr, arith}
+use Names.{eq-eqb, ne_eqb, cases_eq, one, least, lower, is_empty, Config, Waiter, Lists, list_of, with_list}
+use Names.{times_waiting, stands, waiting, insert, without, reinsert, with_kept, Loan, Walk, put, put_at, effective_of}
+use Names.{prio_of, walk_up, Each, EachOf, IsKept, at_lock, at_thread, Side, X, S, times_waiting-reinsert}
+use Names.{length-reinsert, by_reinsert}
+use Rattle.std.proofs.Common.{◌≡◌, ◌≢◌, ◌<◌, ◌≤◌, ◌∷◌, ◌∙◌}
+use Rattle.lock_state.specs.Facts.Loans.{EffectiveIsLeast}
 use Rattle.lock_laws.proofs.Kit.{put_same, put_other, put_at_same, put_at_other, put_at_beside, each_place}
-use Rattle.lock_model.proofs.Lists.{times_waiting-reinsert, length-reinsert, by_reinsert}
 
 -- 1. The least
 

@@ -1,3 +1,4 @@
+pub mod Names
 pub mod Kit
 pub mod Places
 pub mod Words

@@ -1,14 +1,9 @@
 -- The list of a thread's held locks has just those that it holds: behind a gain or a claim, and behind a release.
-use Rattle.std.proofs.Common.{◌≡◌, ℕ, Bool, true, false, not, cond, eqb, ◌||◌, List, [], ◌∷◌, refl, sym, inl, inr, eq-eqb, ◌∙◌}
-use Rattle.std.proofs.lemmas.Bool.{cases_eq, ne_eqb}
-use Rattle.lock_model.specs.Holds.{NotHeld, Holds, is_unheld}
-use Rattle.lock_state.specs.State.{State, HeldLock, put, put_at}
-use Rattle.lock_state.specs.Steps.LockWords.{without_held}
-use Rattle.lock_state.specs.Facts.Words.{is_listed}
-use Rattle.lock_state.specs.Facts.{HeldAreListed}
-use Rattle.lock_model.specs.declared.plan.Mode.{Mode}
+use Rattle.lock_laws.proofs.Names
+use Names.{ℕ, Bool, true, false, not, cond, eqb, List, [], refl, sym, inl, inr, eq-eqb, cases_eq, ne_eqb, NotHeld}
+use Names.{Holds, is_unheld, State, HeldLock, put, put_at, without_held, is_listed, HeldAreListed, Mode, arith}
+use Rattle.std.proofs.Common.{◌≡◌, ◌||◌, ◌∷◌, ◌∙◌}
 use Rattle.lock_laws.proofs.Kit.{put_same, put_other, put_at_same, put_at_other, put_at_beside}
-use Rattle.std.proofs.Common.{arith}
 
 listed_without : (l k : ℕ) (hs : List HeldLock) → is_listed k (without_held l hs) ≡ cond (eqb l k) false (is_listed k hs)
 listed_without l k [] = elim (eqb l k) as (λ b. false ≡ cond b false false) [ true ↦ refl | false ↦ refl ]

@@ -1,23 +1,13 @@
 -- A lock's queue: what the enters of both sorts have in common beside the law of standing, and the opens of both beside
 -- the law of taking off. The word shows its waiters and matches its holders, and of a free one somebody is called.
-use Rattle.std.proofs.Common.{◌≡◌, ◌⊎◌, ℕ, ◌≤◌, Bool, true, false, not, List, [], Option, Some, None, refl, sym, ap, inl, inr, arith}
-use Rattle.std.proofs.lemmas.Bool.{cases_eq}
-use Rattle.lock_model.specs.Config.{Config}
-use Rattle.lock_model.specs.Counts.{one, at_option, is_empty}
-use Rattle.lock_model.specs.Holds.{NotHeld}
-use Rattle.lock_model.specs.Words.{Word, Free, is_free, shows_waiters, without_one, entered, opened, unshown, side_woken}
-use Rattle.lock_model.specs.Queues.{Waiter, Lists, Mark, lock_queue, list_of, with_list, dealt, head_after}
-use Rattle.lock_model.specs.declared.plan.Kind.{Kind}
-use Rattle.lock_model.specs.declared.plan.Kind.TheVariants.{Mtx, Rw, Sx}
-use Rattle.lock_model.specs.declared.plan.Mode.{Mode}
-use Rattle.lock_model.specs.declared.plan.Side.{Side}
-use Rattle.lock_model.specs.declared.plan.Side.TheVariants.{X, S}
-use Rattle.lock_state.specs.State.{State, put, put_queue}
-use Rattle.lock_state.specs.Steps.Turnstiles.{IsLastHolder, after_last_release}
-use Rattle.lock_state.specs.Facts.{Lawful, BitsShowWaiters, MutexWaitersAreExclusive, CalledWants, FreeWordHasCalled, FreeMutexShowsNone, WordsMatchHolders, OnlyThreadsHold, HeldAreListed, SectionsAreHeld}
-use Rattle.lock_state.specs.Facts.Queues.{ShowsItsWaiters}
-use Rattle.lock_state.specs.Facts.Waits.{callers, calls_marked}
-use Rattle.lock_state.specs.Facts.Words.{WordMatchesHolders}
+use Rattle.lock_laws.proofs.Names
+use Names.{ℕ, Bool, true, false, not, List, [], Option, Some, None, refl, sym, ap, inl, inr, arith, cases_eq, Config}
+use Names.{one, at_option, is_empty, NotHeld, Word, Free, is_free, shows_waiters, without_one, entered, opened, unshown}
+use Names.{side_woken, Waiter, Lists, Mark, lock_queue, list_of, with_list, dealt, head_after, Kind, Mtx, Rw, Sx, Mode}
+use Names.{Side, X, S, State, put, put_queue, IsLastHolder, after_last_release, Lawful, BitsShowWaiters}
+use Names.{MutexWaitersAreExclusive, CalledWants, FreeWordHasCalled, FreeMutexShowsNone, WordsMatchHolders}
+use Names.{OnlyThreadsHold, HeldAreListed, SectionsAreHeld, ShowsItsWaiters, callers, calls_marked, WordMatchesHolders}
+use Rattle.std.proofs.Common.{◌≡◌, ◌⊎◌, ◌≤◌}
 use Rattle.lock_laws.proofs.Kit.{columns, put_same, put_other, put_lock_same, put_lock_other, sum_below-put, at_put}
 use Rattle.lock_laws.proofs.Words.{entered_holder, matches_same, free_is, all_match-put, matches-drop}
 use Rattle.lock_laws.proofs.Queues.{calls-dealt}

@@ -1,19 +1,15 @@
 -- At most 100 looks of a thread count in an acquiring round, and before it at most two: its call's first exchanges.
-use Rattle.std.proofs.Common.{◌≡◌, ◌≢◌, ℕ, suc, ◌<◌, ◌≤◌, Bool, true, false, not, ◌||◌, ◌&&◌, cond, Option, Some, None, refl, sym, ap, ◌∙◌, subst, inl, inr, arith, eq-eqb}
-use Rattle.lock_model.specs.Config.{Config}
-use Rattle.lock_model.specs.declared.event.Event.{Event}
-use Rattle.lock_model.specs.Holds.{Hold, NotHeld, Holds}
-use Rattle.lock_state.specs.State.{State, Round, put, start_state}
-use Rattle.lock_state.specs.Steps.LockWords.{looks_after, round_after, after_seek, after_look, after_gain, after_drop, after_stamp, after_ready, after_unready}
-use Rattle.lock_state.specs.Steps.Turnstiles.{after_enter, after_open, after_mark, after_resume}
-use Rattle.lock_state.specs.Steps.SleepQueues.{after_enter_sleep, after_open_sleep, after_add, after_wake, after_abort}
-use Rattle.lock_state.specs.Steps.Lending.{after_claim, after_lend, after_shift, after_end_walk}
-use Rattle.lock_state.specs.Steps.Items.{after_take, after_give}
-use Rattle.lock_state.specs.Steps.Orders.{after_admit, after_refuse}
-use Rattle.lock_state.specs.Steps.Counting.{after_count_out, after_count_in, after_count_self_in, after_count_end, after_halt}
-use Rattle.lock_state.specs.Steps.{Step, Seeks, Looks, TakesItem, Gains, Stamps, Enters, EntersSleepQueue, Resumes, Claims, Admits, LooksInRound, IsHalting, seeks, is_first, is_with, chain_of, May, HasSeen, after, IsReachable, begins, goes_on, IsFloorStep}
-use Rattle.lock_state.specs.Steps.Items.{item_with, is_chain, in_its_chain}
-use Rattle.lock_laws.specs.Rounds.{FirstExchangesAreFew}
+use Rattle.lock_laws.proofs.Names
+use Names.{ℕ, suc, Bool, true, false, not, cond, Option, Some, None, refl, sym, ap, subst, inl, inr, arith, eq-eqb}
+use Names.{Config, Event, Hold, NotHeld, Holds, State, Round, put, start_state, looks_after, round_after, after_seek}
+use Names.{after_look, after_gain, after_drop, after_stamp, after_ready, after_unready, after_enter, after_open}
+use Names.{after_mark, after_resume, after_enter_sleep, after_open_sleep, after_add, after_wake, after_abort}
+use Names.{after_claim, after_lend, after_shift, after_end_walk, after_take, after_give, after_admit, after_refuse}
+use Names.{after_count_out, after_count_in, after_count_self_in, after_count_end, after_halt, Step, Seeks, Looks}
+use Names.{TakesItem, Gains, Stamps, Enters, EntersSleepQueue, Resumes, Claims, Admits, LooksInRound, IsHalting, seeks}
+use Names.{is_first, is_with, chain_of, May, HasSeen, after, IsReachable, begins, goes_on, IsFloorStep, item_with}
+use Names.{is_chain, in_its_chain, FirstExchangesAreFew}
+use Rattle.std.proofs.Common.{◌≡◌, ◌≢◌, ◌<◌, ◌≤◌, ◌||◌, ◌&&◌, ◌∙◌}
 use Rattle.lock_laws.proofs.Kit.{at_put, columns}
 
 AreFew : (ℕ → ℕ) → Type 0

@@ -1,12 +1,11 @@
 -- A mark keeps each fact.
-use Rattle.std.proofs.Common.{subst, ◌≡◌, ℕ, ◌<◌, Bool, true, false, not, cond, List, Some, None, refl, ap, arith}
-use Rattle.lock_state.specs.State.{State, Woken, put}
-use Rattle.lock_model.specs.Config.{Config}
-use Rattle.lock_model.specs.Queues.{Mark, is_turnstile_queue, names_turnstile, names_sleep_queue}
-use Rattle.lock_state.specs.Steps.Turnstiles.{MayMark, after_mark}
-use Rattle.lock_state.specs.Facts.{Lawful, OneTurnstileEach, OneSleepQueueEach, TurnstileIsLent, SleepQueueIsLent, StandsOnce, OnlyThreadsStand, StandingIsQueued, StandingWants, WokenWants, StandingIsUncalled, WokenIsUncalled, FreeWordHasCalled}
-use Rattle.lock_state.specs.Facts.Queues.{turnstile_places, sleep_queue_places}
-use Rattle.lock_state.specs.Facts.Waits.{callers, calls_marked, calls_woken, times_marked}
+use Rattle.lock_laws.proofs.Names
+use Names.{subst, ℕ, Bool, true, false, not, cond, List, Some, None, refl, ap, arith, State, Woken, put, Config, Mark}
+use Names.{is_turnstile_queue, names_turnstile, names_sleep_queue, MayMark, after_mark, Lawful, OneTurnstileEach}
+use Names.{OneSleepQueueEach, TurnstileIsLent, SleepQueueIsLent, StandsOnce, OnlyThreadsStand, StandingIsQueued}
+use Names.{StandingWants, WokenWants, StandingIsUncalled, WokenIsUncalled, FreeWordHasCalled, turnstile_places}
+use Names.{sleep_queue_places, callers, calls_marked, calls_woken, times_marked}
+use Rattle.std.proofs.Common.{◌≡◌, ◌<◌}
 use Rattle.lock_laws.proofs.Places.{returned_places, returned_named}
 use Rattle.lock_laws.proofs.Standing.{marked_named, marked_thread, named_out, asleep_out}
 use Rattle.lock_laws.proofs.Kit.{columns, sum_below-put}

@@ -1,18 +1,11 @@
 -- Laws of loan nodes and of known priorities, where one loan is changed.
-use Rattle.std.proofs.Common.{◌≡◌, ℕ, ◌+◌, ◌<◌, ◌≤◌, Bool, true, false, ◌&&◌, eqb, ltb, List, [], ◌∷◌, length, Option, Some, None, refl, sym, ap, inl, inr, arith, ◌∙◌, subst}
-use Rattle.std.proofs.lemmas.Bool.{ne_eqb, cases_eq}
-use Rattle.lock_model.specs.Counts.{one, some, at_option, sum_below, lower}
-use Rattle.lock_model.specs.Words.{is_turnstile}
-use Rattle.lock_model.specs.Config.{Config}
-use Rattle.lock_state.specs.State.{State, Loan, put, put_at}
-use Rattle.lock_model.specs.Queues.{Waiter, Lists, lock_queue, waiting, least_kept, least_of_two, least_of}
-use Rattle.lock_state.specs.Steps.LockWords.{effective_of, prio_of}
-use Rattle.lock_state.specs.Steps.Turnstiles.{home_after}
-use Rattle.lock_state.specs.Steps.Lending.{loan_of}
-use Rattle.lock_state.specs.Facts.{Lawful, OneTurnstileEach, OneNodeEach, HeadsFitWaiters, LoansAreOnHeads, EffectiveIsKnown, LoansAreKnown, BasesReplay}
-use Rattle.lock_state.specs.Facts.Queues.{only, turnstile_places, at_loan, loans_on}
-use Rattle.lock_state.specs.Facts.Loans.{Each, EachOf, IsKnown}
-use Rattle.lock_model.specs.declared.event.Entry.{Entry}
+use Rattle.lock_laws.proofs.Names
+use Names.{ℕ, Bool, true, false, eqb, ltb, List, [], length, Option, Some, None, refl, sym, ap, inl, inr, arith, subst}
+use Names.{ne_eqb, cases_eq, one, some, at_option, sum_below, lower, is_turnstile, Config, State, Loan, put, put_at}
+use Names.{Waiter, Lists, lock_queue, waiting, least_kept, least_of_two, least_of, effective_of, prio_of, home_after}
+use Names.{loan_of, Lawful, OneTurnstileEach, OneNodeEach, HeadsFitWaiters, LoansAreOnHeads, EffectiveIsKnown}
+use Names.{LoansAreKnown, BasesReplay, only, turnstile_places, at_loan, loans_on, Each, EachOf, IsKnown, Entry}
+use Rattle.std.proofs.Common.{◌≡◌, ◌+◌, ◌<◌, ◌≤◌, ◌&&◌, ◌∷◌, ◌∙◌}
 use Rattle.lock_laws.proofs.Kit.{put_same, put_other, put_at_same, put_at_other, put_at_beside, sum_below-same, sum_below-change, sum_below-two, sum_below-zero, sum_below-at, one_same}
 use Rattle.lock_laws.proofs.Lending.{by_least}
 use Rattle.lock_laws.proofs.Shown.{base_known, lent_held}

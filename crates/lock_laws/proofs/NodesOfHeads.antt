@@ -1,11 +1,7 @@
 -- Where the loan node of a turnstile with an owner is, and which loans there are beside one that is made.
-use Rattle.std.proofs.Common.{◌≡◌, ◌≢◌, ℕ, ◌<◌, ◌≤◌, Bool, true, false, Option, Some, None, refl, sym, ap, ◌∙◌, arith, eq-eqb}
-use Rattle.lock_model.specs.Words.{is_turnstile}
-use Rattle.lock_state.specs.Steps.LockWords.{prio_of}
-use Rattle.lock_model.specs.Config.{Config}
-use Rattle.lock_state.specs.State.{State, Loan, put, put_at}
-use Rattle.lock_model.specs.Queues.{lock_queue}
-use Rattle.lock_state.specs.Facts.{Lawful, LoansAreOnHeads}
+use Rattle.lock_laws.proofs.Names.{ℕ, Bool, true, false, Option, Some, None, refl, sym, ap, arith, eq-eqb, is_turnstile}
+use Rattle.lock_laws.proofs.Names.{prio_of, Config, State, Loan, put, put_at, lock_queue, Lawful, LoansAreOnHeads}
+use Rattle.std.proofs.Common.{◌≡◌, ◌≢◌, ◌<◌, ◌≤◌, ◌∙◌}
 use Rattle.lock_laws.proofs.Kit.{put_other}
 use Rattle.lock_laws.proofs.HeadsAndNodes.{head_lock, heads_apart, loan_lock, loan_out, owned_home}
 

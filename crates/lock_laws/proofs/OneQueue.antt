@@ -1,15 +1,10 @@
 -- One queue changes, of a lock or of a channel: what the laws of standing and of taking off have in common.
-use Rattle.std.proofs.Common.{◌≡◌, ℕ, ◌+◌, Bool, true, false, cond, List, Option, refl, subst}
-use Rattle.lock_model.specs.Config.{Config}
-use Rattle.lock_model.specs.Counts.{sum_below}
-use Rattle.lock_model.specs.Queues.{Lists, Mark, is_queue, stands}
-use Rattle.lock_model.specs.declared.plan.QueueName.{QueueName}
-use Rattle.lock_state.specs.State.{State, put_queue}
-use Rattle.lock_state.specs.Facts.{Lawful, OneTurnstileEach, OneSleepQueueEach, HeadsFitWaiters, ListsAscend, MutexWaitersAreExclusive, StandsOnce}
-use Rattle.lock_state.specs.Facts.Queues.{HeadFits}
-use Rattle.lock_state.specs.Facts.Waits.{at_queue, times_marked}
+use Rattle.lock_laws.proofs.Names
+use Names.{ℕ, Bool, true, false, cond, List, Option, refl, subst, Config, sum_below, Lists, Mark, is_queue, stands}
+use Names.{QueueName, State, put_queue, Lawful, OneTurnstileEach, OneSleepQueueEach, HeadsFitWaiters, ListsAscend}
+use Names.{MutexWaitersAreExclusive, StandsOnce, HeadFits, at_queue, times_marked, arith}
+use Rattle.std.proofs.Common.{◌≡◌, ◌+◌}
 use Rattle.lock_laws.proofs.Kit.{at_put_queue, is_queue_true}
-use Rattle.std.proofs.Common.{arith}
 
 -- what is said of all queues alike: where objects are, heads, orders, and who stands
 pub record QueuesKept (c : Config) (n : State) : Type 0 where

@@ -1,20 +1,12 @@
 -- An open of a turnstile keeps each fact.
-use Rattle.std.proofs.Common.{◌≡◌, ℕ, Bool, true, false, [], Option, Some, None, refl, sym, ap, inl, inr, arith, ◌∙◌}
-use Rattle.std.proofs.lemmas.Bool.{cases_eq}
-use Rattle.lock_model.specs.Config.{Config}
-use Rattle.lock_model.specs.Counts.{is_empty}
-use Rattle.lock_model.specs.Words.{Word, Free, is_turnstile, shows_waiters, side_woken}
-use Rattle.lock_model.specs.Queues.{Waiter, Lists, lock_queue, list_of, stands}
-use Rattle.lock_model.specs.declared.plan.Kind.{Kind}
-use Rattle.lock_model.specs.declared.plan.Mode.{Mode}
-use Rattle.lock_model.specs.declared.plan.QueueName.{QueueName}
-use Rattle.lock_model.specs.declared.plan.Kind.TheVariants.{Mtx}
-use Rattle.lock_state.specs.State.{State, Loan, put_at, put_queue}
-use Rattle.lock_state.specs.Steps.Turnstiles.{MayOpen, after_open}
-use Rattle.lock_state.specs.Facts.{Lawful, OneNodeEach, StandsOnce, EffectiveIsLeast, OwnersHold, ChannelsHaveNoOwner, LoansAreLeast, LoansAreWithOwners, LoansAreOnHeads, KeptIsEffective, EffectiveIsKnown, LoansAreKnown, KeptIsKnown}
-use Rattle.lock_state.specs.Facts.Queues.{ShowsItsWaiters}
-use Rattle.lock_state.specs.Facts.Waits.{at_queue}
-use Rattle.lock_state.specs.Facts.Loans.{IsKept, IsKnown, EachOf, owner_if}
+use Rattle.lock_laws.proofs.Names
+use Names.{ℕ, Bool, true, false, [], Option, Some, None, refl, sym, ap, inl, inr, arith, cases_eq, Config, is_empty}
+use Names.{Word, Free, is_turnstile, shows_waiters, side_woken, Waiter, Lists, lock_queue, list_of, stands, Kind, Mode}
+use Names.{QueueName, Mtx, State, Loan, put_at, put_queue, MayOpen, after_open, Lawful, OneNodeEach, StandsOnce}
+use Names.{EffectiveIsLeast, OwnersHold, ChannelsHaveNoOwner, LoansAreLeast, LoansAreWithOwners, LoansAreOnHeads}
+use Names.{KeptIsEffective, EffectiveIsKnown, LoansAreKnown, KeptIsKnown, ShowsItsWaiters, at_queue, IsKept, IsKnown}
+use Names.{EachOf, owner_if}
+use Rattle.std.proofs.Common.{◌≡◌, ◌∙◌}
 use Rattle.lock_laws.proofs.Kit.{columns, at_locks, put_at_same, put_at_other, put_at_beside, put_lock_same, put_lock_other, put_queue_other}
 use Rattle.lock_laws.proofs.Lending.{each_of-elsewhere, each_of-with, effective-put}
 use Rattle.lock_laws.proofs.Owners.{owners_put}

@@ -1,12 +1,6 @@
 -- An open of an sx lock keeps each fact.
-use Rattle.std.proofs.Common.{ℕ, refl}
-use Rattle.lock_model.specs.Config.{Config}
-use Rattle.lock_model.specs.Queues.{lock_queue}
-use Rattle.lock_model.specs.Words.{opened}
-use Rattle.lock_model.specs.declared.plan.Mode.{Mode}
-use Rattle.lock_state.specs.State.{State}
-use Rattle.lock_state.specs.Facts.{Lawful}
-use Rattle.lock_state.specs.Steps.SleepQueues.{MayOpenSleep, after_open_sleep}
+use Rattle.lock_laws.proofs.Names.{ℕ, refl, Config, lock_queue, opened, Mode, State, Lawful, MayOpenSleep}
+use Rattle.lock_laws.proofs.Names.{after_open_sleep}
 use Rattle.lock_laws.proofs.SleepQueues.{unowned, loans_stay, sx_word}
 use Rattle.lock_laws.proofs.LockQueues.{lists_left, head_left, whole_side, opened_lock}
 use Rattle.lock_laws.proofs.TakingOff.{by_signal}

@@ -1,15 +1,10 @@
 -- The sections behind a history are those behind the thread's own entries, and an event changes only what its class
 -- says.
-use Rattle.std.proofs.Common.{◌≡◌, ℕ, Bool, true, false, cond, eqb, Option, List, [], ◌∷◌, refl, ap}
-use Rattle.std.proofs.lemmas.Bool.{ne_eqb}
-use Rattle.lock_model.specs.Config.{Config}
-use Rattle.lock_model.specs.History.{sections_in, sections_by, entries_of, open_in}
-use Rattle.lock_model.specs.declared.event.Event.{Event}
-use Rattle.lock_model.specs.declared.event.Event.TheVariants.{Set, Added, Base}
-use Rattle.lock_model.specs.declared.event.Entry.{Entry}
-use Rattle.lock_state.specs.State.{State, Loan}
-use Rattle.lock_state.specs.Steps.LockWords.{after_stamp, base_after, effective_after, table_after, changes_base, changes_table, changes_sections}
-use Rattle.std.proofs.Common.{arith}
+use Rattle.lock_laws.proofs.Names
+use Names.{ℕ, Bool, true, false, cond, eqb, Option, List, [], refl, ap, ne_eqb, Config, sections_in, sections_by}
+use Names.{entries_of, open_in, Event, Set, Added, Base, Entry, State, Loan, after_stamp, base_after, effective_after}
+use Names.{table_after, changes_base, changes_table, changes_sections, arith}
+use Rattle.std.proofs.Common.{◌≡◌, ◌∷◌}
 
 -- 1. Own entries
 

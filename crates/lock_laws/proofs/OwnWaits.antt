@@ -1,12 +1,9 @@
 -- The begin of a round, looks, and the steps on a thread's own wait word that put it on no queue, keep each fact.
-use Rattle.std.proofs.Common.{◌≡◌, ℕ, ◌<◌, Bool, false, Some, None, refl, sym, ap, inl, inr, arith, ◌∙◌}
-use Rattle.std.proofs.lemmas.Bool.{cases_eq}
-use Rattle.lock_state.specs.State.{State, Wait, Running, Queued, put}
-use Rattle.lock_model.specs.Config.{Config}
-use Rattle.lock_state.specs.Steps.LockWords.{is_woken, MaySeek, MayLook, MayReady, MayUnready, after_seek, after_look, after_ready, after_unready}
-use Rattle.lock_state.specs.Facts.{Lawful, StandingIsQueued, WokenWants, WokenIsUncalled, FreeWordHasCalled}
-use Rattle.lock_state.specs.Facts.Waits.{callers, calls_woken}
-use Rattle.lock_model.specs.declared.plan.QueueName.{QueueName}
+use Rattle.lock_laws.proofs.Names
+use Names.{ℕ, Bool, false, Some, None, refl, sym, ap, inl, inr, arith, cases_eq, State, Wait, Running, Queued, put}
+use Names.{Config, is_woken, MaySeek, MayLook, MayReady, MayUnready, after_seek, after_look, after_ready, after_unready}
+use Names.{Lawful, StandingIsQueued, WokenWants, WokenIsUncalled, FreeWordHasCalled, callers, calls_woken, QueueName}
+use Rattle.std.proofs.Common.{◌≡◌, ◌<◌, ◌∙◌}
 use Rattle.lock_laws.proofs.Kit.{columns, put_same, put_other, sum_below-put}
 
 module _ (c : Config) (s : State) (t l : ℕ) (by_try : Bool) (g : MaySeek c s t l by_try) (h : Lawful c s) where

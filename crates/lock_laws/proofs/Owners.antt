@@ -1,15 +1,9 @@
 -- Laws of the owners of turnstiles: what a word's new holder means for them.
-use Rattle.std.proofs.Common.{◌≡◌, ℕ, Bool, true, List, Option, Some, inl, inr, arith}
-use Rattle.std.proofs.lemmas.Bool.{cases_eq}
-use Rattle.lock_model.specs.Config.{Config}
-use Rattle.lock_model.specs.Words.{Word, admits, is_plain, is_drop, gained, dropped, shows_waiters, is_turnstile}
-use Rattle.lock_model.specs.Queues.{Lists, lock_queue}
-use Rattle.lock_state.specs.State.{State, put, put_queue}
-use Rattle.lock_state.specs.Facts.{Lawful, OwnersHold}
-use Rattle.lock_state.specs.Facts.Queues.{ShowsItsWaiters, HeadFits}
-use Rattle.lock_state.specs.Facts.Loans.{owner_if}
-use Rattle.lock_model.specs.declared.plan.Kind.{Kind}
-use Rattle.lock_model.specs.declared.plan.Mode.{Mode}
+use Rattle.lock_laws.proofs.Names
+use Names.{ℕ, Bool, true, List, Option, Some, inl, inr, arith, cases_eq, Config, Word, admits, is_plain, is_drop}
+use Names.{gained, dropped, shows_waiters, is_turnstile, Lists, lock_queue, State, put, put_queue, Lawful, OwnersHold}
+use Names.{ShowsItsWaiters, HeadFits, owner_if, Kind, Mode}
+use Rattle.std.proofs.Common.{◌≡◌}
 use Rattle.lock_laws.proofs.Kit.{put_same, put_other, put_lock_same, put_lock_other}
 
 -- a plain gain changes no owner

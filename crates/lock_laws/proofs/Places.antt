@@ -1,15 +1,12 @@
 -- Where turnstiles and sleep queues are, for both sorts in one: a sort is `true` for turnstiles and `false` for sleep
 -- queues, as in `times_object`. A thread lends its own object to a queue, marks take objects off it, and a marked
 -- thread takes its object back.
-use Rattle.std.proofs.Common.{cond, ◌≡◌, ℕ, ◌+◌, ◌<◌, Bool, true, false, not, eqb, List, [], ◌∷◌, Option, Some, None, refl, ap, arith}
-use Rattle.lock_model.specs.Counts.{sum_below, one, some, at_option, times}
-use Rattle.lock_model.specs.Config.{Config}
-use Rattle.lock_model.specs.Queues.{BySignal, Waiter, Mark, lock_queue, chan_queue, is_turnstile_queue, head_with, free_with, dealt, free_after, head_after}
-use Rattle.lock_model.specs.Words.{is_turnstile}
-use Rattle.lock_model.specs.declared.plan.QueueName.{QueueName}
-use Rattle.lock_model.specs.declared.plan.QueueName.TheVariants.{Lock, Chan}
-use Rattle.lock_state.specs.State.{State, put, put_queue}
-use Rattle.lock_state.specs.Facts.Queues.{only, times_object}
+use Rattle.lock_laws.proofs.Names
+use Names.{cond, ℕ, Bool, true, false, not, eqb, List, [], Option, Some, None, refl, ap, arith, sum_below, one, some}
+use Names.{at_option, times, Config, BySignal, Waiter, Mark, lock_queue, chan_queue, is_turnstile_queue, head_with}
+use Names.{free_with, dealt, free_after, head_after, is_turnstile, QueueName, Lock, Chan, State, put, put_queue, only}
+use Names.{times_object}
+use Rattle.std.proofs.Common.{◌≡◌, ◌+◌, ◌<◌, ◌∷◌}
 use Rattle.lock_laws.proofs.Kit.{columns, sum_below-put, sum_below-put_lock, sum_below-put_chan}
 use Rattle.lock_laws.proofs.Queues.{dealt_none}
 

@@ -1,18 +1,16 @@
 -- A state is lawful in one way, so a ghost field or a model's invariant may keep it.
-use Rattle.std.proofs.Common.{ℕ, List, [], ◌∷◌}
-use Rattle.std.proofs.Props.{props}
-use Rattle.lock_model.specs.Config.{Config}
-use Rattle.lock_state.specs.State.{State}
-use Rattle.lock_model.specs.Queues.{Waiter}
-use Rattle.lock_model.specs.History.{IsAlone, IsInSection, IsReplayed, IsShown}
-use Rattle.lock_state.specs.Facts.{Lawful, OneTurnstileEach, OneSleepQueueEach, OneNodeEach, TurnstileIsLent, SleepQueueIsLent, HeadsFitWaiters, BitsShowWaiters, ListsAscend, MutexWaitersAreExclusive, StandsOnce, OnlyThreadsStand, StandingIsQueued, StandingWants, WokenWants, CalledWants, StandingIsUncalled, WokenIsUncalled, FreeWordHasCalled, FreeMutexShowsNone, WordsMatchHolders, OnlyThreadsHold, HeldAreListed, EffectiveIsLeast, OwnersHold, ChannelsHaveNoOwner, LoansAreLeast, LoansAreWithOwners, LoansAreOnHeads, KeptIsEffective, EffectiveIsKnown, LoansAreKnown, KeptIsKnown, NextIsNew, LogsAreParts, TablesReplay, BasesReplay, SectionsAreHeld, OutIsNarrow, TicketsRun, SectionsExclude, EditsInSections, ReadsReplay, ShownIsExplained}
+use Rattle.lock_laws.proofs.Names
+use Names.{ℕ, List, [], props, Config, State, Waiter, IsAlone, IsInSection, IsReplayed, IsShown, Lawful}
+use Names.{OneTurnstileEach, OneSleepQueueEach, OneNodeEach, TurnstileIsLent, SleepQueueIsLent, HeadsFitWaiters}
+use Names.{BitsShowWaiters, ListsAscend, MutexWaitersAreExclusive, StandsOnce, OnlyThreadsStand, StandingIsQueued}
+use Names.{StandingWants, WokenWants, CalledWants, StandingIsUncalled, WokenIsUncalled, FreeWordHasCalled}
+use Names.{FreeMutexShowsNone, WordsMatchHolders, OnlyThreadsHold, HeldAreListed, EffectiveIsLeast, OwnersHold}
+use Names.{ChannelsHaveNoOwner, LoansAreLeast, LoansAreWithOwners, LoansAreOnHeads, KeptIsEffective, EffectiveIsKnown}
+use Names.{LoansAreKnown, KeptIsKnown, NextIsNew, LogsAreParts, TablesReplay, BasesReplay, SectionsAreHeld, OutIsNarrow}
+use Names.{TicketsRun, SectionsExclude, EditsInSections, ReadsReplay, ShownIsExplained, Each, Mode, Excl, Shared, Event}
+use Names.{Set, Added, Got, Shown, Entry}
+use Rattle.std.proofs.Common.{◌∷◌}
 use Rattle.lock_state.specs.Facts.Queues.{Ascends}
-use Rattle.lock_state.specs.Facts.Loans.{Each}
-use Rattle.lock_model.specs.declared.plan.Mode.{Mode}
-use Rattle.lock_model.specs.declared.plan.Mode.TheVariants.{Excl, Shared}
-use Rattle.lock_model.specs.declared.event.Event.{Event}
-use Rattle.lock_model.specs.declared.event.Event.TheVariants.{Set, Added, Got, Shown}
-use Rattle.lock_model.specs.declared.event.Entry.{Entry}
 
 -- 1. Lists
 

@@ -1,11 +1,9 @@
 -- Laws of the lists of a queue.
-use Rattle.std.proofs.Common.{◌≡◌, ℕ, ◌+◌, ◌≤◌, false, List, [], ◌∷◌, length, Option, Some, None, refl, arith}
-use Rattle.lock_model.specs.Counts.{some, is_empty}
-use Rattle.lock_model.specs.Queues.{Waiter, Lists, Ascends, is_queue, lock_queue, list_of, with_list, times_waiting, stands, waiting, dealt, free_after, head_after}
-use Rattle.lock_state.specs.Facts.Waits.{times_marked, calls_marked}
-use Rattle.lock_model.specs.declared.plan.Side.{Side}
-use Rattle.lock_model.specs.declared.plan.Side.TheVariants.{X, S}
-use Rattle.lock_model.specs.declared.plan.QueueName.{QueueName}
+use Rattle.lock_laws.proofs.Names
+use Names.{ℕ, false, List, [], length, Option, Some, None, refl, arith, some, is_empty, Waiter, Lists, Ascends}
+use Names.{is_queue, lock_queue, list_of, with_list, times_waiting, stands, waiting, dealt, free_after, head_after}
+use Names.{times_marked, calls_marked, Side, X, S, QueueName}
+use Rattle.std.proofs.Common.{◌≡◌, ◌+◌, ◌≤◌, ◌∷◌}
 use Rattle.lock_laws.proofs.Kit.{is_queue_same}
 
 -- 1. One side is changed

@@ -1,16 +1,10 @@
 -- A resume keeps each fact.
-use Rattle.std.proofs.Common.{◌≡◌, ℕ, ◌+◌, ◌≤◌, Option, Some, None, sym, ap, inl, inr, arith, ◌∙◌}
-use Rattle.std.proofs.lemmas.Bool.{cases_eq}
-use Rattle.lock_model.specs.Counts.{at_option}
-use Rattle.lock_state.specs.State.{State, Running, Woken, put}
-use Rattle.lock_model.specs.Config.{Config}
-use Rattle.lock_model.specs.Queues.{Cause, BySignal, ByAbort}
-use Rattle.lock_state.specs.Steps.LockWords.{is_woken, is_taking_back}
-use Rattle.lock_state.specs.Steps.Turnstiles.{MayResume, after_resume, called_after, wanted_after}
-use Rattle.lock_state.specs.Facts.{Lawful, StandingIsQueued, StandingWants, WokenWants, CalledWants, StandingIsUncalled, WokenIsUncalled, FreeWordHasCalled}
-use Rattle.lock_state.specs.Facts.Waits.{callers, calls_woken}
-use Rattle.lock_model.specs.declared.plan.QueueName.{QueueName}
-use Rattle.lock_model.specs.declared.plan.QueueName.TheVariants.{Lock, Chan}
+use Rattle.lock_laws.proofs.Names
+use Names.{ℕ, Option, Some, None, sym, ap, inl, inr, arith, cases_eq, at_option, State, Running, Woken, put, Config}
+use Names.{Cause, BySignal, ByAbort, is_woken, is_taking_back, MayResume, after_resume, called_after, wanted_after}
+use Names.{Lawful, StandingIsQueued, StandingWants, WokenWants, CalledWants, StandingIsUncalled, WokenIsUncalled}
+use Names.{FreeWordHasCalled, callers, calls_woken, QueueName, Lock, Chan}
+use Rattle.std.proofs.Common.{◌≡◌, ◌+◌, ◌≤◌, ◌∙◌}
 use Rattle.lock_laws.proofs.Kit.{columns, put_same, put_other, sum_below-put}
 
 -- a thread that its wait word calls for a lock is called by its share after the resume

@@ -1,23 +1,18 @@
 -- Acquiring rounds on a running floor: who took a lock's chain in a blocking call keeps it until it gains, claims or
 -- enters.
-use Rattle.std.proofs.Common.{◌≡◌, ◌⊎◌, ℕ, ◌%◌, Bool, true, false, cond, Option, Some, None, refl, sym, ap, inl, inr, arith, ◌∙◌, subst}
-use Rattle.std.proofs.lemmas.Bool.{cases_eq}
-use Rattle.lock_model.specs.Config.{Config}
-use Rattle.lock_model.specs.Words.{is_turnstile}
-use Rattle.lock_model.specs.Queues.{Cause}
-use Rattle.lock_model.specs.declared.event.Event.{Event}
-use Rattle.lock_model.specs.declared.plan.QueueName.{QueueName}
-use Rattle.lock_state.specs.State.{State, Round, Running, Queued, Woken, put, start_state}
-use Rattle.lock_state.specs.Facts.{Lawful}
-use Rattle.lock_state.specs.Steps.LockWords.{round_after, round_of, is_woken, after_seek, after_look, after_gain, after_drop, after_stamp, after_ready, after_unready, bound_to}
-use Rattle.lock_state.specs.Steps.Turnstiles.{round_for, after_enter, after_open, after_mark, after_resume}
-use Rattle.lock_state.specs.Steps.SleepQueues.{after_enter_sleep, after_open_sleep, after_add, after_wake, after_abort}
-use Rattle.lock_state.specs.Steps.Lending.{after_claim, after_lend, after_shift, after_end_walk}
-use Rattle.lock_state.specs.Steps.Items.{Item, TurnstileChain, SleepChain, MayTake, MayGive, IsDoneWith, item_with, out_with, is_chain, is_bound, in_its_chain, after_take, after_give}
-use Rattle.lock_state.specs.Steps.Orders.{after_admit, after_refuse}
-use Rattle.lock_state.specs.Steps.Counting.{after_count_out, after_count_in, after_count_self_in, after_count_end, after_halt}
-use Rattle.lock_state.specs.Steps.{Step, Seeks, TakesItem, GivesItem, Gains, Stamps, Readies, Unreadies, Enters, EntersSleepQueue, Adds, Marks, Resumes, Claims, Admits, Refuses, May, after, chain_of, IsOfRound, FitsRound, NotesInRound, HasOut, HasSeen, IsFloorStep, EndsRound}
-use Rattle.lock_laws.specs.Rounds.{IsBoundTo, BoundHasChain, RoundsAreActing, LawfulRounds}
+use Rattle.lock_laws.proofs.Names
+use Names.{ℕ, Bool, true, false, cond, Option, Some, None, refl, sym, ap, inl, inr, arith, subst, cases_eq, Config}
+use Names.{is_turnstile, Cause, Event, QueueName, State, Round, Running, Queued, Woken, put, start_state, Lawful}
+use Names.{round_after, round_of, is_woken, after_seek, after_look, after_gain, after_drop, after_stamp, after_ready}
+use Names.{after_unready, bound_to, round_for, after_enter, after_open, after_mark, after_resume, after_enter_sleep}
+use Names.{after_open_sleep, after_add, after_wake, after_abort, after_claim, after_lend, after_shift, after_end_walk}
+use Names.{Item, TurnstileChain, SleepChain, MayTake, MayGive, IsDoneWith, item_with, out_with, is_chain, is_bound}
+use Names.{in_its_chain, after_take, after_give, after_admit, after_refuse, after_count_out, after_count_in}
+use Names.{after_count_self_in, after_count_end, after_halt, Step, Seeks, TakesItem, GivesItem, Gains, Stamps, Readies}
+use Names.{Unreadies, Enters, EntersSleepQueue, Adds, Marks, Resumes, Claims, Admits, Refuses, May, after, chain_of}
+use Names.{IsOfRound, FitsRound, NotesInRound, HasOut, HasSeen, IsFloorStep, EndsRound, IsBoundTo, BoundHasChain}
+use Names.{RoundsAreActing, LawfulRounds}
+use Rattle.std.proofs.Common.{◌≡◌, ◌⊎◌, ◌%◌, ◌∙◌}
 use Rattle.lock_laws.proofs.Kit.{columns, put_same, put_other}
 use Rattle.lock_laws.proofs.Items.{with_then, at_itself, beside}
 use Rattle.lock_laws.proofs.Mark as mark

@@ -1,15 +1,9 @@
 -- Laws of sections: who has one open holds the lock, and no two that exclude each other are open.
-use Rattle.std.proofs.Common.{◌≡◌, ℕ, cond, refl, sym, ap, eq-eqb, arith, ◌∙◌}
-use Rattle.lock_model.specs.Words.{sharers}
-use Rattle.lock_model.specs.Config.{Config}
-use Rattle.lock_state.specs.State.{State}
-use Rattle.lock_model.specs.Holds.{Hold, NotHeld, Holds}
-use Rattle.lock_model.specs.History.{Sections, sections_in, sections_by, open_in, left_in, begun_by, IsAlone, IsInSection, IsReplayed}
-use Rattle.lock_state.specs.Steps.LockWords.{Asks, after_stamp}
-use Rattle.lock_state.specs.Facts.{Lawful, SectionsAreHeld, OnlyThreadsHold, TablesReplay}
-use Rattle.lock_model.specs.declared.plan.Mode.{Mode}
-use Rattle.lock_model.specs.declared.plan.Mode.TheVariants.{Excl, Shared}
-use Rattle.lock_model.specs.declared.event.Event.{Event}
+use Rattle.lock_laws.proofs.Names
+use Names.{ℕ, cond, refl, sym, ap, eq-eqb, arith, sharers, Config, State, Hold, NotHeld, Holds, Sections, sections_in}
+use Names.{sections_by, open_in, left_in, begun_by, IsAlone, IsInSection, IsReplayed, Asks, after_stamp, Lawful}
+use Names.{SectionsAreHeld, OnlyThreadsHold, TablesReplay, Mode, Excl, Shared, Event}
+use Rattle.std.proofs.Common.{◌≡◌, ◌∙◌}
 use Rattle.lock_laws.proofs.Words.{owner_is, has_sharer}
 
 module _ (c : Config) (s : State) (h : Lawful c s) where

@@ -1,31 +1,16 @@
 -- What a thread sees of the word of a lock that it doesn't hold: a mutex is never shared, and one more of at most 64
 -- threads may share a lock beside those who do.
-use Rattle.std.proofs.Common.{◌≡◌, ◌≢◌, ℕ, ◌<◌, ◌≤◌, Bool, true, false, not, List, refl, sym, ap, ◌∙◌, subst, arith}
-use Rattle.lock_model.specs.Config.{Config}
-use Rattle.lock_model.specs.Counts.{is_empty}
-use Rattle.lock_model.specs.Holds.{NotHeld}
-use Rattle.lock_model.specs.Queues.{Waiter, side_of, list_of, without}
-use Rattle.lock_model.specs.Words.{Word, Holder, Free, HeldBy, SharedBy, admits, gained, sharers, without_one, with_bit}
-use Rattle.lock_model.specs.declared.plan.Kind.{Kind}
-use Rattle.lock_model.specs.declared.plan.Kind.TheVariants.{Mtx}
-use Rattle.lock_model.specs.declared.plan.Mode.{Mode}
-use Rattle.lock_model.specs.declared.plan.Mode.TheVariants.{Excl, Shared}
-use Rattle.lock_model.specs.declared.plan.QueueName.{QueueName}
-use Rattle.lock_model.specs.declared.plan.QueueName.TheVariants.{Lock, Chan}
-use Rattle.lock_model.specs.declared.plan.Side.{Side}
-use Rattle.lock_model.specs.declared.plan.Side.TheVariants.{X, S}
-use Rattle.lock_state.specs.Facts.{Lawful, FreeMutexShowsNone, WordsMatchHolders}
-use Rattle.lock_state.specs.Facts.Words.{shares}
-use Rattle.lock_state.specs.State.{State, put, start_state}
-use Rattle.lock_state.specs.Steps.LockWords.{after_seek, after_look, after_gain, after_drop, after_stamp, after_ready, after_unready}
-use Rattle.lock_state.specs.Steps.Turnstiles.{after_enter, after_open, after_mark, after_resume}
-use Rattle.lock_state.specs.Steps.SleepQueues.{after_enter_sleep, after_open_sleep, after_add, after_wake, after_abort, word_showing}
-use Rattle.lock_state.specs.Steps.Lending.{after_claim, after_lend, after_shift, after_end_walk}
-use Rattle.lock_state.specs.Steps.Items.{after_take, after_give}
-use Rattle.lock_state.specs.Steps.Orders.{after_admit, after_refuse}
-use Rattle.lock_state.specs.Steps.Counting.{after_count_out, after_count_in, after_count_self_in, after_count_end, after_halt}
-use Rattle.lock_state.specs.Steps.{Step, Gains, Drops, Enters, Opens, EntersSleepQueue, OpensSleepQueue, Claims, Aborts, May, after, IsReachable, begins, goes_on}
-use Rattle.lock_laws.specs.Words.{HasRoom, CanBeSeen}
+use Rattle.lock_laws.proofs.Names
+use Names.{ℕ, Bool, true, false, not, List, refl, sym, ap, subst, arith, Config, is_empty, NotHeld, Waiter, side_of}
+use Names.{list_of, without, Word, Holder, Free, HeldBy, SharedBy, admits, gained, sharers, without_one, with_bit, Kind}
+use Names.{Mtx, Mode, Excl, Shared, QueueName, Lock, Chan, Side, X, S, Lawful, FreeMutexShowsNone, WordsMatchHolders}
+use Names.{shares, State, put, start_state, after_seek, after_look, after_gain, after_drop, after_stamp, after_ready}
+use Names.{after_unready, after_enter, after_open, after_mark, after_resume, after_enter_sleep, after_open_sleep}
+use Names.{after_add, after_wake, after_abort, word_showing, after_claim, after_lend, after_shift, after_end_walk}
+use Names.{after_take, after_give, after_admit, after_refuse, after_count_out, after_count_in, after_count_self_in}
+use Names.{after_count_end, after_halt, Step, Gains, Drops, Enters, Opens, EntersSleepQueue, OpensSleepQueue, Claims}
+use Names.{Aborts, May, after, IsReachable, begins, goes_on, HasRoom, CanBeSeen}
+use Rattle.std.proofs.Common.{◌≡◌, ◌≢◌, ◌<◌, ◌≤◌, ◌∙◌}
 use Rattle.lock_laws.proofs.AtTurn.{well_formed}
 use Rattle.lock_laws.proofs.Kit.{at_put}
 use Rattle.lock_laws.proofs.Steps.{reached_lawful}

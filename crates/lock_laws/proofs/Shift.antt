@@ -1,23 +1,15 @@
 -- A hop of a walk at a thread, and the end of a walk, keep each fact.
-use Rattle.std.proofs.Common.{◌≡◌, ◌≢◌, ℕ, ◌+◌, ◌≤◌, true, eqb, List, Option, Some, None, refl, sym, ap, inl, inr, arith, ◌∙◌}
-use Rattle.std.proofs.lemmas.Bool.{cases_eq, ne_eqb}
-use Rattle.lock_model.specs.Counts.{one, sum_below}
-use Rattle.lock_model.specs.Words.{is_turnstile}
-use Rattle.lock_state.specs.State.{State, Walk, NoWalk, AtLock, AtThread}
-use Rattle.lock_model.specs.Config.{Config}
-use Rattle.lock_model.specs.Queues.{Waiter, Lists, lock_queue, stands, least_of, with_kept}
-use Rattle.lock_state.specs.Steps.LockWords.{prio_of}
-use Rattle.lock_state.specs.Steps.Lending.{MayShift, MayEndWalk, IsAtEnd, after_shift, after_end_walk}
-use Rattle.lock_state.specs.Steps.Turnstiles.{walk_up}
-use Rattle.lock_state.specs.Facts.{Lawful, HeadsFitWaiters, BitsShowWaiters, ListsAscend, MutexWaitersAreExclusive, StandsOnce, OnlyThreadsStand, LoansAreLeast, KeptIsEffective, EffectiveIsKnown, KeptIsKnown}
-use Rattle.lock_state.specs.Facts.Queues.{HeadFits}
-use Rattle.lock_state.specs.Facts.Waits.{at_queue}
-use Rattle.lock_state.specs.Facts.Loans.{IsKept, IsKnown, EachOf, walkers_at_lock, walkers_at_thread, at_lock, at_thread}
-use Rattle.lock_model.specs.declared.plan.QueueName.{QueueName}
+use Rattle.lock_laws.proofs.Names
+use Names.{ℕ, true, eqb, List, Option, Some, None, refl, sym, ap, inl, inr, arith, cases_eq, ne_eqb, one, sum_below}
+use Names.{is_turnstile, State, Walk, NoWalk, AtLock, AtThread, Config, Waiter, Lists, lock_queue, stands, least_of}
+use Names.{with_kept, prio_of, MayShift, MayEndWalk, IsAtEnd, after_shift, after_end_walk, walk_up, Lawful}
+use Names.{HeadsFitWaiters, BitsShowWaiters, ListsAscend, MutexWaitersAreExclusive, StandsOnce, OnlyThreadsStand}
+use Names.{LoansAreLeast, KeptIsEffective, EffectiveIsKnown, KeptIsKnown, HeadFits, at_queue, IsKept, IsKnown, EachOf}
+use Names.{walkers_at_lock, walkers_at_thread, at_lock, at_thread, QueueName, ascends-reinsert}
+use Rattle.std.proofs.Common.{◌≡◌, ◌≢◌, ◌+◌, ◌≤◌, ◌∙◌}
 use Rattle.lock_laws.proofs.Kit.{columns, put_lock_other, sum_below-put, at_put_queue, at_put_lock, at_queue_one}
 use Rattle.lock_laws.proofs.OneQueue.{stand_put}
 use Rattle.lock_laws.proofs.Lending.{walk_up-there, each_of-map, each_of-kept, stands-kept, waiting-kept, is_empty-reinsert}
-use Rattle.lock_model.proofs.Lists.{ascends-reinsert}
 
 head_fits : (t p : ℕ) (q : Lists) (xs : List ℕ) (h o : Option ℕ) → HeadFits q xs h o → HeadFits (with_kept t p q) xs h o
 head_fits t p q xs h o f = record { balanced = f.balanced ∙ sym (waiting-kept t p q); no_free = f.no_free; no_owner = f.no_owner }

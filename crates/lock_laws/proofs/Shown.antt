@@ -1,22 +1,11 @@
 -- Laws of priorities that are known, and of those that a thread shows.
-use Rattle.std.proofs.Common.{◌≡◌, ℕ, zero, suc, ◌<◌, Bool, true, false, cond, eqb, ◌&&◌, ◌||◌, List, [], ◌∷◌, Option, Some, None, refl, sym, ap, inl, inr, arith, eq-eqb, ◌∙◌, subst}
-use Rattle.std.proofs.lemmas.Bool.{cases_eq}
-use Rattle.lock_model.specs.Counts.{any_below}
-use Rattle.lock_model.specs.Words.{Holder, is_turnstile, owner_of}
-use Rattle.lock_model.specs.Config.{Config}
-use Rattle.lock_state.specs.State.{State, Loan}
-use Rattle.lock_model.specs.Holds.{Hold, Holds, is_exclusive}
-use Rattle.lock_model.specs.History.{has_base, sets_base, base_in, base_by, open_in, owns_in, IsShown}
-use Rattle.lock_state.specs.Steps.LockWords.{Asks, prio_of}
-use Rattle.lock_model.specs.Queues.{lock_queue}
-use Rattle.lock_state.specs.Facts.{Lawful, BasesReplay, EffectiveIsLeast, EffectiveIsKnown, LoansAreWithOwners, OwnersHold, WordsMatchHolders}
-use Rattle.lock_state.specs.Facts.Words.{owns}
-use Rattle.lock_state.specs.Facts.Loans.{owner_if, IsKnown}
-use Rattle.lock_model.specs.declared.plan.Mode.{Mode}
-use Rattle.lock_model.specs.declared.plan.Mode.TheVariants.{Excl}
-use Rattle.lock_model.specs.declared.event.Event.{Event}
-use Rattle.lock_model.specs.declared.event.Event.TheVariants.{Shown}
-use Rattle.lock_model.specs.declared.event.Entry.{Entry}
+use Rattle.lock_laws.proofs.Names
+use Names.{ℕ, zero, suc, Bool, true, false, cond, eqb, List, [], Option, Some, None, refl, sym, ap, inl, inr, arith}
+use Names.{eq-eqb, subst, cases_eq, any_below, Holder, is_turnstile, owner_of, Config, State, Loan, Hold, Holds}
+use Names.{is_exclusive, has_base, sets_base, base_in, base_by, open_in, owns_in, IsShown, Asks, prio_of, lock_queue}
+use Names.{Lawful, BasesReplay, EffectiveIsLeast, EffectiveIsKnown, LoansAreWithOwners, OwnersHold, WordsMatchHolders}
+use Names.{owns, owner_if, IsKnown, Mode, Excl, Event, Shown, Entry}
+use Rattle.std.proofs.Common.{◌≡◌, ◌<◌, ◌&&◌, ◌||◌, ◌∷◌, ◌∙◌}
 use Rattle.lock_laws.proofs.Lending.{by_least, least-le_base}
 
 -- 1. Somewhere below

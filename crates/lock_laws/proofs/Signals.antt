@@ -1,19 +1,14 @@
 -- Each step keeps it that who is taken off a turnstile is taken off by a signal.
-use Rattle.std.proofs.Common.{◌≡◌, ℕ, true, false, List, [], ◌∷◌, Option, Some, None, sym, ap, ◌∙◌, subst}
-use Rattle.lock_model.specs.Config.{Config}
-use Rattle.lock_model.specs.Queues.{Cause, Waiter, Mark, is_turnstile_queue, dealt}
-use Rattle.lock_model.specs.declared.plan.QueueName.{QueueName}
-use Rattle.lock_state.specs.State.{State, Wait, Running, Queued, Woken, put, start_state}
-use Rattle.lock_state.specs.Facts.Sleeps.{AreSignals}
-use Rattle.lock_state.specs.Steps.LockWords.{after_seek, after_look, after_gain, after_drop, after_stamp, after_ready, after_unready}
-use Rattle.lock_state.specs.Steps.Turnstiles.{after_enter, after_open, after_mark, after_resume}
-use Rattle.lock_state.specs.Steps.SleepQueues.{by_abort, sleeper, after_enter_sleep, after_open_sleep, after_add, after_wake, after_abort}
-use Rattle.lock_state.specs.Steps.Lending.{after_claim, after_lend, after_shift, after_end_walk}
-use Rattle.lock_state.specs.Steps.Items.{after_take, after_give}
-use Rattle.lock_state.specs.Steps.Orders.{after_admit, after_refuse}
-use Rattle.lock_state.specs.Steps.Counting.{after_count_out, after_count_in, after_count_self_in, after_count_end, after_halt}
-use Rattle.lock_state.specs.Steps.{Step, Readies, Unreadies, Opens, OpensSleepQueue, Wakes, Marks, Resumes, Aborts, May, after, IsFloorStep}
-use Rattle.lock_laws.specs.Signals.{FitsQueue, FitQueues, MarksFitQueues, WakesFitQueues, TurnstilesSignal}
+use Rattle.lock_laws.proofs.Names
+use Names.{ℕ, true, false, List, [], Option, Some, None, sym, ap, subst, Config, Cause, Waiter, Mark}
+use Names.{is_turnstile_queue, dealt, QueueName, State, Wait, Running, Queued, Woken, put, start_state, AreSignals}
+use Names.{after_seek, after_look, after_gain, after_drop, after_stamp, after_ready, after_unready, after_enter}
+use Names.{after_open, after_mark, after_resume, by_abort, sleeper, after_enter_sleep, after_open_sleep, after_add}
+use Names.{after_wake, after_abort, after_claim, after_lend, after_shift, after_end_walk, after_take, after_give}
+use Names.{after_admit, after_refuse, after_count_out, after_count_in, after_count_self_in, after_count_end, after_halt}
+use Names.{Step, Readies, Unreadies, Opens, OpensSleepQueue, Wakes, Marks, Resumes, Aborts, May, after, IsFloorStep}
+use Names.{FitsQueue, FitQueues, MarksFitQueues, WakesFitQueues, TurnstilesSignal}
+use Rattle.std.proofs.Common.{◌≡◌, ◌∷◌, ◌∙◌}
 use Rattle.lock_laws.proofs.Dealt.{all_signals-dealt}
 use Rattle.lock_laws.proofs.Kit.{at_put}
 

@@ -1,13 +1,9 @@
 -- An add to a channel, and a wake there, keep each fact.
-use Rattle.std.proofs.Common.{◌≡◌, ℕ, Bool, false, List, None, refl, ap, arith}
-use Rattle.lock_model.specs.Config.{Config}
-use Rattle.lock_model.specs.Queues.{Waiter, Lists, chan_queue, with_list, head_with, dealt, head_after, with_last, taken_off, left_on}
-use Rattle.lock_model.specs.declared.plan.QueueName.{QueueName}
-use Rattle.lock_model.specs.declared.plan.Side.TheVariants.{X}
-use Rattle.lock_state.specs.State.{State, put}
-use Rattle.lock_state.specs.Steps.SleepQueues.{MayAdd, MayWake, after_add, after_wake}
-use Rattle.lock_state.specs.Facts.{Lawful, CalledWants, FreeWordHasCalled}
-use Rattle.lock_state.specs.Facts.Waits.{callers, calls_marked}
+use Rattle.lock_laws.proofs.Names
+use Names.{ℕ, Bool, false, List, None, refl, ap, arith, Config, Waiter, Lists, chan_queue, with_list, head_with, dealt}
+use Names.{head_after, with_last, taken_off, left_on, QueueName, X, State, put, MayAdd, MayWake, after_add, after_wake}
+use Names.{Lawful, CalledWants, FreeWordHasCalled, callers, calls_marked}
+use Rattle.std.proofs.Common.{◌≡◌}
 use Rattle.lock_laws.proofs.Kit.{put_back, sum_below-put}
 use Rattle.lock_laws.proofs.ComingToStand.{MayStand, at_tail, comes_to_stand}
 use Rattle.lock_laws.proofs.TakingOff.{MayTakeOff, by_signal}

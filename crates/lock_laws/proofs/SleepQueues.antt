@@ -1,16 +1,11 @@
 -- A change on a sleep queue, of an sx lock or of a channel, leaves what is said of turnstiles, loans and mutexes.
-use Rattle.std.proofs.Common.{◌≡◌, ℕ, true, false, Option, Some, None, sym, ap, inl, inr, ◌∙◌}
-use Rattle.std.proofs.lemmas.Bool.{cases_Bool}
-use Rattle.lock_model.specs.Config.{Config}
-use Rattle.lock_model.specs.Queues.{Lists, is_queue, is_turnstile_queue, lock_queue, chan_queue}
-use Rattle.lock_model.specs.Words.{Word, Holder, is_turnstile}
-use Rattle.lock_model.specs.declared.plan.QueueName.{QueueName}
-use Rattle.lock_model.specs.declared.plan.QueueName.TheVariants.{Lock, Chan}
-use Rattle.lock_state.specs.State.{State, put, put_queue}
-use Rattle.lock_state.specs.Facts.{Lawful, LoanFacts, BitsShowWaiters, OwnersHold, ChannelsHaveNoOwner, LoansAreLeast, LoansAreWithOwners, LoansAreOnHeads, KeptIsEffective, KeptIsKnown}
-use Rattle.lock_state.specs.Facts.Loans.{owner_if}
+use Rattle.lock_laws.proofs.Names
+use Names.{ℕ, true, false, Option, Some, None, sym, ap, inl, inr, cases_Bool, Config, Lists, is_queue}
+use Names.{is_turnstile_queue, lock_queue, chan_queue, Word, Holder, is_turnstile, QueueName, Lock, Chan, State, put}
+use Names.{put_queue, Lawful, LoanFacts, BitsShowWaiters, OwnersHold, ChannelsHaveNoOwner, LoansAreLeast}
+use Names.{LoansAreWithOwners, LoansAreOnHeads, KeptIsEffective, KeptIsKnown, owner_if, arith}
+use Rattle.std.proofs.Common.{◌≡◌, ◌∙◌}
 use Rattle.lock_laws.proofs.Kit.{put_other, put_queue_other, is_queue_true}
-use Rattle.std.proofs.Common.{arith}
 
 no_owner : (h : Option ℕ) (y : Holder) → owner_if false h y ≡ None
 no_owner h y = grind arith

@@ -1,7 +1,7 @@
 -- What a wake takes off a channel's list of sleepers, and what it leaves.
-use Rattle.std.proofs.Common.{◌≡◌, Bool, true, false, List, Option, Some, None, refl}
-use Rattle.lock_model.specs.Queues.{Waiter, best_of, one_or_none, without_best, taken_off, left_on}
-use Rattle.lock_model.proofs.Lists.{best_stands}
+use Rattle.lock_laws.proofs.Names.{Bool, true, false, List, Option, Some, None, refl, Waiter, best_of, one_or_none}
+use Rattle.lock_laws.proofs.Names.{without_best, taken_off, left_on, best_stands}
+use Rattle.std.proofs.Common.{◌≡◌}
 use Rattle.lock_laws.proofs.TakingOff.{Parts, all_taken, none_taken, one_taken}
 
 -- the best or all are taken off

@@ -1,18 +1,12 @@
 -- A stamp keeps each fact.
-use Rattle.std.proofs.Common.{◌≡◌, ℕ, suc, Bool, true, false, cond, eqb, ◌||◌, ◌∷◌, Option, Some, refl, ap, inl, inr, arith, eq-eqb}
-use Rattle.std.proofs.lemmas.Bool.{ne_eqb, cases_eq, eqb-true}
-use Rattle.lock_model.specs.Counts.{any_below}
-use Rattle.lock_state.specs.State.{State, Loan, put}
-use Rattle.lock_model.specs.Config.{Config}
-use Rattle.lock_model.specs.Holds.{Holds}
-use Rattle.lock_model.specs.History.{base_in, base_by, sections_in, sections_by, entries_of}
-use Rattle.lock_state.specs.Steps.LockWords.{MayStamp, after_stamp, base_after, effective_after, effective_of, prio_of, entry_of}
-use Rattle.lock_model.specs.Queues.{lock_queue, stands}
-use Rattle.lock_state.specs.Facts.{Lawful, StandsOnce, EffectiveIsLeast, KeptIsEffective, EffectiveIsKnown, LoansAreKnown, KeptIsKnown, NextIsNew, LogsAreParts, TablesReplay, BasesReplay, SectionsAreHeld, TicketsRun, SectionsExclude, EditsInSections, ReadsReplay, ShownIsExplained}
-use Rattle.lock_state.specs.Facts.Loans.{IsKnown}
-use Rattle.lock_model.specs.declared.event.Event.{Event}
-use Rattle.lock_model.specs.declared.event.Event.TheVariants.{Base}
-use Rattle.lock_model.specs.declared.event.Entry.{Entry}
+use Rattle.lock_laws.proofs.Names
+use Names.{ℕ, suc, Bool, true, false, cond, eqb, Option, Some, refl, ap, inl, inr, arith, eq-eqb, ne_eqb, cases_eq}
+use Names.{eqb-true, any_below, State, Loan, put, Config, Holds, base_in, base_by, sections_in, sections_by, entries_of}
+use Names.{MayStamp, after_stamp, base_after, effective_after, effective_of, prio_of, entry_of, lock_queue, stands}
+use Names.{Lawful, StandsOnce, EffectiveIsLeast, KeptIsEffective, EffectiveIsKnown, LoansAreKnown, KeptIsKnown}
+use Names.{NextIsNew, LogsAreParts, TablesReplay, BasesReplay, SectionsAreHeld, TicketsRun, SectionsExclude}
+use Names.{EditsInSections, ReadsReplay, ShownIsExplained, IsKnown, Event, Base, Entry}
+use Rattle.std.proofs.Common.{◌≡◌, ◌||◌, ◌∷◌}
 use Rattle.lock_laws.proofs.Kit.{each_place, put_same, put_other}
 use Rattle.lock_laws.proofs.Lending.{effective-base, each_of-elsewhere, each_of-map, by_least}
 use Rattle.lock_laws.proofs.Tables.{table_step}

@@ -1,13 +1,9 @@
 -- Who stands on a queue or is marked in a lawful state, and where that thread's turnstile or sleep queue is.
-use Rattle.std.proofs.Common.{◌≡◌, ℕ, ◌<◌, ◌≤◌, true, not, List, ◌∷◌, Option, Some, None, refl, sym, arith, eq-eqb, ◌∙◌}
-use Rattle.lock_model.specs.Counts.{some, one}
-use Rattle.lock_model.specs.Words.{is_turnstile}
-use Rattle.lock_model.specs.Config.{Config}
-use Rattle.lock_state.specs.State.{State}
-use Rattle.lock_model.specs.Queues.{Mark, lock_queue, is_turnstile_queue, names_turnstile, names_sleep_queue, stands}
-use Rattle.lock_state.specs.Facts.{Lawful, TurnstileIsLent, SleepQueueIsLent, StandsOnce, OnlyThreadsStand}
-use Rattle.lock_state.specs.Facts.Waits.{times_marked}
-use Rattle.lock_model.specs.declared.plan.QueueName.{QueueName}
+use Rattle.lock_laws.proofs.Names
+use Names.{ℕ, true, not, List, Option, Some, None, refl, sym, arith, eq-eqb, some, one, is_turnstile, Config, State}
+use Names.{Mark, lock_queue, is_turnstile_queue, names_turnstile, names_sleep_queue, stands, Lawful, TurnstileIsLent}
+use Names.{SleepQueueIsLent, StandsOnce, OnlyThreadsStand, times_marked, QueueName}
+use Rattle.std.proofs.Common.{◌≡◌, ◌<◌, ◌≤◌, ◌∷◌, ◌∙◌}
 use Rattle.lock_laws.proofs.Kit.{sum_below-at, is_queue_same, at_queue_one}
 use Rattle.lock_laws.proofs.Sums.{zero_unless}
 

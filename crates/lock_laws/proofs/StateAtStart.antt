@@ -1,16 +1,16 @@
 -- The state at the start of a plan is lawful.
-use Rattle.std.proofs.Common.{◌≡◌, ℕ, zero, suc, ◌+◌, Bool, true, false, ◌&&◌, not, eqb, ltb, [], None, refl, sym, arith, inl, inr, eq-eqb}
-use Rattle.std.proofs.lemmas.Bool.{ne_eqb, cases_eq, cases_lt, lt-ltb, le-ltb}
-use Rattle.lock_model.specs.Counts.{sum_below, one, least}
-use Rattle.lock_model.specs.Words.{is_turnstile}
-use Rattle.lock_state.specs.State.{State, start_state}
-use Rattle.lock_model.specs.Config.{Config}
-use Rattle.lock_model.specs.History.{tables_of, value_at, sections_in}
-use Rattle.lock_state.specs.Facts.{Lawful, OneTurnstileEach, OneSleepQueueEach, OneNodeEach, TurnstileIsLent, SleepQueueIsLent, HeadsFitWaiters, BitsShowWaiters, ListsAscend, MutexWaitersAreExclusive, StandsOnce, OnlyThreadsStand, StandingIsQueued, StandingWants, WokenWants, CalledWants, StandingIsUncalled, WokenIsUncalled, FreeWordHasCalled, FreeMutexShowsNone, WordsMatchHolders, OnlyThreadsHold, HeldAreListed, EffectiveIsLeast, OwnersHold, ChannelsHaveNoOwner, LoansAreLeast, LoansAreWithOwners, LoansAreOnHeads, KeptIsEffective, EffectiveIsKnown, LoansAreKnown, KeptIsKnown, NextIsNew, LogsAreParts, TablesReplay, BasesReplay, SectionsAreHeld, OutIsNarrow, TicketsRun, SectionsExclude, EditsInSections, ReadsReplay, ShownIsExplained}
-use Rattle.lock_state.specs.Facts.Queues.{only, turnstile_places, sleep_queue_places, loans_on}
-use Rattle.lock_state.specs.Facts.Waits.{callers}
-use Rattle.std.specs.FinMap.{get-empty}
-use Rattle.lock_model.specs.History.{place_cmp}
+use Rattle.lock_laws.proofs.Names
+use Names.{ℕ, zero, suc, Bool, true, false, not, eqb, ltb, [], None, refl, sym, arith, inl, inr, eq-eqb, ne_eqb}
+use Names.{cases_eq, cases_lt, lt-ltb, le-ltb, sum_below, one, least, is_turnstile, State, start_state, Config}
+use Names.{tables_of, value_at, sections_in, Lawful, OneTurnstileEach, OneSleepQueueEach, OneNodeEach, TurnstileIsLent}
+use Names.{SleepQueueIsLent, HeadsFitWaiters, BitsShowWaiters, ListsAscend, MutexWaitersAreExclusive, StandsOnce}
+use Names.{OnlyThreadsStand, StandingIsQueued, StandingWants, WokenWants, CalledWants, StandingIsUncalled}
+use Names.{WokenIsUncalled, FreeWordHasCalled, FreeMutexShowsNone, WordsMatchHolders, OnlyThreadsHold, HeldAreListed}
+use Names.{EffectiveIsLeast, OwnersHold, ChannelsHaveNoOwner, LoansAreLeast, LoansAreWithOwners, LoansAreOnHeads}
+use Names.{KeptIsEffective, EffectiveIsKnown, LoansAreKnown, KeptIsKnown, NextIsNew, LogsAreParts, TablesReplay}
+use Names.{BasesReplay, SectionsAreHeld, OutIsNarrow, TicketsRun, SectionsExclude, EditsInSections, ReadsReplay}
+use Names.{ShownIsExplained, only, turnstile_places, sleep_queue_places, loans_on, callers, get-empty, place_cmp}
+use Rattle.std.proofs.Common.{◌≡◌, ◌+◌, ◌&&◌}
 use Rattle.lock_laws.proofs.Kit.{sum_below-zero}
 use Rattle.lock_laws.proofs.Shown.{base_known}
 

@@ -1,9 +1,10 @@
 -- Each step, of whatever kind, keeps the state lawful, and so does each list of steps.
-use Rattle.std.proofs.Common.{List, [], ◌∷◌, subst, sym, refl}
-use Rattle.lock_model.specs.Config.{Config}
-use Rattle.lock_state.specs.State.{State}
-use Rattle.lock_state.specs.Facts.{Lawful}
-use Rattle.lock_state.specs.Steps.{Step, Seeks, Looks, TakesItem, GivesItem, Gains, Drops, Stamps, Readies, Unreadies, Enters, Opens, EntersSleepQueue, OpensSleepQueue, Adds, Wakes, Marks, Resumes, Claims, Lends, Shifts, EndsWalk, Admits, Refuses, CountsOut, CountsIn, CountsSelfIn, CountsEnd, Halts, Aborts, May, MayAll, after, after_all, IsStep, IsReachable, begins, goes_on}
+use Rattle.lock_laws.proofs.Names
+use Names.{List, [], subst, sym, refl, Config, State, Lawful, Step, Seeks, Looks, TakesItem, GivesItem, Gains, Drops}
+use Names.{Stamps, Readies, Unreadies, Enters, Opens, EntersSleepQueue, OpensSleepQueue, Adds, Wakes, Marks, Resumes}
+use Names.{Claims, Lends, Shifts, EndsWalk, Admits, Refuses, CountsOut, CountsIn, CountsSelfIn, CountsEnd, Halts}
+use Names.{Aborts, May, MayAll, after, after_all, IsStep, IsReachable, begins, goes_on}
+use Rattle.std.proofs.Common.{◌∷◌}
 use Rattle.lock_laws.proofs.OwnWaits.{seek_lawful, look_lawful, ready_lawful, unready_lawful}
 use Rattle.lock_laws.proofs.Items.{take_lawful, give_lawful}
 use Rattle.lock_laws.proofs.StateAtStart as start

@@ -1,10 +1,9 @@
 -- Laws of sums of sums, and of how often the numbers below a bound stand in lists.
-use Rattle.std.proofs.Common.{◌≡◌, ◌∙◌, ℕ, zero, suc, ◌+◌, ◌<◌, ◌≤◌, Bool, true, false, cond, eqb, List, [], ◌∷◌, length, Option, Some, None, refl, sym, ap, inl, inr, arith}
-use Rattle.std.proofs.lemmas.Bool.{ne_eqb, cases_eq, cases_lt}
-use Rattle.lock_model.specs.Counts.{sum_below, one, some, at_option, times}
-use Rattle.lock_model.specs.Config.{Config}
-use Rattle.lock_model.specs.Queues.{Waiter, Mark, is_turnstile_queue, times_waiting}
-use Rattle.lock_state.specs.Facts.Queues.{only, times_object}
+use Rattle.lock_laws.proofs.Names
+use Names.{ℕ, zero, suc, Bool, true, false, cond, eqb, List, [], length, Option, Some, None, refl, sym, ap, inl, inr}
+use Names.{arith, ne_eqb, cases_eq, cases_lt, sum_below, one, some, at_option, times, Config, Waiter, Mark}
+use Names.{is_turnstile_queue, times_waiting, only, times_object}
+use Rattle.std.proofs.Common.{◌≡◌, ◌∙◌, ◌+◌, ◌<◌, ◌≤◌, ◌∷◌}
 use Rattle.lock_laws.proofs.Kit.{sum_below-zero, sum_below-at, sum_below-same, one_same}
 
 -- 1. Sums

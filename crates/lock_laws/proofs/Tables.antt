@@ -1,14 +1,10 @@
 -- The table of a lock after an entry is what the history leaves, the entry included.
-use Rattle.std.proofs.Common.{◌≡◌, ℕ, cond, eqb, ◌&&◌, List, ◌∷◌, Option, Some, refl, sym, ap, arith, ◌∙◌, nat_cmp, is_eq}
-use Rattle.std.specs.Cmp.{IsTotalOrder, nat_cmp_total, on_total, then_total, tied_then}
-use Rattle.std.specs.Ordering.{eq_by_cmp}
-use Rattle.std.specs.FinMap.{FinMap, get, insert, get-insert}
-use Rattle.lock_state.specs.State.{put_at}
-use Rattle.lock_model.specs.History.{place_cmp, added, edited, tables_of, value_at}
-use Rattle.lock_state.specs.Steps.LockWords.{table_after}
-use Rattle.lock_model.specs.declared.event.Event.{Event}
-use Rattle.lock_model.specs.declared.event.Event.TheVariants.{Set, Added}
-use Rattle.lock_model.specs.declared.event.Entry.{Entry}
+use Rattle.lock_laws.proofs.Names
+use Names.{ℕ, cond, eqb, List, Option, Some, refl, sym, ap, arith, nat_cmp, is_eq, IsTotalOrder, nat_cmp_total}
+use Names.{on_total, then_total, tied_then, eq_by_cmp, FinMap, get, get-insert, put_at, place_cmp, added, edited}
+use Names.{tables_of, value_at, table_after, Event, Set, Added, Entry}
+use Rattle.std.proofs.Common.{◌≡◌, ◌&&◌, ◌∷◌, ◌∙◌}
+use Rattle.std.specs.FinMap.{insert}
 
 place_total : IsTotalOrder place_cmp
 place_total = then_total (on_total (λ p. p.0) nat_cmp_total) (on_total (λ p. p.1) nat_cmp_total)

@@ -1,14 +1,8 @@
 -- Who is taken off a queue in a lawful state: each has an object there, and they are threads of the plan, each once.
-use Rattle.std.proofs.Common.{ℕ, ◌+◌, ◌^◌, ◌<◌, ◌≤◌, Bool, map, length, arith}
-use Rattle.lock_model.specs.Config.{Config}
-use Rattle.lock_model.specs.Counts.{some, times}
-use Rattle.lock_model.specs.Queues.{Lists, list_of, stands, waiting, times_waiting, taken_off}
-use Rattle.lock_model.specs.declared.plan.QueueName.{QueueName}
-use Rattle.lock_model.specs.declared.plan.Side.{Side}
-use Rattle.lock_model.specs.declared.plan.Side.TheVariants.{X, S}
-use Rattle.lock_state.specs.State.{State}
-use Rattle.lock_state.specs.Steps.LockWords.{bits_of_threads}
-use Rattle.lock_state.specs.Facts.{Lawful, HeadsFitWaiters}
+use Rattle.lock_laws.proofs.Names
+use Names.{ℕ, Bool, map, length, arith, Config, some, times, Lists, list_of, stands, waiting, times_waiting, taken_off}
+use Names.{QueueName, Side, X, S, State, bits_of_threads, Lawful, HeadsFitWaiters}
+use Rattle.std.proofs.Common.{◌+◌, ◌^◌, ◌<◌, ◌≤◌}
 use Rattle.lock_laws.proofs.Derived.{once}
 use Rattle.lock_laws.proofs.Sleepers.{best_or_all}
 use Rattle.lock_laws.proofs.Standing.{standing_thread}

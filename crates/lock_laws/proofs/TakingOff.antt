@@ -2,21 +2,14 @@
 -- marked list with an object each. Whichever the queue and its sort, who is taken and who is left, and whatever the
 -- cause, what that could break is kept: places of objects, heads, the order of lists, and who stands. A word's bits and
 -- callers, owners, loans and kept priorities are for the steps that change these.
-use Rattle.std.proofs.Common.{◌≡◌, ℕ, ◌+◌, ◌<◌, ◌≤◌, Bool, true, false, List, [], ◌∷◌, length, Option, None, refl, arith}
-use Rattle.lock_model.specs.Counts.{some}
-use Rattle.lock_model.specs.Config.{Config}
-use Rattle.lock_model.specs.Queues.{Waiter, Lists, Mark, Ascends, is_queue, is_turnstile_queue, list_of, with_list, times_waiting, stands, waiting, dealt, free_after, head_after, without}
-use Rattle.lock_model.specs.Words.{is_turnstile}
-use Rattle.lock_model.specs.declared.plan.Kind.TheVariants.{Mtx}
-use Rattle.lock_model.specs.declared.plan.Side.{Side}
-use Rattle.lock_model.specs.declared.plan.Side.TheVariants.{X, S}
-use Rattle.lock_model.specs.declared.plan.QueueName.{QueueName}
-use Rattle.lock_state.specs.State.{State, put, put_queue}
-use Rattle.lock_state.specs.Steps.Turnstiles.{with_marked}
-use Rattle.lock_state.specs.Facts.{Lawful, OneTurnstileEach, OneSleepQueueEach, HeadsFitWaiters, ListsAscend, MutexWaitersAreExclusive, StandsOnce}
-use Rattle.lock_state.specs.Facts.Queues.{times_object, turnstile_places, sleep_queue_places}
-use Rattle.lock_state.specs.Facts.Waits.{times_marked}
-use Rattle.lock_model.proofs.Lists.{times_waiting-without, length-without, ascends-without}
+use Rattle.lock_laws.proofs.Names
+use Names.{ℕ, Bool, true, false, List, [], length, Option, None, refl, arith, some, Config, Waiter, Lists, Mark}
+use Names.{Ascends, is_queue, is_turnstile_queue, list_of, with_list, times_waiting, stands, waiting, dealt, free_after}
+use Names.{head_after, without, is_turnstile, Mtx, Side, X, S, QueueName, State, put, put_queue, with_marked, Lawful}
+use Names.{OneTurnstileEach, OneSleepQueueEach, HeadsFitWaiters, ListsAscend, MutexWaitersAreExclusive, StandsOnce}
+use Names.{times_object, turnstile_places, sleep_queue_places, times_marked, times_waiting-without, length-without}
+use Names.{ascends-without}
+use Rattle.std.proofs.Common.{◌≡◌, ◌+◌, ◌<◌, ◌≤◌, ◌∷◌}
 use Rattle.lock_laws.proofs.Kit.{at_locks, sum_below-put}
 use Rattle.lock_laws.proofs.Queues.{stands-with, waiting-with, BothAscend, ascends-with, times_marked-dealt, times_marked-elsewhere, length-after, headless-after}
 use Rattle.lock_laws.proofs.Places.{IsThere, is_sort, on_queue, objects-dealt, taken_places}

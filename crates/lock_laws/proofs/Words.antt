@@ -1,20 +1,11 @@
 -- Laws of lock words, and of the words and holders of one lock.
-use Rattle.std.proofs.Common.{◌≡◌, ◌≢◌, ℕ, ◌+◌, ◌<◌, ◌≤◌, true, false, eqb, refl, sym, ap, inl, inr, arith, ◌∙◌}
-use Rattle.std.proofs.lemmas.Bool.{ne_eqb, cases_eq, not-false}
-use Rattle.lock_model.specs.Counts.{one, sum_below}
-use Rattle.lock_model.specs.Words.{Word, Holder, Free, HeldBy, SharedBy, word_of, bits_of, sharers, is_free, is_owned, shows_waiters, admits, is_plain, gained, claimed, entered, without_one}
-use Rattle.lock_model.specs.Holds.{is_exclusive, Hold, NotHeld, Holds}
-use Rattle.lock_model.specs.Config.{Config}
-use Rattle.lock_state.specs.State.{State, put, put_at}
-use Rattle.lock_state.specs.Facts.{Lawful, WordsMatchHolders}
-use Rattle.lock_state.specs.Facts.Waits.{busy}
-use Rattle.lock_state.specs.Facts.Words.{WordMatchesHolders, owns, shares}
-use Rattle.lock_model.specs.declared.plan.Kind.{Kind}
-use Rattle.lock_model.specs.declared.plan.Kind.TheVariants.{Mtx, Rw, Sx}
-use Rattle.lock_model.specs.declared.plan.Mode.{Mode}
-use Rattle.lock_model.specs.declared.plan.Mode.TheVariants.{Excl, Shared}
-use Rattle.lock_model.specs.declared.plan.Side.{Side}
-use Rattle.lock_model.specs.declared.plan.Side.TheVariants.{X, S}
+use Rattle.lock_laws.proofs.Names
+use Names.{ℕ, true, false, eqb, refl, sym, ap, inl, inr, arith, ne_eqb, cases_eq, not-false, one, sum_below, Word}
+use Names.{Holder, Free, HeldBy, SharedBy, word_of, bits_of, sharers, is_free, is_owned, shows_waiters, admits}
+use Names.{is_plain, gained, claimed, entered, without_one, is_exclusive, Hold, NotHeld, Holds, Config, State, put}
+use Names.{put_at, Lawful, WordsMatchHolders, busy, WordMatchesHolders, owns, shares, Kind, Mtx, Rw, Sx, Mode, Excl}
+use Names.{Shared, Side, X, S}
+use Rattle.std.proofs.Common.{◌≡◌, ◌≢◌, ◌+◌, ◌<◌, ◌≤◌, ◌∙◌}
 use Rattle.lock_laws.proofs.Kit.{put_same, put_other, put_at_same, put_at_other, put_at_beside, sum_below-put_at, sum_below-put_beside, sum_below-at}
 
 -- 1. Words

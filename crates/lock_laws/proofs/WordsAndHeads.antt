@@ -1,19 +1,11 @@
 -- What a lawful state's word of a lock can be, and what its waiters say of its head.
-use Rattle.std.proofs.Common.{◌≡◌, ◌≢◌, ℕ, zero, suc, ◌+◌, ◌<◌, ◌≤◌, true, false, not, ◌||◌, List, [], ◌∷◌, length, Option, Some, None, refl, sym, ap, arith, eq-eqb, ◌∙◌}
-use Rattle.std.proofs.lemmas.Option.{same_Some}
-use Rattle.lock_model.specs.Counts.{some, is_empty}
-use Rattle.lock_model.specs.Words.{Holder, Free, HeldBy, SharedBy, IsPossible, sharers, is_turnstile, owner_of, shows_waiters}
-use Rattle.lock_model.specs.Config.{Config}
-use Rattle.lock_state.specs.State.{State, Loan}
-use Rattle.lock_model.specs.Queues.{Waiter, lock_queue, waiting}
-use Rattle.lock_model.specs.Holds.{Hold, Holds}
-use Rattle.lock_state.specs.Facts.{Lawful, HeadsFitWaiters, BitsShowWaiters, MutexWaitersAreExclusive, WordsMatchHolders, OnlyThreadsHold, OwnersHold, LoansAreOnHeads}
-use Rattle.lock_state.specs.Facts.Words.{owns, shares}
-use Rattle.lock_state.specs.Facts.Loans.{owner_if}
-use Rattle.lock_state.specs.Steps.Turnstiles.{home_after}
-use Rattle.lock_model.specs.declared.plan.Kind.TheVariants.{Mtx}
-use Rattle.lock_model.specs.declared.plan.Mode.TheVariants.{Excl}
-use Rattle.lock_model.specs.declared.plan.QueueName.{QueueName}
+use Rattle.lock_laws.proofs.Names
+use Names.{ℕ, zero, suc, true, false, not, List, [], length, Option, Some, None, refl, sym, ap, arith, eq-eqb}
+use Names.{same_Some, some, is_empty, Holder, Free, HeldBy, SharedBy, IsPossible, sharers, is_turnstile, owner_of}
+use Names.{shows_waiters, Config, State, Loan, Waiter, lock_queue, waiting, Hold, Holds, Lawful, HeadsFitWaiters}
+use Names.{BitsShowWaiters, MutexWaitersAreExclusive, WordsMatchHolders, OnlyThreadsHold, OwnersHold, LoansAreOnHeads}
+use Names.{owns, shares, owner_if, home_after, Mtx, Excl, QueueName}
+use Rattle.std.proofs.Common.{◌≡◌, ◌≢◌, ◌+◌, ◌<◌, ◌≤◌, ◌||◌, ◌∷◌, ◌∙◌}
 use Rattle.lock_laws.proofs.HeadsAndNodes.{heads_apart, head_lock, loan_out, owned_home}
 use Rattle.lock_laws.proofs.Kit.{put_other}
 use Rattle.lock_laws.proofs.Shown.{exclusive_is}

@@ -1,24 +1,15 @@
 -- One sleeper is taken off a sleep queue: the chain shows the columns behind it, and the sleeper its mark.
-use Rattle.std.proofs.Common.{◌≡◌, ℕ, ◌+◌, ◌<◌, ◌≤◌, false, cond, eqb, eq-eqb, List, [], ◌∷◌, length, map, Option, Some, None, IsSome, refl, sym, ap, subst, arith, inl, inr, length-append, ◌∙◌}
-use Rattle.std.proofs.lemmas.Bool.{cases_eq, ne_eqb}
-use Rattle.std.specs.List.{All}
-use Rattle.lock_model.specs.Config.{Config}
-use Rattle.lock_model.specs.Counts.{one}
-use Rattle.lock_model.specs.Queues.{Waiter, Lists, is_turnstile_queue, BySignal, ByAbort, list_of, with_list, times_waiting, stands, waiting, without as without_waiter, entry_of, one_or_none, free_after, head_after, dealt}
-use Rattle.lock_model.specs.declared.plan.QueueName.{QueueName}
-use Rattle.lock_model.specs.declared.plan.Side.{Side}
-use Rattle.lock_model.specs.declared.plan.Side.TheVariants.{X, S}
-use Rattle.lock_model.proofs.Lists.{length-entry}
-use Rattle.lock_state.specs.State.{State}
-use Rattle.lock_state.specs.Steps.SleepQueues.{by_abort}
-use Rattle.sleep_queues.specs.Seen.{SleepQueue, Contents, Place}
-use Rattle.sleep_queues.specs.Changes.{lists_of, entries_of, without_thread}
-use Rattle.wait_objects.proofs.Best.{without_absent}
-use Rattle.wait_objects.proofs.Entries.{entries_on}
-use Rattle.chain_table.specs.Chains.{head_of, without}
-use Rattle.lock_objects.specs.Aborts.{IsSleeper, aborted_from, chain_aborted, aborted}
-use Rattle.lock_objects.specs.Represents.{SleepColumns, RepresentsSleepQueue, RepresentsSleepers, sleepers_in, sleepers_of, mark_by, mark_of}
-use Rattle.lock_objects.specs.Sleeps.{ChangesSleepers}
+use Rattle.lock_objects.proofs.Names
+use Names.{ℕ, false, cond, eqb, eq-eqb, List, [], length, map, Option, Some, None, IsSome, refl, sym, ap, subst, arith}
+use Names.{inl, inr, length-append, cases_eq, ne_eqb, All, Config, one, Waiter, Lists, is_turnstile_queue, BySignal}
+use Names.{ByAbort, list_of, with_list, times_waiting, stands, waiting, without_waiter, entry_of, one_or_none}
+use Names.{free_after, head_after, dealt, QueueName, Side, X, S, length-entry, State, by_abort, SleepQueue, Place}
+use Names.{entries_of, without_thread, without_absent, entries_on, head_of, without, IsSleeper, aborted_from}
+use Names.{chain_aborted, aborted, SleepColumns, RepresentsSleepQueue, RepresentsSleepers, sleepers_in, sleepers_of}
+use Names.{mark_by, mark_of, ChangesSleepers}
+use Rattle.std.proofs.Common.{◌≡◌, ◌+◌, ◌<◌, ◌≤◌, ◌∷◌, ◌∙◌}
+use Rattle.sleep_queues.specs.Seen.{Contents}
+use Rattle.sleep_queues.specs.Changes.{lists_of}
 use Rattle.lock_objects.proofs.SleepChains.{ShowsSleepers, chain_left, fits_there}
 use Rattle.lock_objects.proofs.TakenOff as object
 

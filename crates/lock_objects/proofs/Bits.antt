@@ -1,8 +1,8 @@
 -- The threads of those that were taken off, node by node, as a set of bits.
-use Rattle.std.proofs.Common.{ℕ, ◌+◌, ◌^◌, ◌<◌, List, [], ◌∷◌, map, Option, None, Some, Bor, arith, inl, inr}
-use Rattle.std.proofs.lemmas.Bool.{cases_lt}
-use Rattle.std.proofs.Math.Pow.{pow_mono}
-use Rattle.wait_objects.specs.Seen.{Place, Node}
+use Rattle.lock_objects.proofs.Names.{ℕ, List, [], map, Option, None, Some, Bor, arith, inl, inr, cases_lt, pow_mono}
+use Rattle.lock_objects.proofs.Names.{Node}
+use Rattle.std.proofs.Common.{◌+◌, ◌^◌, ◌<◌, ◌∷◌}
+use Rattle.wait_objects.specs.Seen.{Place}
 
 -- those from a node on
 abbrev pub places_at : Option (Bor Node) → List Place

@@ -1,10 +1,7 @@
 -- What a chain's look-ups find, where names of queues are the same or differ.
-use Rattle.std.proofs.Common.{◌≡◌, ◌≢◌, ◌⊎◌, Bool, true, false, List, [], ◌∷◌, Option, None, Some, cond, refl, ap, sym, subst, inl, inr, ◌∙◌}
-use Rattle.std.proofs.lemmas.Bool.{false_from_ne_true}
-use Rattle.lock_model.specs.declared.plan.QueueName.{QueueName}
-use Rattle.lock_model.specs.Queues.{is_queue}
-use Rattle.chain_table.specs.Chains.{head_of, without}
-use Rattle.chain_table.proofs.Names.{Decides-is_queue}
+use Rattle.lock_objects.proofs.Names.{Bool, true, false, List, [], Option, None, Some, cond, refl, ap, sym, subst, inl}
+use Rattle.lock_objects.proofs.Names.{inr, false_from_ne_true, QueueName, is_queue, head_of, without, Decides-is_queue}
+use Rattle.std.proofs.Common.{◌≡◌, ◌≢◌, ◌⊎◌, ◌∷◌, ◌∙◌}
 
 -- 1. Names
 

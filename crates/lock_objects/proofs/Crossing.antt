@@ -1,6 +1,6 @@
 -- Those who are to be woken may cross threads.
 use denote.Param.Send.{IsSend, sendable}
-use Rattle.std.proofs.Crossing.{crosses}
+use Rattle.lock_objects.proofs.Names.{crosses}
 use Rattle.wait_objects.proofs.free_list.FreeList.TheLaws.TheKnot as objects
 use Rattle.wait_objects.proofs.loan.Loan.TheLaws.TheKnot as loans
 use Rattle.wait_objects.proofs.sleeping.Sleeping.TheSendSync as sleeping

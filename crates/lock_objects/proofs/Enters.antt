@@ -1,26 +1,13 @@
 -- A thread stands on a turnstile: its record, the lock's turnstile and the chain show the columns behind an enter.
-use Rattle.std.proofs.Common.{◌≡◌, ◌≢◌, ℕ, ◌<◌, ltb, true, List, [], Option, Some, None, refl, sym, ap, subst, ◌∙◌}
-use Rattle.lock_model.specs.Words.{Holder, owner_of}
-use Rattle.lock_model.specs.Config.{Config}
-use Rattle.lock_state.specs.State.{State}
-use Rattle.lock_model.specs.Queues.{Waiter, lock_queue, stands, side_of, list_of, with_list, insert, head_with, free_with}
-use Rattle.lock_state.specs.Facts.{Lawful}
-use Rattle.lock_model.specs.Words.{is_turnstile}
-use Rattle.lock_state.specs.Steps.Turnstiles.{after_enter, owner_with}
-use Rattle.lock_model.specs.declared.plan.Mode.{Mode}
-use Rattle.lock_model.specs.declared.plan.Side.{Side}
-use Rattle.lock_model.specs.declared.plan.Side.TheVariants.{X, S}
-use Rattle.lock_model.specs.declared.plan.QueueName.{QueueName}
-use Rattle.lock_laws.proofs.Kit.{put_same, put_lock_same, put_lock_other}
-use Rattle.lock_laws.proofs.Standing.{home_nowhere}
-use Rattle.lock_laws.proofs.HeadsAndNodes.{node_home}
-use Rattle.lock_laws.proofs.WordsAndHeads.{headless_bare}
-use Rattle.turnstile_core.specs.Seen.{Contents, Turnstile, idle_contents}
-use Rattle.turnstile_core.specs.Changes.{lists_of, with_owner, begun, joined, name_of}
-use Rattle.thread_records.specs.Records.{Record}
-use Rattle.chain_table.specs.Chains.{head_of}
-use Rattle.lock_objects.specs.Represents.{QueueColumns, RepresentsHead, RepresentsQueue, RepresentsQueues, RepresentsRecord, queue_in, record_in, queue_of}
-use Rattle.lock_objects.specs.Enters.{CanStand, CanLend, waiter_of, record_entered, head_entered, chain_entered}
+use Rattle.lock_objects.proofs.Names
+use Names.{ℕ, ltb, true, List, [], Option, Some, None, refl, sym, ap, subst, Holder, owner_of, Config, State, Waiter}
+use Names.{lock_queue, stands, side_of, list_of, with_list, insert, head_with, free_with, Lawful, is_turnstile}
+use Names.{after_enter, owner_with, Mode, Side, X, S, QueueName, put_same, put_lock_same, put_lock_other, home_nowhere}
+use Names.{node_home, headless_bare, Contents, Turnstile, idle_contents, with_owner, begun, joined, name_of, Record}
+use Names.{head_of, QueueColumns, RepresentsHead, RepresentsQueue, RepresentsQueues, RepresentsRecord, queue_in}
+use Names.{record_in, queue_of, CanStand, CanLend, waiter_of, record_entered, head_entered, chain_entered}
+use Rattle.std.proofs.Common.{◌≡◌, ◌≢◌, ◌<◌, ◌∙◌}
+use Rattle.turnstile_core.specs.Changes.{lists_of}
 use Rattle.lock_objects.proofs.Queues.{SameQueue, queues_placed}
 use Rattle.lock_objects.proofs.StepsOfSleepers.{somebody_stands}
 

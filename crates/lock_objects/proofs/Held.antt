@@ -1,15 +1,11 @@
 -- The list of the locks that a thread holds, with one lock more or without one: each lock once, and what the column
 -- of a state says of it.
-use Rattle.std.proofs.Common.{◌≡◌, ◌≢◌, ℕ, ◌+◌, ◌≤◌, true, false, cond, List, [], ◌∷◌, ◌++◌, refl, sym, ap, ◌∙◌, arith, inl, inr, eq-eqb}
+use Rattle.lock_objects.proofs.Names
+use Names.{ℕ, true, false, cond, List, [], refl, sym, ap, arith, inl, inr, eq-eqb, cases_eq, ne_eqb, hold_in}
+use Names.{without_lock, Hold, NotHeld, Holds, Held, put_at, put_at_same, put_at_beside, Apart, hold_in-push}
+use Names.{hold_in-without, holds_of}
+use Rattle.std.proofs.Common.{◌≡◌, ◌≢◌, ◌+◌, ◌≤◌, ◌∷◌, ◌++◌, ◌∙◌}
 use Rattle.std.specs.Prelude.{◌==◌}
-use Rattle.std.proofs.lemmas.Bool.{cases_eq, ne_eqb}
-use Rattle.lock_model.specs.Operations.{hold_in, without_lock}
-use Rattle.lock_model.specs.Holds.{Hold, NotHeld, Holds}
-use Rattle.lock_model.specs.declared.event.Held.{Held}
-use Rattle.lock_state.specs.State.{put_at}
-use Rattle.lock_laws.proofs.Kit.{put_at_same, put_at_beside}
-use Rattle.lock_laws.proofs.HeldLists.{Apart, hold_in-push, hold_in-without}
-use Rattle.lock_objects.specs.Held.{holds_of}
 
 -- 1. Each lock once
 

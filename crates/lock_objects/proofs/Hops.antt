@@ -1,35 +1,19 @@
 -- The hops of a walk, and a claim: record and chain show the columns behind a lend, a claim and a shift.
-use Rattle.std.specs.Prelude.{◌==◌, not, ◌&&◌, IsSomeAnd}
-use Rattle.std.proofs.Common.{◌≡◌, ◌≢◌, ℕ, ltb, Bool, true, false, List, ◌∷◌, Option, Some, None, IfSome, refl, sym, ap, subst, ◌∙◌}
-use Rattle.std.specs.Option.{is_some}
-use Rattle.std.proofs.lemmas.Bool.{lt-ltb}
-use Rattle.lock_model.specs.Config.{Config}
-use Rattle.lock_model.specs.Words.{is_turnstile, is_free}
-use Rattle.lock_model.specs.Queues.{Lists, lock_queue, names_turnstile, stands, with_kept}
-use Rattle.lock_model.specs.declared.plan.QueueName.{QueueName}
-use Rattle.lock_state.specs.State.{State, Loan, put_queue}
-use Rattle.lock_state.specs.Facts.{Lawful, OwnersHold}
-use Rattle.lock_state.specs.Facts.Loans.{owner_if}
-use Rattle.lock_state.specs.Steps.Lending.{MayLend, after_lend, MayClaim, after_claim, MayShift, after_shift}
-use Rattle.lock_state.specs.Steps.Turnstiles.{walk_up}
+use Rattle.lock_objects.proofs.Names
+use Names.{not, IsSomeAnd, ℕ, ltb, Bool, true, false, List, Option, Some, None, IfSome, refl, sym, ap, subst, is_some}
+use Names.{lt-ltb, Config, is_turnstile, is_free, Lists, lock_queue, names_turnstile, stands, with_kept, QueueName}
+use Names.{State, Loan, put_queue, Lawful, OwnersHold, owner_if, MayLend, after_lend, MayClaim, after_claim, MayShift}
+use Names.{after_shift, walk_up, put_same, put_lock_same, put_lock_other, owner_holds, unowned_home, number_of, out_of}
+use Names.{node_carries, standing_head, owner_is, Contents, Turnstile, waits, with_loan_home, moved, Record, with_loans}
+use Names.{IsWellFormed, loan_for, head_of, without, loan_by, with_contents, lent_for, lent_others, lent_one_each, Walk}
+use Names.{RepresentsHead, RepresentsQueues, RepresentsRecord, queue_in, record_in, walk_of, CanBeLent, CanHop}
+use Names.{record_claimed, head_claimed, chain_claimed}
+use Rattle.std.specs.Prelude.{◌==◌, ◌&&◌}
+use Rattle.std.proofs.Common.{◌≡◌, ◌≢◌, ◌∷◌, ◌∙◌}
 use Rattle.lock_state.specs.Steps.Lending as moves
-use Rattle.lock_laws.proofs.Kit.{put_same, put_lock_same, put_lock_other}
-use Rattle.lock_laws.proofs.HeadsAndNodes.{owner_holds, unowned_home}
-use Rattle.lock_laws.proofs.NodesOfHeads.{number_of, out_of, node_carries}
-use Rattle.lock_laws.proofs.HeadsOfWaiters.{standing_head}
-use Rattle.lock_laws.proofs.Words.{owner_is}
 use Rattle.lock_laws.proofs.Derived as laws
-use Rattle.turnstile_core.specs.Seen.{Contents, Turnstile}
-use Rattle.turnstile_core.specs.Changes.{lists_of, waits, with_loan_home, moved}
-use Rattle.thread_records.specs.Records.{Record, with_loans, IsWellFormed}
-use Rattle.thread_records.specs.Loans.{loan_for}
-use Rattle.chain_table.specs.Chains.{head_of, without}
-use Rattle.prio_lending.specs.Hops.{loan_by, with_contents}
+use Rattle.turnstile_core.specs.Changes.{lists_of}
 use Rattle.prio_lending.specs.Hops as hops
-use Rattle.prio_lending.proofs.Carried.{lent_for, lent_others, lent_one_each}
-use Rattle.prio_lending.specs.declared.walk.Walk.{Walk}
-use Rattle.lock_objects.specs.Represents.{RepresentsHead, RepresentsQueues, RepresentsRecord, queue_in, record_in, walk_of}
-use Rattle.lock_objects.specs.Hops.{CanBeLent, CanHop, record_claimed, head_claimed, chain_claimed}
 use Rattle.lock_objects.proofs.Lent as lent
 use Rattle.lock_objects.proofs.Lent.{can_be_lent, node_out, queues_lent, record_lent}
 use Rattle.lock_objects.proofs.Queues.{SameQueue, IsHead, there, queues_placed}

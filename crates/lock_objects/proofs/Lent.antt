@@ -1,27 +1,14 @@
 -- What those who wait for a lock lend to a thread: chain and record show the columns with that loan. A lend makes it
 -- for the owner, and a claim for the thread that becomes the owner.
-use Rattle.std.proofs.Common.{◌≡◌, ◌≢◌, ℕ, ◌+◌, ◌<◌, ◌≤◌, Bool, true, false, cond, List, ◌∷◌, length, length-append, Option, Some, None, IfSome, option_map, inl, inr, refl, sym, ap, subst, ◌∙◌, arith}
-use Rattle.std.proofs.lemmas.Bool.{cases_eq}
-use Rattle.std.proofs.lemmas.Option.{same_Some}
-use Rattle.lock_model.specs.Config.{Config}
-use Rattle.lock_model.specs.Words.{is_turnstile}
-use Rattle.lock_model.specs.Queues.{lock_queue, least_of, waiting}
-use Rattle.lock_model.specs.declared.plan.QueueName.{QueueName}
-use Rattle.lock_state.specs.State.{State, Loan, put, put_at}
-use Rattle.lock_state.specs.Facts.{Lawful}
-use Rattle.lock_state.specs.Steps.LockWords.{effective_of}
+use Rattle.lock_objects.proofs.Names
+use Names.{ℕ, Bool, true, false, cond, List, length, length-append, Option, Some, None, IfSome, option_map, inl, inr}
+use Names.{refl, sym, ap, subst, arith, cases_eq, same_Some, Config, is_turnstile, lock_queue, least_of, waiting}
+use Names.{QueueName, State, Loan, put, put_at, Lawful, effective_of, put_same, put_other, some_waiting, number_of}
+use Names.{out_of, other_head, put_at_row, Contents, Turnstile, Terms, with_owner, with_loan_home, best, Record}
+use Names.{with_loans, loan_for, loans_for, head_of, without, loan_by, with_contents, RepresentsHead, RepresentsQueues}
+use Names.{RepresentsRecord, queue_in, record_in, loan_of, CanBeLent}
+use Rattle.std.proofs.Common.{◌≡◌, ◌≢◌, ◌+◌, ◌<◌, ◌≤◌, ◌∷◌, ◌∙◌}
 use Rattle.lock_state.specs.Steps.Lending as moves
-use Rattle.lock_laws.proofs.Kit.{put_same, put_other}
-use Rattle.lock_laws.proofs.Nodes.{some_waiting}
-use Rattle.lock_laws.proofs.NodesOfHeads.{number_of, out_of, other_head, put_at_row}
-use Rattle.turnstile_core.specs.Seen.{Contents, Turnstile, Terms}
-use Rattle.turnstile_core.specs.Changes.{with_owner, with_loan_home, best}
-use Rattle.thread_records.specs.Records.{Record, with_loans}
-use Rattle.thread_records.specs.Loans.{loan_for, loans_for}
-use Rattle.chain_table.specs.Chains.{head_of, without}
-use Rattle.prio_lending.specs.Hops.{loan_by, with_contents}
-use Rattle.lock_objects.specs.Represents.{RepresentsHead, RepresentsQueues, RepresentsRecord, queue_in, record_in, loan_of}
-use Rattle.lock_objects.specs.Hops.{CanBeLent}
 use Rattle.lock_objects.proofs.Queues.{SameQueue, IsHead, there, queues_placed}
 use Rattle.lock_objects.proofs.Records.{with_other_loans, none_beyond}
 

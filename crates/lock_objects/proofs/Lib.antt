@@ -1,3 +1,4 @@
+pub mod Names
 pub mod Chains
 pub mod Held
 pub mod Lists

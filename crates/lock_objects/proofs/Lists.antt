@@ -1,15 +1,9 @@
 -- The places of waiters that were taken off a queue, and their marks in the columns of the state.
-use Rattle.std.proofs.Common.{◌≡◌, ℕ, suc, List, [], ◌∷◌, length, map, None, Some, IsSome, refl, ap, arith, ◌≤◌}
-use Rattle.std.specs.List.{All}
-use Rattle.std.proofs.Math.Seq.{take-length}
-use Rattle.std.proofs.lemmas.List.Elements.{All-nil, All-cons}
-use Rattle.lock_model.specs.Queues.{Waiter, handed_out, dealt, head_after}
-use Rattle.lock_model.specs.declared.plan.QueueName.{QueueName}
-use Rattle.lock_model.specs.declared.plan.Side.{Side}
-use Rattle.turnstile_core.specs.Seen.{Contents, Place}
-use Rattle.turnstile_core.specs.Lists.{place, with_last}
-use Rattle.turnstile_core.specs.Changes.{waiters, taken}
-use Rattle.lock_objects.specs.Represents.{mark_of}
+use Rattle.lock_objects.proofs.Names
+use Names.{ℕ, suc, List, [], length, map, None, Some, IsSome, refl, ap, arith, All, take-length, All-nil, All-cons}
+use Names.{Waiter, handed_out, dealt, head_after, QueueName, Side, Contents, place, with_last, waiters, taken, mark_of}
+use Rattle.std.proofs.Common.{◌≡◌, ◌∷◌, ◌≤◌}
+use Rattle.turnstile_core.specs.Seen.{Place}
 
 -- a place has an object
 abbrev pub HasObject : Place → Type 0

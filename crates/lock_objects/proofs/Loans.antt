@@ -1,14 +1,9 @@
 -- What a thread's list of loans says by lock.
-use Rattle.std.proofs.Common.{◌≡◌, ◌≢◌, ℕ, ◌≤◌, eqb, cond, List, [], ◌∷◌, Option, None, Some, option_map, inl, inr, refl, sym, ap, ◌∙◌, arith, eq-eqb}
-use Rattle.std.specs.Option.{is_some}
-use Rattle.std.proofs.lemmas.Bool.{ne_eqb, cases_eq, cases_lt}
-use Rattle.lock_model.specs.Counts.{least}
-use Rattle.lock_laws.proofs.Best.{least-le, least-above}
-use Rattle.lock_laws.proofs.Lending.{least-le_base}
-use Rattle.turnstile_core.specs.Seen.{Terms}
-use Rattle.lock_model.specs.Counts.{least_with}
-use Rattle.thread_records.specs.Loans.{prios, has_loan, loan_for, without_loan, loans_for}
-use Rattle.thread_records.proofs.ByLock.{has_is_some, loan_dropped, others_dropped}
+use Rattle.lock_objects.proofs.Names
+use Names.{ℕ, eqb, cond, List, [], Option, None, Some, option_map, inl, inr, refl, sym, ap, arith, eq-eqb, is_some}
+use Names.{ne_eqb, cases_eq, cases_lt, least, least-le, least-above, least-le_base, Terms, least_with, prios, has_loan}
+use Names.{loan_for, without_loan, loans_for, has_is_some, loan_dropped, others_dropped}
+use Rattle.std.proofs.Common.{◌≡◌, ◌≢◌, ◌≤◌, ◌∷◌, ◌∙◌}
 
 -- 1. A loan that is dropped
 

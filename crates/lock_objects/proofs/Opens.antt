@@ -1,38 +1,20 @@
 -- A release takes the waiters of one side off a turnstile: record, chain and woken show the columns behind an open.
-use Rattle.std.proofs.Common.{◌≡◌, ◌≢◌, ℕ, ◌+◌, ◌≤◌, Bool, true, false, ◌||◌, cond, List, [], ◌∷◌, length, map, Option, Some, None, option_map, is_some, IsSome, refl, sym, ap, subst, arith, inl, inr, drop, ◌∙◌}
-use Rattle.std.specs.Prelude.{IsSomeAnd}
+use Rattle.lock_objects.proofs.Names
+use Names.{ℕ, Bool, true, false, cond, List, [], length, map, Option, Some, None, option_map, IsSome, refl, sym, ap}
+use Names.{subst, arith, inl, inr, drop, IsSomeAnd, All, cases_eq, drop_all, Config, is_empty, some, is_turnstile}
+use Names.{side_woken, Waiter, Lists, lock_queue, list_of, with_list, waiting, dealt, free_after, head_after, Mode}
+use Names.{Side, X, S, QueueName, State, Loan, put, Lawful, HeadsFitWaiters, BitsShowWaiters, MutexWaitersAreExclusive}
+use Names.{effective_of, MayOpen, after_open, home_after, put_same, put_other, put_lock_same, put_lock_other, loan_lock}
+use Names.{owner_holds, owned_home, unowned_home, side_shown, put_at_row, lent_out, home_elsewhere, headless_bare}
+use Names.{Contents, Turnstile, Terms, home, with_last, waiters, with_waiters, left_by, taken, name_of, Record}
+use Names.{carrier_for, node_out, with_contents, loan_for, without_loan, one_each_without, head_of, without}
+use Names.{sleepers_of, QueueColumns, RepresentsHead, RepresentsQueue, RepresentsQueues, RepresentsRecord, queue_in}
+use Names.{record_in, queue_of, loan_of, mark_of, CanOpen, CanRelease, record_opened, settled, woken_of, chain_opened}
+use Rattle.std.proofs.Common.{◌≡◌, ◌≢◌, ◌+◌, ◌≤◌, ◌||◌, ◌∷◌, ◌∙◌, is_some}
 use Rattle.std.specs.Option.{IfSome}
-use Rattle.std.specs.List.{All}
-use Rattle.std.proofs.lemmas.Bool.{cases_eq}
-use Rattle.std.proofs.lemmas.List.{drop_all}
-use Rattle.lock_model.specs.Config.{Config}
-use Rattle.lock_model.specs.Counts.{is_empty, some}
-use Rattle.lock_model.specs.Words.{is_turnstile, side_woken}
-use Rattle.lock_model.specs.Queues.{Waiter, Lists, lock_queue, list_of, with_list, waiting, dealt, free_after, head_after}
-use Rattle.lock_model.specs.declared.plan.Mode.{Mode}
-use Rattle.lock_model.specs.declared.plan.Side.{Side}
-use Rattle.lock_model.specs.declared.plan.Side.TheVariants.{X, S}
-use Rattle.lock_model.specs.declared.plan.QueueName.{QueueName}
-use Rattle.lock_state.specs.State.{State, Loan, put}
-use Rattle.lock_state.specs.Facts.{Lawful, HeadsFitWaiters, BitsShowWaiters, MutexWaitersAreExclusive}
-use Rattle.lock_state.specs.Steps.LockWords.{effective_of}
-use Rattle.lock_state.specs.Steps.Turnstiles.{MayOpen, after_open, home_after}
-use Rattle.lock_laws.proofs.Kit.{put_same, put_other, put_lock_same, put_lock_other}
-use Rattle.lock_laws.proofs.HeadsAndNodes.{loan_lock, owner_holds, owned_home, unowned_home}
 use Rattle.lock_laws.proofs.Derived as laws
-use Rattle.lock_laws.proofs.Open.{side_shown}
-use Rattle.lock_laws.proofs.NodesOfHeads.{put_at_row}
-use Rattle.lock_laws.proofs.WordsAndHeads.{lent_out, home_elsewhere, headless_bare}
-use Rattle.turnstile_core.specs.Seen.{Contents, Turnstile, Terms, Place, home}
-use Rattle.turnstile_core.specs.Lists.{with_last}
-use Rattle.turnstile_core.specs.Changes.{waiters, all_waiters, with_waiters, left_by, taken, name_of}
-use Rattle.thread_records.specs.Records.{Record}
-use Rattle.prio_lending.specs.Hops.{carrier_for, node_out, with_contents}
-use Rattle.thread_records.specs.Loans.{loan_for, without_loan}
-use Rattle.thread_records.proofs.OneEach.{one_each_without}
-use Rattle.chain_table.specs.Chains.{head_of, without}
-use Rattle.lock_objects.specs.Represents.{sleepers_of, QueueColumns, RepresentsHead, RepresentsQueue, RepresentsQueues, RepresentsRecord, queue_in, record_in, queue_of, loan_of, mark_of}
-use Rattle.lock_objects.specs.Opens.{CanOpen, CanRelease, record_opened, settled, woken_of, chain_opened}
+use Rattle.turnstile_core.specs.Seen.{Place}
+use Rattle.turnstile_core.specs.Changes.{all_waiters}
 use Rattle.lock_objects.proofs.Lists.{taken-whole}
 use Rattle.lock_objects.proofs.Taken as object
 use Rattle.lock_objects.proofs.Loans.{loan_for-dropped, loan_for-others}

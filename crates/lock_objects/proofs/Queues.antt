@@ -1,13 +1,9 @@
 -- How a chain shows the columns of queues when the turnstile at one lock changes.
-use Rattle.std.proofs.Common.{◌≡◌, ◌≢◌, ℕ, Bool, true, List, ◌∷◌, Option, Some, None, refl, ap, subst, ◌∙◌}
-use Rattle.lock_model.specs.Config.{Config}
-use Rattle.lock_model.specs.Words.{is_turnstile}
-use Rattle.lock_model.specs.Queues.{lock_queue, is_turnstile_queue}
-use Rattle.lock_model.specs.declared.plan.QueueName.{QueueName}
-use Rattle.lock_model.specs.declared.plan.QueueName.TheVariants.{Lock, Chan}
-use Rattle.turnstile_core.specs.Seen.{Turnstile}
-use Rattle.chain_table.specs.Chains.{head_of, without}
-use Rattle.lock_objects.specs.Represents.{QueueColumns, RepresentsHead, RepresentsQueue, RepresentsQueues}
+use Rattle.lock_objects.proofs.Names
+use Names.{ℕ, Bool, true, List, Option, Some, None, refl, ap, subst, Config, is_turnstile, lock_queue}
+use Names.{is_turnstile_queue, QueueName, Lock, Chan, Turnstile, head_of, without, QueueColumns, RepresentsHead}
+use Names.{RepresentsQueue, RepresentsQueues}
+use Rattle.std.proofs.Common.{◌≡◌, ◌≢◌, ◌∷◌, ◌∙◌}
 use Rattle.lock_objects.proofs.Chains.{all_placed, all_gone}
 
 -- the columns of a queue stay, and that of its head's loan node

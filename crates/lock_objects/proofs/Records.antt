@@ -1,15 +1,9 @@
 -- What a record shows of its columns behind a change of its loans.
-use Rattle.std.proofs.Common.{◌≡◌, ℕ, ◌≤◌, List, Option, Some, None, option_map, refl, ap, arith, ◌∙◌}
-use Rattle.lock_model.specs.Config.{Config}
-use Rattle.lock_state.specs.State.{State, Loan}
-use Rattle.lock_state.specs.Facts.{Lawful}
-use Rattle.lock_state.specs.Steps.LockWords.{prio_of, effective_of}
-use Rattle.lock_laws.proofs.HeadsAndNodes.{loan_lock}
-use Rattle.turnstile_core.specs.Seen.{Terms}
-use Rattle.lock_model.specs.Counts.{least_with}
-use Rattle.thread_records.specs.Records.{Record, with_base, with_loans}
-use Rattle.thread_records.specs.Loans.{prios, loan_for, loans_for}
-use Rattle.lock_objects.specs.Represents.{RecordColumns, RepresentsRecord, loan_of}
+use Rattle.lock_objects.proofs.Names
+use Names.{ℕ, List, Option, Some, None, option_map, refl, ap, arith, Config, State, Loan, Lawful, prio_of, effective_of}
+use Names.{loan_lock, Terms, least_with, Record, with_base, with_loans, prios, loan_for, loans_for, RecordColumns}
+use Names.{RepresentsRecord, loan_of}
+use Rattle.std.proofs.Common.{◌≡◌, ◌≤◌, ◌∙◌}
 use Rattle.lock_objects.proofs.Loans.{least_with-by_lock}
 
 -- nothing is lent to a thread for numbers that no lock has

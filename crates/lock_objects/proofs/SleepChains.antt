@@ -1,21 +1,16 @@
 -- A chain of sleep queues, of some queues: what it shows of their columns where those of one change. It is said of any
 -- queues, so that it serves where one chain has all sleep queues, and where each of several has its own.
-use Rattle.std.proofs.Common.{◌≡◌, ◌≢◌, ℕ, ◌+◌, Bool, true, false, cond, List, [], ◌∷◌, length, map, Option, Some, None, IsSome, refl, sym, ap, subst, arith, ◌∙◌}
-use Rattle.std.specs.List.{All}
-use Rattle.std.proofs.lemmas.List.Elements.{All-nil}
-use Rattle.lock_model.specs.Counts.{is_empty, some}
-use Rattle.lock_model.specs.Queues.{Waiter, Lists, list_of, with_list, taken_off, left_on, head_after, waiting, dealt}
-use Rattle.lock_model.specs.declared.plan.Side.{Side}
-use Rattle.lock_model.specs.declared.plan.Side.TheVariants.{X, S}
-use Rattle.lock_model.specs.declared.plan.QueueName.{QueueName}
-use Rattle.lock_state.specs.State.{put_queue}
-use Rattle.lock_laws.proofs.Kit.{put_queue_same, put_queue_other}
-use Rattle.sleep_queues.specs.Seen.{SleepQueue, Contents, Place}
+use Rattle.lock_objects.proofs.Names
+use Names.{ℕ, Bool, true, false, cond, List, [], length, map, Option, Some, None, IsSome, refl, sym, ap, subst, arith}
+use Names.{All, All-nil, is_empty, some, Waiter, Lists, list_of, with_list, taken_off, left_on, head_after, waiting}
+use Names.{dealt, Side, X, S, QueueName, put_queue, put_queue_same, put_queue_other, SleepQueue, Place, head_of}
+use Names.{without, SleepColumns, RepresentsSleepQueue, sleepers_of, mark_of, IsBalanced, head_asleep, chain_asleep}
+use Names.{slept, chain_woken, woken}
+use Rattle.std.proofs.Common.{◌≡◌, ◌≢◌, ◌+◌, ◌∷◌, ◌∙◌}
+use Rattle.sleep_queues.specs.Seen.{Contents}
 use Rattle.sleep_queues.specs.Changes.{lists_of, waiters, all_waiters}
-use Rattle.chain_table.specs.Chains.{head_of, without}
 use Rattle.chain_table.proofs.Lookups.{without_absent}
-use Rattle.lock_objects.specs.Represents.{SleepColumns, RepresentsSleepQueue, sleepers_of, mark_of}
-use Rattle.lock_objects.specs.Sleeps.{IsBalanced, head_asleep, chain_asleep, slept, woken_of, chain_woken, woken}
+use Rattle.lock_objects.specs.Sleeps.{woken_of}
 use Rattle.lock_objects.proofs.Chains.{is_queue-other, all_placed, all_gone}
 use Rattle.lock_objects.proofs.TakenOff as object
 

@@ -1,16 +1,12 @@
 -- A thread stands on a sleep queue, and sleepers are taken off one: the chain shows the columns behind both, and
 -- those taken their marks.
-use Rattle.std.proofs.Common.{◌≡◌, ◌≢◌, ℕ, Bool, false, List, ◌∷◌, map, Option, None, IsSome, refl, sym, subst}
-use Rattle.std.specs.List.{All}
-use Rattle.lock_model.specs.Config.{Config}
-use Rattle.lock_model.specs.Queues.{Waiter, is_turnstile_queue, list_of, taken_off, dealt}
-use Rattle.lock_model.specs.declared.plan.Side.{Side}
-use Rattle.lock_model.specs.declared.plan.QueueName.{QueueName}
-use Rattle.lock_state.specs.State.{State}
-use Rattle.sleep_queues.specs.Seen.{SleepQueue, Place}
-use Rattle.chain_table.specs.Chains.{head_of, without}
-use Rattle.lock_objects.specs.Represents.{RepresentsSleepQueue, RepresentsSleepers, sleepers_in, mark_of}
-use Rattle.lock_objects.specs.Sleeps.{IsBalanced, ChangesSleepers, chain_asleep, slept, woken_of, chain_woken, woken}
+use Rattle.lock_objects.proofs.Names
+use Names.{ℕ, Bool, false, List, map, Option, None, IsSome, refl, sym, subst, All, Config, Waiter, is_turnstile_queue}
+use Names.{list_of, taken_off, dealt, Side, QueueName, State, SleepQueue, Place, head_of, without, RepresentsSleepQueue}
+use Names.{RepresentsSleepers, sleepers_in, mark_of, IsBalanced, ChangesSleepers, chain_asleep, slept, chain_woken}
+use Names.{woken}
+use Rattle.std.proofs.Common.{◌≡◌, ◌≢◌, ◌∷◌}
+use Rattle.lock_objects.specs.Sleeps.{woken_of}
 use Rattle.lock_objects.proofs.SleepChains as one
 
 -- every sleep queue stands in the one chain

@@ -1,34 +1,17 @@
 -- What a lawful state says of sleep queues, and what the steps of sleepers make of their columns.
-use Rattle.std.proofs.Common.{◌≡◌, ◌≢◌, ℕ, Bool, true, false, not, cond, ltb, List, [], ◌∷◌, map, length, Option, Some, None, refl, sym, ap, subst, arith, length-append, ◌∙◌}
+use Rattle.lock_objects.proofs.Names
+use Names.{ℕ, Bool, true, false, cond, ltb, List, [], map, length, Option, Some, None, refl, sym, ap, subst, arith}
+use Names.{length-append, Config, some, Lists, lock_queue, chan_queue, with_kept, side_of, list_of, with_list, insert}
+use Names.{head_with, free_with, dealt, taken_off, is_queue, is_turnstile_queue, stands, waiting, side_woken, Mode}
+use Names.{Side, X, QueueName, State, put_queue, Lawful, HeadsFitWaiters, after_enter, after_open, after_shift, sleeper}
+use Names.{after_enter_sleep, after_open_sleep, after_add, after_wake, after_abort, is_queue_true, put_queue_same}
+use Names.{put_queue_other, at_put_queue, standing_named, asleep_out, zero_unless, threads-dealt, objects_enough}
+use Names.{Turnstile, SleepQueue, Place, lists_of, all_waiters, Record, head_of, SleepColumns, RepresentsQueues}
+use Names.{RepresentsSleepQueue, RepresentsSleepers, RepresentsRecord, queue_in, sleepers_in, record_in, mark_of}
+use Names.{CanStand, aborted, IsBalanced, ChangesSleepers, sleeper_of, slept, woken}
+use Rattle.std.proofs.Common.{◌≡◌, ◌≢◌, ◌∷◌, ◌∙◌, not}
 use Rattle.std.specs.Option.{IfSome}
-use Rattle.lock_model.specs.Config.{Config}
-use Rattle.lock_model.specs.Counts.{some}
-use Rattle.lock_model.specs.Queues.{Lists, lock_queue, chan_queue, with_kept, side_of, list_of, with_list, insert, head_with, free_with, dealt, taken_off, is_queue, is_turnstile_queue, stands, waiting}
-use Rattle.lock_model.specs.Words.{side_woken}
-use Rattle.lock_model.specs.declared.plan.Mode.{Mode}
-use Rattle.lock_model.specs.declared.plan.Side.{Side}
-use Rattle.lock_model.specs.declared.plan.Side.TheVariants.{X}
-use Rattle.lock_model.specs.declared.plan.QueueName.{QueueName}
-use Rattle.lock_state.specs.State.{State, put_queue}
-use Rattle.lock_state.specs.Facts.{Lawful, HeadsFitWaiters}
-use Rattle.lock_state.specs.Steps.Turnstiles.{after_enter, after_open}
-use Rattle.lock_state.specs.Steps.Lending.{after_shift}
-use Rattle.lock_state.specs.Steps.SleepQueues.{sleeper, after_enter_sleep, after_open_sleep, after_add, after_wake, after_abort}
-use Rattle.lock_laws.proofs.Kit.{is_queue_true, put_queue_same, put_queue_other, at_put_queue}
-use Rattle.lock_laws.proofs.Standing.{standing_named, asleep_out}
-use Rattle.lock_laws.proofs.Sums.{zero_unless}
-use Rattle.lock_laws.proofs.Dealt.{threads-dealt}
-use Rattle.lock_laws.proofs.Taken.{objects_enough}
-use Rattle.turnstile_core.specs.Seen.{Turnstile}
-use Rattle.sleep_queues.specs.Seen.{SleepQueue, Place}
 use Rattle.wait_objects.specs.Seen.{Contents}
-use Rattle.wait_objects.specs.Changes.{lists_of, all_waiters}
-use Rattle.thread_records.specs.Records.{Record}
-use Rattle.chain_table.specs.Chains.{head_of}
-use Rattle.lock_objects.specs.Represents.{SleepColumns, RepresentsQueues, RepresentsSleepQueue, RepresentsSleepers, RepresentsRecord, queue_in, sleepers_in, record_in, mark_of}
-use Rattle.lock_objects.specs.Enters.{CanStand}
-use Rattle.lock_objects.specs.Aborts.{aborted}
-use Rattle.lock_objects.specs.Sleeps.{IsBalanced, ChangesSleepers, sleeper_of, slept, woken}
 use Rattle.lock_objects.proofs.Queues.{queue_stays}
 
 -- 1. A lawful state

@@ -1,16 +1,12 @@
 -- Waiters of a side are taken off a turnstile or a sleep queue, the best or all: what the rest shows of its queue,
 -- and those taken of their marks.
-use Rattle.std.proofs.Common.{◌≡◌, ◌≢◌, ◌+◌, Bool, true, false, List, [], length, map, Some, None, IsSome, sym, ap, arith, length-append, ◌∙◌}
-use Rattle.std.specs.List.{All}
-use Rattle.lock_model.specs.Counts.{is_empty}
-use Rattle.lock_model.specs.Queues.{Waiter, Lists, with_list, waiting, taken_off, left_on, dealt}
-use Rattle.lock_model.specs.declared.plan.Side.{Side}
-use Rattle.lock_model.specs.declared.plan.QueueName.{QueueName}
-use Rattle.wait_objects.specs.Seen.{Contents, Object, Place}
-use Rattle.wait_objects.specs.Changes.{waiters, all_waiters, lists_of, IsWellFormed, IsLeft}
-use Rattle.wait_objects.specs.declared.own.Own.{Ghosts}
-use Rattle.lock_objects.specs.Represents.{sleepers_of, mark_of}
-use Rattle.lock_objects.specs.Sleeps.{woken as woken_columns}
+use Rattle.lock_objects.proofs.Names
+use Names.{Bool, true, false, List, [], length, map, Some, None, IsSome, sym, ap, arith, length-append, All, is_empty}
+use Names.{Waiter, Lists, with_list, waiting, taken_off, left_on, dealt, Side, QueueName, Object, all_waiters, lists_of}
+use Names.{IsLeft, Ghosts, sleepers_of, mark_of, woken_columns}
+use Rattle.std.proofs.Common.{◌≡◌, ◌≢◌, ◌+◌, ◌∙◌}
+use Rattle.wait_objects.specs.Seen.{Contents, Place}
+use Rattle.wait_objects.specs.Changes.{waiters, IsWellFormed}
 use Rattle.lock_objects.proofs.TakenOff as object
 
 module _ {E : Type 0} (all : Bool) (side : Side) (d : Contents E) where

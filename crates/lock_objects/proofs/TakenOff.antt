@@ -1,17 +1,12 @@
 -- Waiters are taken off an object, whoever they are: what the rest shows of its queue, and those taken of their marks.
 -- It is said of any waiters and any lists that are left, which together are those that there were.
-use Rattle.std.proofs.Common.{◌≡◌, suc, ◌+◌, ◌≤◌, Bool, true, false, cond, List, [], ◌∷◌, length, map, Some, None, IsSome, refl, arith, length-append}
-use Rattle.std.specs.List.{All}
-use Rattle.lock_model.specs.Counts.{is_empty}
-use Rattle.lock_model.specs.Queues.{Waiter, Lists, waiting, list_of, with_list, taken_off, left_on, free_after, head_after, dealt}
-use Rattle.lock_model.specs.declared.plan.QueueName.{QueueName}
-use Rattle.lock_model.specs.declared.plan.Side.{Side}
-use Rattle.lock_model.specs.declared.plan.Side.TheVariants.{X, S}
-use Rattle.lock_model.proofs.Lists.{length-taken}
+use Rattle.lock_objects.proofs.Names
+use Names.{suc, Bool, true, false, cond, List, [], length, map, Some, None, IsSome, refl, arith, length-append, All}
+use Names.{is_empty, Waiter, Lists, waiting, list_of, with_list, taken_off, left_on, free_after, head_after, dealt}
+use Names.{QueueName, Side, X, S, length-taken, all_waiters, lists_of, with_lists, SleepColumns, sleepers_of, mark_of}
+use Rattle.std.proofs.Common.{◌≡◌, ◌+◌, ◌≤◌, ◌∷◌}
 use Rattle.wait_objects.specs.Seen.{Contents, Place}
 use Rattle.wait_objects.specs.Lists.{with_last}
-use Rattle.wait_objects.specs.Changes.{all_waiters, lists_of, with_lists}
-use Rattle.lock_objects.specs.Represents.{SleepColumns, sleepers_of, mark_of}
 use Rattle.lock_objects.proofs.Lists.{marks-dealt, objects-dealt, head_after-stays, marks-dealt_last, objects-dealt_last, head_after-none, places}
 
 pub no_item : {A : Type 0} (xs : List A) → length xs ≡ 0 → xs ≡ []

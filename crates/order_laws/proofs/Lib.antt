@@ -1,3 +1,4 @@
+pub mod Names
 pub mod OrderFacts
 pub mod TakeFacts
 pub mod WantFacts

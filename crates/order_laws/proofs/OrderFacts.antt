@@ -8,12 +8,10 @@ pub mod Admit
 pub mod Steps
 pub mod Cycle
 pub mod Props
-use Rattle.std.proofs.Common.{◌≡◌, ℕ, List, [], true, refl}
-use Rattle.lock_model.specs.Config.{Config}
-use Rattle.lock_model.specs.Orders.{Reaches, edge, then, HasNoCycle}
-use Rattle.lock_state.specs.State.{start_state}
-use Rattle.lock_state.specs.Facts.{Ordered, WantsAreOrdered, HoldsAreOrdered, SleepersAreOrdered, WokenAreOrdered, AbortedWant, HaltsAreOrdered, TakesAreInGraph}
-use Rattle.std.proofs.Common.{arith}
+use Rattle.order_laws.proofs.Names
+use Names.{ℕ, List, [], true, refl, Config, Reaches, edge, then, HasNoCycle, start_state, Ordered, WantsAreOrdered}
+use Names.{HoldsAreOrdered, SleepersAreOrdered, WokenAreOrdered, AbortedWant, HaltsAreOrdered, TakesAreInGraph, arith}
+use Rattle.std.proofs.Common.{◌≡◌}
 
 pub no_path : {a b : ℕ} → Reaches [] a b → ⊥
 no_path e = grind arith

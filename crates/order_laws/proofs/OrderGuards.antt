@@ -1,17 +1,12 @@
 -- The guards of lock orders can be met on a running floor: p takes the class graph, and its mutex is admitted and
 -- gained. It takes the graph again, is refused the other mutex, which is of the same class, and gives the first back.
 -- Or it gains the mutex by its first exchange, without the graph.
-use Rattle.std.proofs.Common.{◌≡◌, ℕ, true, false, List, [], ◌∷◌, Option, Some, None, refl, arith}
-use Rattle.lock_model.specs.Config.{Config}
-use Rattle.lock_model.specs.History.{sections_in}
-use Rattle.lock_model.specs.declared.plan.Mode.TheVariants.{Excl}
-use Rattle.lock_model.specs.declared.event.Event.TheVariants.{Locked, Unlocked, Reversed}
-use Rattle.lock_state.specs.State.{start_state, put, put_at}
-use Rattle.lock_state.specs.Steps.LockWords.{after_seek, after_look, after_gain, after_drop, after_stamp}
-use Rattle.lock_state.specs.Steps.Items.{TurnstileChain, ClassGraph, after_take}
-use Rattle.lock_state.specs.Steps.Orders.{after_admit, after_refuse}
-use Rattle.lock_state.specs.Steps.{Step, Seeks, Looks, TakesItem, Gains, Stamps, Drops, Admits, Refuses, KeepToOrder, after_all}
-use Rattle.lock_laws.proofs.FloorGuards.{FloorAll, floor_plan}
+use Rattle.order_laws.proofs.Names
+use Names.{ℕ, true, false, List, [], Option, Some, None, refl, arith, Config, sections_in, Excl, Locked, Unlocked}
+use Names.{Reversed, start_state, put, put_at, after_seek, after_look, after_gain, after_drop, after_stamp}
+use Names.{TurnstileChain, ClassGraph, after_take, after_admit, after_refuse, Step, Seeks, Looks, TakesItem, Gains}
+use Names.{Stamps, Drops, Admits, Refuses, KeepToOrder, after_all, FloorAll, floor_plan}
+use Rattle.std.proofs.Common.{◌≡◌, ◌∷◌}
 
 -- a floor with two mutexes of one class
 unfoldable one_class : Config

@@ -6,11 +6,8 @@ pub mod Admit
 pub mod Steps
 pub mod Whole
 pub mod Props
-use Rattle.std.proofs.Common.{ℕ}
-use Rattle.lock_model.specs.Config.{Config}
-use Rattle.lock_state.specs.State.{start_state}
-use Rattle.lock_state.specs.Facts.{Taken, OnlyLocksAreHeld, EdgesAreOfTakes, TakersAreOpen, RefusalsHaveCause, ReversalsHaveCause}
-use Rattle.std.proofs.Common.{arith}
+use Rattle.order_laws.proofs.Names.{ℕ, Config, start_state, Taken, OnlyLocksAreHeld, EdgesAreOfTakes, TakersAreOpen}
+use Rattle.order_laws.proofs.Names.{RefusalsHaveCause, ReversalsHaveCause, arith}
 
 pub begins : (c : Config) → Taken c (start_state c)
 unfolding start_state OnlyLocksAreHeld EdgesAreOfTakes TakersAreOpen RefusalsHaveCause ReversalsHaveCause

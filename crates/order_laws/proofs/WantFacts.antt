@@ -1,11 +1,8 @@
 -- Steps of a running floor that keep to the order keep that wants fit takes: who wants a lock takes it, and who has the
 -- halt of a take to note wants none.
 pub mod Steps
-use Rattle.std.proofs.Common.{refl}
-use Rattle.std.proofs.Props.{props}
-use Rattle.lock_model.specs.Config.{Config}
-use Rattle.lock_state.specs.State.{State, start_state}
-use Rattle.lock_state.specs.Facts.{WantsFitTakes, WantedIsTaken, HaltedWantNothing}
+use Rattle.order_laws.proofs.Names.{refl, props, Config, State, start_state, WantsFitTakes, WantedIsTaken}
+use Rattle.order_laws.proofs.Names.{HaltedWantNothing}
 
 pub begins : (c : Config) → WantsFitTakes (start_state c)
 unfolding start_state WantedIsTaken HaltedWantNothing

@@ -1,36 +1,20 @@
 -- The actions of turns, one by one: each with what the thread is found at where it is the first that fits. What is
 -- proved of a turn is proved by these cases.
-use Rattle.std.proofs.Common.{◌≡◌, ◌≢◌, ◌⊎◌, ℕ, Bool, true, false, cond, ◌&&◌, ltb, List, [], ◌∷◌, length, slice_get, Option, Some, None, refl, sym, inl, inr, arith, ◌∙◌}
-use Rattle.std.specs.Prelude.{unwrap_or}
-use Rattle.std.proofs.lemmas.Bool.{lt-leb}
-use Rattle.std.proofs.lemmas.Option.{slice_get_within}
-use Rattle.lock_model.specs.Plans.{config_of, operations_of}
-use Rattle.lock_model.specs.Holds.{Hold, NotHeld, Holds}
-use Rattle.lock_model.specs.Words.{admits, is_plain, is_drop, is_turnstile, owner_of}
-use Rattle.lock_model.specs.Queues.{Mark, Cause, lock_queue, stands}
-use Rattle.lock_model.specs.Config.{Config}
-use Rattle.lock_state.specs.State.{State, HeldLock, Wait, Running, Queued, Woken, Walk, NoWalk, AtLock, AtThread}
-use Rattle.lock_state.specs.Steps.{Step, Gains, Claims, Drops, Stamps, Readies, Enters, Opens, EntersSleepQueue, OpensSleepQueue, Adds, Marks, Resumes, Lends, Shifts, EndsWalk, Admits, Refuses}
-use Rattle.lock_model.specs.History.{left_in}
-use Rattle.lock_state.specs.Run.{Run, Action, turn_of, has_ended, was_cut, owes, owed_release, waits_on, holds_none, nothing, does, ends, blocks, notes, takes, tries, gives_back, mode_held, operates, by_wait, by_release, by_marked, by_walk, walks_at_lock, walks_at_thread}
+use Rattle.run_laws.proofs.Names
+use Names.{ℕ, Bool, true, false, cond, ltb, List, [], length, slice_get, Option, Some, None, refl, sym, inl, inr, arith}
+use Names.{unwrap_or, lt-leb, slice_get_within, config_of, operations_of, Hold, NotHeld, Holds, admits, is_plain}
+use Names.{is_drop, is_turnstile, owner_of, Mark, Cause, lock_queue, stands, Config, State, HeldLock, Wait, Running}
+use Names.{Queued, Woken, Walk, NoWalk, AtLock, AtThread, Step, Gains, Claims, Drops, Stamps, Readies, Enters, Opens}
+use Names.{EntersSleepQueue, OpensSleepQueue, Adds, Marks, Resumes, Lends, Shifts, EndsWalk, Admits, Refuses, left_in}
+use Names.{Run, Action, turn_of, has_ended, was_cut, owes, owed_release, waits_on, holds_none, nothing, does, ends}
+use Names.{blocks, notes, takes, tries, gives_back, mode_held, operates, by_wait, by_release, by_marked, by_walk}
+use Names.{walks_at_lock, walks_at_thread, LockNo, ChanNo, Prio, Mode, Op, Take, Try, EndTry, Release, Set, Add, Get}
+use Names.{Base, Show, Sleep, WakeOne, WakeAll, Plan, QueueName, Lock, Chan, StepKind, Idle, Ended, Event, put_same}
+use Names.{OwesNothing, IsAtOperation, IsCutShort, BeginsTake, admitted, first_against, after_admit}
+use Rattle.std.proofs.Common.{◌≡◌, ◌≢◌, ◌⊎◌, ◌&&◌, ◌∷◌, ◌∙◌}
 use Rattle.lock_state.specs.Run as run
-use Rattle.lock_model.specs.declared.numbers.LockNo.{LockNo}
-use Rattle.lock_model.specs.declared.numbers.ChanNo.{ChanNo}
-use Rattle.lock_model.specs.declared.numbers.Prio.{Prio}
-use Rattle.lock_model.specs.declared.plan.Mode.{Mode}
-use Rattle.lock_model.specs.declared.plan.Op.{Op}
-use Rattle.lock_model.specs.declared.plan.Op.TheVariants.{Take, Try, EndTry, Release, Set, Add, Get, Base, Show, Sleep, WakeOne, WakeAll}
-use Rattle.lock_model.specs.declared.plan.Plan.{Plan}
-use Rattle.lock_model.specs.declared.plan.QueueName.{QueueName}
-use Rattle.lock_model.specs.declared.plan.QueueName.TheVariants.{Lock, Chan}
-use Rattle.lock_model.specs.declared.turn.StepKind.{StepKind}
 use Rattle.lock_model.specs.declared.turn.StepKind.TheVariants as kind
-use Rattle.lock_model.specs.declared.turn.Turn.TheVariants.{Idle, Ended}
-use Rattle.lock_model.specs.declared.event.Event.{Event}
 use Rattle.lock_model.specs.declared.event.Event.TheVariants as event
-use Rattle.lock_laws.proofs.Kit.{put_same}
-use Rattle.run_laws.specs.OnTrack.{OwesNothing, IsAtOperation, IsCutShort, BeginsTake, admitted, first_against}
-use Rattle.lock_state.specs.Steps.Orders.{after_admit}
 
 -- 1. What an operation asks of an action
 

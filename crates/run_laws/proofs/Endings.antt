@@ -1,14 +1,11 @@
 -- How a run ends: stuck exactly where a whole round was idle, and cut short exactly where some thread hasn't ended.
-use Rattle.std.proofs.Common.{◌≡◌, ◌↔◌, ℕ, zero, suc, Bool, true, false, cond, ◌||◌, List, [], ◌∷◌, refl, sym, inl, subst}
-use Rattle.std.proofs.lemmas.Bool.{and_parts}
-use Rattle.lock_model.specs.Counts.{is_empty}
-use Rattle.lock_model.specs.Takes.{has_reversal}
-use Rattle.lock_model.specs.Text.{IsDone, IsStuck, IsReversed}
-use Rattle.lock_state.specs.Run.{Run, Course, turn_of, round_of, all_ended, with_turn, after_turn, go_on, is_idle, is_stuck, course_after, ending_of, is_cut_short}
-use Rattle.lock_model.specs.declared.plan.Plan.{Plan}
+use Rattle.run_laws.proofs.Names
+use Names.{ℕ, zero, suc, Bool, true, false, cond, List, [], refl, sym, inl, subst, and_parts, is_empty, has_reversal}
+use Names.{IsDone, IsStuck, IsReversed, Run, Course, turn_of, round_of, all_ended, with_turn, after_turn, go_on}
+use Names.{is_idle, is_stuck, course_after, ending_of, is_cut_short, Plan, arith}
+use Rattle.std.proofs.Common.{◌≡◌, ◌↔◌, ◌||◌, ◌∷◌}
 use Rattle.run_laws.proofs.Idle.{changes_nothing, idle_is}
 use Rattle.run_laws.proofs.LegalRuns.{not_cut}
-use Rattle.std.proofs.Common.{arith}
 
 -- 1. A round begins only where not all threads have ended, and idle turns change nothing
 

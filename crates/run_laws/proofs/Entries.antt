@@ -2,34 +2,18 @@
 -- was held. Where a lock is given back that is one entry, and one lock less. So behind n operations a thread's
 -- entries and the locks that it holds are 2 * n at most. While an operation is left, or a thread that was cut holds
 -- a lock, the entries of a run are fewer than twice the operations.
-use Rattle.std.proofs.Common.{◌≡◌, ◌≢◌, ℕ, zero, suc, ◌+◌, ◌*◌, ◌<◌, ◌≤◌, Bool, true, false, cond, eqb, Option, Some, None, List, [], ◌∷◌, length, length-append, slice_get, reverse, refl, sym, ap, inl, inr, eq-eqb, arith, ◌∙◌, subst, map}
-use Rattle.std.specs.Prelude.{unwrap_or}
-use Rattle.std.specs.List.{sum_by, All}
-use Rattle.std.proofs.lemmas.Bool.{cases_eq, cases_lt, ne_eqb, true≢false}
-use Rattle.std.proofs.lemmas.Option.{slice_get_within, slice_get_past}
-use Rattle.std.proofs.lemmas.List.{length-map, length-reverse}
-use Rattle.std.proofs.lemmas.List.Elements.{All-cons, All-nil}
-use Rattle.std.proofs.lemmas.List.Sums.{sum-map, sum_by-cons}
-use Rattle.lock_model.specs.Counts.{sum_below}
-use Rattle.lock_model.specs.Plans.{config_of, operations_of}
-use Rattle.lock_model.specs.Operations.{IsProper, of_locks, operations_in_all, held_of, held_after}
-use Rattle.lock_model.specs.History.{entries_of}
-use Rattle.lock_model.specs.Law.{LeadsTo, Gives, Point, Before, Asleep, Cut}
+use Rattle.run_laws.proofs.Names
+use Names.{ℕ, zero, suc, Bool, true, false, cond, eqb, Option, Some, None, List, [], length, length-append, slice_get}
+use Names.{reverse, refl, sym, ap, inl, inr, eq-eqb, arith, subst, map, unwrap_or, sum_by, cases_eq, cases_lt, ne_eqb}
+use Names.{true≢false, slice_get_within, slice_get_past, length-map, length-reverse, All-cons, All-nil, sum-map}
+use Names.{sum_by-cons, sum_below, config_of, operations_of, IsProper, of_locks, operations_in_all, held_of, held_after}
+use Names.{entries_of, LeadsTo, Gives, Point, Before, Asleep, Cut, Run, was_cut, waits_on, held_now, Op, EndTry, Sleep}
+use Names.{OfLocks, NoLock, Acquires, ClosesBlock, Releases, EditsAt, ReadsAt, SleepsOn, WakesOn, Plan, ThreadDecl}
+use Names.{Entry, Event, Held, IsOnTrack, point_by, point_in, gained_order, sum_below-same, sum_below-change}
+use Names.{sum_below-at, sum_below-zero, fewer_without, next_leads, try_passes}
+use Rattle.std.proofs.Common.{◌≡◌, ◌≢◌, ◌+◌, ◌*◌, ◌<◌, ◌≤◌, ◌∷◌, ◌∙◌}
+use Rattle.std.specs.List.{All}
 use Rattle.lock_model.specs.Law as law
-use Rattle.lock_state.specs.Run.{Run, was_cut, waits_on, held_now}
-use Rattle.lock_model.specs.declared.plan.Op.{Op}
-use Rattle.lock_model.specs.declared.plan.Op.TheVariants.{EndTry, Sleep}
-use Rattle.lock_model.specs.declared.plan.OfLocks.{OfLocks}
-use Rattle.lock_model.specs.declared.plan.OfLocks.TheVariants.{NoLock, Acquires, ClosesBlock, Releases, EditsAt, ReadsAt, SleepsOn, WakesOn}
-use Rattle.lock_model.specs.declared.plan.Plan.{Plan}
-use Rattle.lock_model.specs.declared.plan.ThreadDecl.{ThreadDecl}
-use Rattle.lock_model.specs.declared.event.Entry.{Entry}
-use Rattle.lock_model.specs.declared.event.Event.{Event}
-use Rattle.lock_model.specs.declared.event.Held.{Held}
-use Rattle.run_laws.specs.OnTrack.{IsOnTrack, point_by, point_in}
-use Rattle.lock_state.specs.State.{gained_order}
-use Rattle.lock_laws.proofs.Kit.{sum_below-same, sum_below-change, sum_below-at, sum_below-zero}
-use Rattle.lock_laws.proofs.HeldLists.{fewer_without, next_leads, try_passes}
 
 -- 1. Sums
 

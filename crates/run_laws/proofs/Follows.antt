@@ -2,42 +2,21 @@
 -- thread goes on where that leads. The entry of a wait that begins leads into the wait, its Woke entry and that of
 -- each other operation behind the operation and the endtrys there. A refusal cuts the thread, and each entry behind
 -- that gives back a lock. So a thread's entries follow its operations behind its turn as before.
-use Rattle.std.proofs.Common.{◌≡◌, ℕ, suc, ◌<◌, Bool, true, false, arith, List, [], ◌∷◌, length, take, Option, Some, None, refl, sym, ap, ◌∙◌, subst}
+use Rattle.run_laws.proofs.Names
+use Names.{ℕ, suc, Bool, true, false, arith, List, [], length, take, Option, Some, None, refl, sym, ap, subst}
+use Names.{reverse-append, config_of, operations_of, IsProper, held_of, next_at, Word, IsWellFormed, is_free, admits}
+use Names.{bits_of, has_reversal, LeadsTo, Gives, Point, Before, Asleep, Cut, Op, Take, Try, Release, Sleep, Kind, Mode}
+use Names.{Plan, LockNo, ChanNo, Event, Entry, Held, StepKind, State, HeldLock, put, Step, Stamps, entry_of, after_look}
+use Names.{after_gain, after_drop, after_stamp, after_ready, after_enter, after_open, after_mark, after_resume}
+use Names.{after_enter_sleep, after_open_sleep, after_add, after_wake, after_claim, after_lend, after_shift}
+use Names.{after_end_walk, after_refuse, Run, Action, does, waits_on, owed_release, next_ops, mode_held, run_after}
+use Names.{held_now, IsOnTrack, IsAtOperation, IsCutShort, BeginsTake, admitted, first_against, point_by, point_in}
+use Names.{put_same, gain_passes, release_fits, well_formed, seen_again, refused_held, at_next}
+use Rattle.std.proofs.Common.{◌≡◌, ◌<◌, ◌∷◌, ◌∙◌}
 use Rattle.std.specs.Prelude.{reverse}
-use Rattle.std.proofs.lemmas.List.{reverse-append}
-use Rattle.lock_model.specs.Plans.{config_of, operations_of}
-use Rattle.lock_model.specs.Operations.{IsProper, held_of, next_at}
-use Rattle.lock_model.specs.Words.{Word, IsWellFormed, is_free, admits, bits_of}
-use Rattle.lock_model.specs.Takes.{has_reversal}
-use Rattle.lock_model.specs.Law.{LeadsTo, Gives, Point, Before, Asleep, Cut}
 use Rattle.lock_model.specs.Law as law
-use Rattle.lock_model.specs.declared.plan.Op.{Op}
-use Rattle.lock_model.specs.declared.plan.Op.TheVariants.{Take, Try, Release, Sleep}
-use Rattle.lock_model.specs.declared.plan.Kind.{Kind}
-use Rattle.lock_model.specs.declared.plan.Mode.{Mode}
-use Rattle.lock_model.specs.declared.plan.Plan.{Plan}
-use Rattle.lock_model.specs.declared.numbers.LockNo.{LockNo}
-use Rattle.lock_model.specs.declared.numbers.ChanNo.{ChanNo}
-use Rattle.lock_model.specs.declared.event.Event.{Event}
 use Rattle.lock_model.specs.declared.event.Event.TheVariants as event
-use Rattle.lock_model.specs.declared.event.Entry.{Entry}
-use Rattle.lock_model.specs.declared.event.Held.{Held}
-use Rattle.lock_model.specs.declared.turn.StepKind.{StepKind}
-use Rattle.lock_state.specs.State.{State, HeldLock, put}
-use Rattle.lock_state.specs.Steps.{Step, Stamps}
-use Rattle.lock_state.specs.Steps.LockWords.{entry_of, after_look, after_gain, after_drop, after_stamp, after_ready}
-use Rattle.lock_state.specs.Steps.Turnstiles.{after_enter, after_open, after_mark, after_resume}
-use Rattle.lock_state.specs.Steps.SleepQueues.{after_enter_sleep, after_open_sleep, after_add, after_wake}
-use Rattle.lock_state.specs.Steps.Lending.{after_claim, after_lend, after_shift, after_end_walk}
-use Rattle.lock_state.specs.Steps.Orders.{after_refuse}
-use Rattle.lock_state.specs.Run.{Run, Action, does, waits_on, owed_release, next_ops, mode_held, run_after, held_now}
-use Rattle.run_laws.specs.OnTrack.{IsOnTrack, IsAtOperation, IsCutShort, BeginsTake, admitted, first_against, point_by, point_in}
-use Rattle.lock_laws.proofs.Kit.{put_same}
-use Rattle.lock_laws.proofs.HeldLists.{gain_passes, release_fits}
 use Rattle.run_laws.proofs.OnTrack.{IsLed, LetsGoOn, lets_go_on, IsAwake, is_led, is_wait, is_awake, awake_behind, waits_uncut, holds_all, fit}
-use Rattle.lock_laws.proofs.AtTurn.{well_formed, seen_again}
-use Rattle.lock_laws.proofs.Words.{refused_held}
-use Rattle.lock_laws.proofs.Endtries.{at_next}
 use Rattle.run_laws.proofs.Actions as actions
 use Rattle.run_laws.proofs.TurnsOfOrders.{admitted_on_track, found_admitted, has_all}
 use Rattle.run_laws.proofs.TurnsOfReleases as releases

@@ -1,26 +1,15 @@
 -- Worked histories, held against the law of a history: what it lets through and what it refuses. A law that is turned
 -- so that it asks for less is proved all the same, and no scheduled run has halts: nothing else here notices such
 -- turns.
-use Rattle.std.proofs.Common.{◌≡◌, ℕ, zero, suc, ◌≤◌, true, false, List, [], ◌∷◌, slice_get, Some, refl, sym, ap, subst, arith, ◌∙◌}
-use Rattle.std.proofs.lemmas.Option.{same_Some}
-use Rattle.lock_model.specs.Config.{Config}
+use Rattle.run_laws.proofs.Names
+use Names.{ℕ, zero, suc, true, false, List, [], slice_get, Some, refl, sym, ap, subst, arith, same_Some, Config}
+use Names.{LeadsTo, Gives, Point, Before, Asleep, Cut, is_asleep, is_named, entries_up_to, is_passed_over}
+use Names.{WakingsNameSleepers, HaltsOnlyWhenRunning, any_below, has_bit, HaltsAreHonest, HaltsComeSince, is_honest_to}
+use Names.{entries_below, entries_since, sections_in, held_of, LockNo, ChanNo, Kind, Mtx, Excl, Op, Take, Try, EndTry}
+use Names.{Release, Show, Sleep, Entry, Held, Event, Locked, Busy, Unlocked, Shown, Sleeps, Woke, HaltedChan, WokeOne}
+use Names.{WokeAll, Reversed}
+use Rattle.std.proofs.Common.{◌≡◌, ◌≤◌, ◌∷◌, ◌∙◌}
 use Rattle.lock_model.specs.Law as law
-use Rattle.lock_model.specs.Law.{LeadsTo, Gives, Point, Before, Asleep, Cut, is_asleep, is_named, entries_up_to, is_passed_over, WakingsNameSleepers, HaltsOnlyWhenRunning}
-use Rattle.lock_model.specs.Counts.{any_below, has_bit}
-use Rattle.lock_model.specs.Halts.{HaltsAreHonest, HaltsComeSince, is_honest_to, entries_below, entries_since}
-use Rattle.lock_model.specs.History.{sections_in}
-use Rattle.lock_model.specs.Operations.{held_of}
-use Rattle.lock_model.specs.declared.numbers.LockNo.{LockNo}
-use Rattle.lock_model.specs.declared.numbers.ChanNo.{ChanNo}
-use Rattle.lock_model.specs.declared.plan.Kind.{Kind}
-use Rattle.lock_model.specs.declared.plan.Kind.TheVariants.{Mtx}
-use Rattle.lock_model.specs.declared.plan.Mode.TheVariants.{Excl}
-use Rattle.lock_model.specs.declared.plan.Op.{Op}
-use Rattle.lock_model.specs.declared.plan.Op.TheVariants.{Take, Try, EndTry, Release, Show, Sleep}
-use Rattle.lock_model.specs.declared.event.Entry.{Entry}
-use Rattle.lock_model.specs.declared.event.Held.{Held}
-use Rattle.lock_model.specs.declared.event.Event.{Event}
-use Rattle.lock_model.specs.declared.event.Event.TheVariants.{Locked, Busy, Unlocked, Shown, Sleeps, Woke, HaltedChan, WokeOne, WokeAll, Reversed}
 
 abbrev pub entry : ℕ → ℕ → Event → Entry
 entry ticket t e = record { ticket = ticket; thread = record { 0 = t }; event = e }

@@ -1,28 +1,16 @@
 -- A turn is idle exactly where its thread sleeps, and ended exactly where the thread has ended; both change nothing.
 -- So a round that was idle throughout leaves each thread that hasn't ended on a queue.
-use Rattle.std.proofs.Common.{◌≡◌, ◌⊎◌, ◌↔◌, ℕ, zero, suc, ◌+◌, ◌<◌, ◌≤◌, Bool, true, false, not, cond, ◌&&◌, ◌||◌, nat_le, List, [], ◌∷◌, length, filter, slice_get, Option, Some, None, refl, sym, ap, inl, inr, arith, ◌∙◌, subst}
-use Rattle.std.specs.List.{range_with_len}
-use Rattle.std.proofs.lemmas.Bool.{cases_eq, and_parts, or_left, or_right, le-leb}
-use Rattle.std.proofs.lemmas.Option.{none-some, slice_get_cases, slice_get_within}
-use Rattle.lock_model.specs.Counts.{any_below, is_empty, one}
-use Rattle.lock_model.specs.Config.{Config}
-use Rattle.lock_model.specs.Plans.{config_of, operations_of}
-use Rattle.lock_model.specs.Operations.{IsProper, hold_in}
-use Rattle.lock_model.specs.Holds.{Hold, NotHeld, is_unheld}
-use Rattle.lock_model.specs.Queues.{Mark, stands}
-use Rattle.lock_state.specs.State.{State, Queued, gained_order}
-use Rattle.lock_state.specs.Facts.{LawfulTurn, QueuedStands, StandsOnce}
-use Rattle.lock_state.specs.Facts.Waits.{times_marked, at_queue}
-use Rattle.lock_state.specs.Run.{Run, Action, Course, nothing, turn_of, run_behind, run_after, has_ended, was_cut, owes, waits_on, lock_of_wait, is_walking, holds_none, round_of, threads_of, with_turn, after_turn, go_on, is_over, is_stuck, is_idle, course_after, without_unheld, held_now}
-use Rattle.lock_model.specs.declared.plan.Plan.{Plan}
-use Rattle.lock_model.specs.declared.plan.QueueName.{QueueName}
-use Rattle.lock_model.specs.declared.turn.StepKind.{StepKind}
-use Rattle.lock_model.specs.declared.turn.Turn.{Turn}
-use Rattle.lock_model.specs.declared.turn.Turn.TheVariants.{Did, Idle, Ended}
-use Rattle.lock_model.specs.declared.event.Held.{Held}
-use Rattle.run_laws.specs.OnTrack.{IsOnTrack, OwesNothing, IsCutShort, IsAtOperation, IsSleeping, admitted}
-use Rattle.lock_laws.proofs.Kit.{sum_below-zero, is_queue_same}
-use Rattle.lock_laws.proofs.HeldLists.{held_none}
+use Rattle.run_laws.proofs.Names
+use Names.{ℕ, zero, suc, Bool, true, false, not, cond, nat_le, List, [], length, filter, slice_get, Option, Some, None}
+use Names.{refl, sym, ap, inl, inr, arith, subst, range_with_len, cases_eq, and_parts, or_left, or_right, le-leb}
+use Names.{none-some, slice_get_cases, slice_get_within, any_below, is_empty, one, Config, config_of, operations_of}
+use Names.{IsProper, hold_in, Hold, NotHeld, is_unheld, Mark, stands, State, Queued, gained_order, LawfulTurn}
+use Names.{QueuedStands, StandsOnce, times_marked, at_queue, Run, Action, Course, nothing, turn_of, run_behind}
+use Names.{run_after, has_ended, was_cut, owes, waits_on, lock_of_wait, is_walking, holds_none, round_of, threads_of}
+use Names.{with_turn, after_turn, go_on, is_over, is_stuck, is_idle, course_after, without_unheld, held_now, Plan}
+use Names.{QueueName, StepKind, Turn, Did, Idle, Ended, Held, IsOnTrack, OwesNothing, IsCutShort, IsAtOperation}
+use Names.{IsSleeping, admitted, sum_below-zero, is_queue_same, held_none}
+use Rattle.std.proofs.Common.{◌≡◌, ◌⊎◌, ◌↔◌, ◌+◌, ◌<◌, ◌≤◌, ◌&&◌, ◌||◌, ◌∷◌, ◌∙◌}
 use Rattle.run_laws.proofs.LastHeld.{length-gained}
 use Rattle.run_laws.proofs.Turning.{behind_course}
 use Rattle.run_laws.proofs.Actions as actions

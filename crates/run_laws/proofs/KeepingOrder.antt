@@ -1,39 +1,18 @@
 -- The steps of a turn keep to the order of locks: a thread takes just the lock that it wants, which was admitted or
 -- is that of its wait; it gives no lock back while it takes one, and the entry that it makes then ends the take.
-use Rattle.std.proofs.Common.{◌≡◌, ℕ, ◌<◌, Bool, true, false, [], ◌∷◌, length, Option, Some, None, refl, sym, ap, subst, inl, ◌∙◌}
-use Rattle.std.specs.Prelude.{is_some}
-use Rattle.std.proofs.lemmas.Option.{none-some, same_Some}
-use Rattle.lock_model.specs.Plans.{config_of}
-use Rattle.lock_model.specs.Operations.{IsProper}
-use Rattle.lock_model.specs.Config.{Config}
-use Rattle.lock_model.specs.Holds.{NotHeld}
-use Rattle.lock_state.specs.State.{State, Woken}
-use Rattle.lock_state.specs.Steps.{Step, Stamps, EndsTake, TakesNothing, GainsInOrder, IsBackFrom, KeepToOrder}
-use Rattle.lock_state.specs.Steps.LockWords.{is_taking_back, after_look, after_gain, after_stamp, after_ready}
-use Rattle.lock_state.specs.Steps.Orders.{after_admit, after_refuse}
-use Rattle.lock_state.specs.Steps.SleepQueues.{after_wake}
-use Rattle.lock_state.specs.Steps.Lending.{after_claim}
-use Rattle.lock_state.specs.Facts.Sleeps.{WokenSlept}
-use Rattle.lock_state.specs.Run.{Run, Action, waits_on, owed_release}
-use Rattle.lock_model.specs.declared.plan.Mode.{Mode}
-use Rattle.lock_model.specs.declared.plan.Op.{Op}
-use Rattle.lock_model.specs.declared.plan.Op.TheVariants.{Take, Try, Release, Sleep}
-use Rattle.lock_model.specs.declared.plan.Plan.{Plan}
-use Rattle.lock_model.specs.declared.plan.QueueName.{QueueName}
-use Rattle.lock_model.specs.declared.plan.QueueName.TheVariants.{Chan}
-use Rattle.lock_model.specs.declared.numbers.LockNo.{LockNo}
-use Rattle.lock_model.specs.declared.numbers.ChanNo.{ChanNo}
-use Rattle.lock_model.specs.declared.turn.StepKind.{StepKind}
-use Rattle.lock_model.specs.declared.event.Event.{Event}
+use Rattle.run_laws.proofs.Names
+use Names.{ℕ, Bool, true, false, [], length, Option, Some, None, refl, sym, ap, subst, inl, is_some, none-some}
+use Names.{same_Some, config_of, IsProper, Config, NotHeld, State, Woken, Step, Stamps, EndsTake, TakesNothing}
+use Names.{GainsInOrder, IsBackFrom, KeepToOrder, is_taking_back, after_look, after_gain, after_stamp, after_ready}
+use Names.{after_admit, after_refuse, after_wake, after_claim, WokenSlept, Run, Action, waits_on, owed_release, Mode}
+use Names.{Op, Take, Try, Release, Sleep, Plan, QueueName, Chan, LockNo, ChanNo, StepKind, Event, IsOnTrack}
+use Names.{IsAtOperation, admitted, put_same, slept_back, arith}
+use Rattle.std.proofs.Common.{◌≡◌, ◌<◌, ◌∷◌, ◌∙◌}
 use Rattle.lock_model.specs.declared.event.Event.TheVariants as event
-use Rattle.run_laws.specs.OnTrack.{IsOnTrack, IsAtOperation, admitted}
-use Rattle.lock_laws.proofs.Kit.{put_same}
 use Rattle.run_laws.proofs.OnTrack.{waits_back, awake, wants_none, wants_it, is_take, is_wait}
 use Rattle.run_laws.proofs.TurnsOfOrders.{admitted_on_track, found_admitted}
 use Rattle.run_laws.proofs.TurnsOfSleeps.{gained_last}
-use Rattle.sleep_laws.proofs.SleepFacts.Entries.{slept_back}
 use Rattle.run_laws.proofs.Actions as actions
-use Rattle.std.proofs.Common.{arith}
 
 -- a thread that takes nothing takes no lock;
 none_taken : {P : Type 0} (r : Run) (t l : ℕ) → TakesNothing r.state t → r.state.taking t ≡ Some l → P

@@ -1,15 +1,12 @@
 -- The first of the locks that a thread holds: those that a cut thread has left. It gives back the one that it gained
 -- last.
-use Rattle.std.proofs.Common.{◌≡◌, ℕ, zero, suc, Bool, true, false, cond, eqb, List, [], ◌∷◌, ◌++◌, length, map, take, refl, sym, ap, inl, inr, eq-eqb, ◌∙◌, subst}
+use Rattle.run_laws.proofs.Names
+use Names.{ℕ, zero, suc, Bool, true, false, cond, eqb, List, [], length, map, take, refl, sym, ap, inl, inr, eq-eqb}
+use Names.{subst, ne_eqb, cases_eq, reverse-append, reverse-reverse, length-reverse, length-map, NotHeld, Holds}
+use Names.{hold_in, without_lock, Held, HeldLock, gained_order, without_held, Apart, hold_in-push, gained_order-push}
+use Names.{gained_order-without}
+use Rattle.std.proofs.Common.{◌≡◌, ◌∷◌, ◌++◌, ◌∙◌}
 use Rattle.std.specs.Prelude.{reverse}
-use Rattle.std.proofs.lemmas.Bool.{ne_eqb, cases_eq}
-use Rattle.std.proofs.lemmas.List.{reverse-append, reverse-reverse, length-reverse, length-map}
-use Rattle.lock_model.specs.Holds.{NotHeld, Holds}
-use Rattle.lock_model.specs.Operations.{hold_in, without_lock}
-use Rattle.lock_model.specs.declared.event.Held.{Held}
-use Rattle.lock_state.specs.State.{HeldLock, gained_order}
-use Rattle.lock_state.specs.Steps.LockWords.{without_held}
-use Rattle.lock_laws.proofs.HeldLists.{Apart, hold_in-push, gained_order-push, gained_order-without}
 
 -- 1. The first of a list
 

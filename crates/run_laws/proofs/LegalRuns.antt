@@ -1,25 +1,14 @@
 -- Each run of a proper plan has a legal history, and a whole one where all threads have ended.
-use Rattle.std.proofs.Common.{◌≡◌, ℕ, zero, suc, ◌+◌, ◌<◌, ◌≤◌, Bool, true, false, List, [], ◌∷◌, length, map, reverse, slice_get, All, Option, Some, None, refl, sym, ap, inl, inr, eq-eqb, arith, ◌∙◌, subst}
-use Rattle.std.specs.Prelude.{not, ◌&&◌, ◌||◌, nat_le, unwrap_or}
-use Rattle.std.specs.List.{list_all, range_with_len}
-use Rattle.std.proofs.lemmas.Bool.{cases_eq, cases_lt, and_parts, or_cases, leb-true, true≢false}
-use Rattle.std.proofs.lemmas.List.{reverse-reverse, length-map}
-use Rattle.std.proofs.lemmas.Option.{slice_get_past}
-use Rattle.lock_model.specs.Holds.{Hold, NotHeld, Holds, is_unheld}
-use Rattle.lock_model.specs.Operations.{IsProper, hold_in}
-use Rattle.lock_model.specs.Plans.{config_of, operations_of}
-use Rattle.lock_model.specs.Law.{IsAtEnd, EntriesFollowOperations}
-use Rattle.lock_model.specs.Legal.{IsLegal}
-use Rattle.lock_model.specs.declared.plan.Plan.{Plan}
-use Rattle.lock_model.specs.declared.plan.ThreadDecl.{ThreadDecl}
-use Rattle.lock_model.specs.declared.event.Held.{Held}
-use Rattle.lock_state.specs.Facts.{OnlyThreadsHold, OnlyLocksAreHeld}
-use Rattle.lock_state.specs.Run.{Run, Course, was_cut, waits_on, has_ended, owes, holds_none, all_ended, after_turns, course_after, ending_of, is_cut_short, HasLegalHistory, scheduled_run, held_now}
-use Rattle.run_laws.specs.OnTrack.{IsOnTrack, point_by, point_in}
-use Rattle.sleep_laws.specs.Sleepers.{nobody}
-use Rattle.sleep_laws.proofs.LegalSoFar.{legal_so_far}
-use Rattle.lock_laws.proofs.Shown.{true-any_below}
-use Rattle.order_laws.proofs.TakeFacts.Whole.{legal as orders_legal}
+use Rattle.run_laws.proofs.Names
+use Names.{ℕ, zero, suc, Bool, true, false, List, [], length, map, reverse, slice_get, All, Option, Some, None, refl}
+use Names.{sym, ap, inl, inr, eq-eqb, arith, subst, unwrap_or, list_all, range_with_len, cases_eq, cases_lt, and_parts}
+use Names.{or_cases, leb-true, true≢false, reverse-reverse, length-map, slice_get_past, Hold, NotHeld, Holds, is_unheld}
+use Names.{IsProper, hold_in, config_of, operations_of, IsAtEnd, EntriesFollowOperations, IsLegal, Plan, ThreadDecl}
+use Names.{Held, OnlyThreadsHold, OnlyLocksAreHeld, Run, Course, was_cut, waits_on, has_ended, owes, holds_none}
+use Names.{all_ended, after_turns, course_after, ending_of, is_cut_short, HasLegalHistory, scheduled_run, held_now}
+use Names.{IsOnTrack, point_by, point_in, nobody, legal_so_far, true-any_below, orders_legal}
+use Rattle.std.proofs.Common.{◌≡◌, ◌+◌, ◌<◌, ◌≤◌, ◌∷◌, ◌∙◌}
+use Rattle.std.specs.Prelude.{◌&&◌, ◌||◌, not, nat_le}
 use Rattle.run_laws.proofs.Idle.{done_awake}
 use Rattle.run_laws.proofs.Turning.{behind_turns, behind_course}
 use Rattle.run_laws.proofs.Unhalted.{halts_honest}

@@ -1,3 +1,4 @@
+pub mod Names
 pub mod Histories
 pub mod Rows
 mod OrderHistories

@@ -1,52 +1,26 @@
 -- What a turn leaves true of a run beside its lawful state, and what is known of a thread at its next operation.
-use Rattle.std.proofs.Common.{◌≡◌, ◌≢◌, ℕ, suc, ◌<◌, ◌≤◌, Bool, true, false, cond, eqb, ◌&&◌, List, ◌∷◌, length, take, slice_get, Option, Some, None, option_map, refl, sym, ap, eq-eqb, ◌∙◌, subst}
-use Rattle.std.specs.Prelude.{is_some}
-use Rattle.std.proofs.lemmas.Option.{none-some, same_Some, slice_get_within}
-use Rattle.lock_model.specs.Plans.{config_of, operations_of}
-use Rattle.lock_model.specs.Operations.{of_locks, IsProper, hold_in, held_of, next_at}
-use Rattle.lock_model.specs.Config.{Config}
-use Rattle.lock_model.specs.Events.{OfSection, facets}
-use Rattle.lock_model.specs.Holds.{Hold, NotHeld}
-use Rattle.lock_model.specs.Events.{of_sleep, fell_asleep}
-use Rattle.lock_model.specs.History.{Sections, open_in, sections_in, entries_of}
+use Rattle.run_laws.proofs.Names
+use Names.{ℕ, suc, Bool, true, false, cond, eqb, List, length, take, slice_get, Option, Some, None, option_map, refl}
+use Names.{sym, ap, eq-eqb, subst, is_some, none-some, same_Some, slice_get_within, config_of, operations_of, of_locks}
+use Names.{IsProper, hold_in, held_of, next_at, Config, OfSection, facets, Hold, NotHeld, of_sleep, fell_asleep}
+use Names.{Sections, open_in, sections_in, entries_of, LeadsTo, Gives, Point, Before, Asleep, Cut, is_halt}
+use Names.{HaltsOnlyWhenRunning, is_reversal, has_reversal, State, Wait, Running, Queued, Wake, HeldLock, put, put_at}
+use Names.{gained_order, Step, MayAll, KeepToOrder, after_all, is_with, IsActing, is_woken, is_taking_back, begun_after}
+use Names.{begun_with, is_of_section, unstamped_after, taking_after, changes_sections, after_stamp, entry_of, Lawful}
+use Names.{NothingIsOut, QueuedStands, StandingIsQueued, LogsAreParts, Run, Action, was_cut, waits_on, run_after}
+use Names.{held_now, without_unheld, Op, Take, EndTry, Sleep, OfLocks, NoLock, Acquires, ClosesBlock, Releases, EditsAt}
+use Names.{ReadsAt, SleepsOn, WakesOn, Kind, Mode, Plan, QueueName, LockNo, StepKind, Did, Event, Entry, Held}
+use Names.{IsOnTrack, IsAtOperation, TakesLock, lock_of_take, point_by, point_in, SleepersFit, AsksOfSleepersAll}
+use Names.{AsleepAreOnTheirWay, UnnotedIsAtWork, by_turn, nobody, put_same, put_other, each_place, all_keep}
+use Names.{orders_keep, takes_keep, next_is_none, sections_stay, all_stay, turn_keeps, turn_ends, AreLocks, Leads}
+use Names.{next_leads, next_holds, next_within, held_are_locks, arith}
+use Rattle.std.proofs.Common.{◌≡◌, ◌≢◌, ◌<◌, ◌≤◌, ◌&&◌, ◌∷◌, ◌∙◌}
 use Rattle.lock_model.specs.Law as law
-use Rattle.lock_model.specs.Law.{LeadsTo, Gives, Point, Before, Asleep, Cut, is_halt, HaltsOnlyWhenRunning}
-use Rattle.lock_model.specs.Takes.{is_reversal, has_reversal}
-use Rattle.lock_state.specs.State.{State, Wait, Running, Queued, Wake, Note, HeldLock, put, put_at, gained_order}
-use Rattle.lock_state.specs.Steps.{Step, MayAll, KeepToOrder, after_all, is_with}
-use Rattle.lock_state.specs.Steps.LockWords.{IsActing, is_woken, is_taking_back, begun_after, begun_with, is_of_section, unstamped_after, taking_after, changes_sections, after_stamp, entry_of}
-use Rattle.lock_state.specs.Facts.{Lawful, NothingIsOut, QueuedStands, StandingIsQueued, LogsAreParts}
-use Rattle.lock_state.specs.Run.{Run, Action, was_cut, waits_on, run_after, held_now, without_unheld}
-use Rattle.lock_model.specs.declared.plan.Op.{Op}
-use Rattle.lock_model.specs.declared.plan.Op.TheVariants.{Take, EndTry, Sleep}
-use Rattle.lock_model.specs.declared.plan.OfLocks.{OfLocks}
-use Rattle.lock_model.specs.declared.plan.OfLocks.TheVariants.{NoLock, Acquires, ClosesBlock, Releases, EditsAt, ReadsAt, SleepsOn, WakesOn}
-use Rattle.lock_model.specs.declared.plan.Kind.{Kind}
-use Rattle.lock_model.specs.declared.plan.Mode.{Mode}
-use Rattle.lock_model.specs.declared.plan.Plan.{Plan}
-use Rattle.lock_model.specs.declared.plan.QueueName.{QueueName}
-use Rattle.lock_model.specs.declared.numbers.LockNo.{LockNo}
-use Rattle.lock_model.specs.declared.turn.StepKind.{StepKind}
-use Rattle.lock_model.specs.declared.turn.Turn.TheVariants.{Did}
-use Rattle.lock_model.specs.declared.event.Event.{Event}
-use Rattle.lock_model.specs.declared.event.Entry.{Entry}
-use Rattle.lock_model.specs.declared.event.Held.{Held}
-use Rattle.run_laws.specs.OnTrack.{IsOnTrack, IsAtOperation, TakesLock, lock_of_take, point_by, point_in}
-use Rattle.sleep_laws.specs.Sleepers.{SleepersFit, AsksOfSleepersAll, AsleepAreOnTheirWay, UnnotedIsAtWork, by_turn, nobody}
-use Rattle.lock_laws.proofs.Kit.{put_same, put_other, each_place}
+use Rattle.lock_state.specs.State.{Note}
 use Rattle.run_laws.proofs.Shares.{SameShare, AllBy, halt_nobody, all_leave}
 use Rattle.run_laws.proofs.Actions as actions
 use Rattle.run_laws.proofs.OtherThreads.{other_next as next_stays}
-use Rattle.lock_laws.proofs.Steps.{all_keep}
-use Rattle.order_laws.proofs.OrderFacts.Steps.{all_keep as orders_keep}
-use Rattle.order_laws.proofs.TakeFacts.Steps.{all_keep as takes_keep}
 use Rattle.run_laws.proofs.Walks.{walks_keep}
-use Rattle.lock_laws.proofs.Endtries.{next_is_none}
-use Rattle.lock_laws.proofs.OwnEntries.{sections_stay}
-use Rattle.sleep_laws.proofs.SleepFacts.Steps.{all_stay}
-use Rattle.sleep_laws.proofs.SleepFacts.Turns.{turn_keeps, turn_ends}
-use Rattle.lock_laws.proofs.HeldLists.{AreLocks, Leads, next_leads, next_holds, next_within, held_are_locks}
-use Rattle.std.proofs.Common.{arith}
 
 -- 1. Columns and sections
 

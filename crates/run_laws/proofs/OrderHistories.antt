@@ -1,43 +1,21 @@
 -- Worked histories and runs of lock orders: which histories the law lets through and which it refuses, which plans are
 -- ordered, and what turns make of plans. A definition that is changed so that it asks for less, or a table
 -- whose refusals name another class, is proved all the same: nothing else here notices such changes.
-use Rattle.std.proofs.Common.{◌≡◌, ℕ, zero, suc, ◌<◌, true, false, List, [], ◌∷◌, map, slice_get, Some, None, refl, subst, arith, rules}
+use Rattle.run_laws.proofs.Names
+use Names.{ℕ, zero, suc, true, false, List, [], map, slice_get, Some, None, refl, subst, arith, rules, All-nil}
+use Names.{All-cons, Config, any_below, sum_below, least, sections_in, held_of, IsOrdered, waits_or_tries, edge, then}
+use Names.{HasNoCycle, edges_behind, is_edge, forbids, first_to_forbid, operations_of, lock_class, lock_queue}
+use Names.{classes_open, take_edges, ReversalsHaveCause, OrdersAreLegal, IsDone, IsStuck, IsReversed, IsTooLong, LockNo}
+use Names.{Mtx, Mode, Excl, Op, Take, Try, EndTry, Release, Sleep, Plan, Note, Gain, Drop, Enter, Entry, Held, Event}
+use Names.{Locked, Tried, Unlocked, HaltedLock, Reversed, Sleeps, none_found, stays_without_cycle, start_state, put}
+use Names.{put_at, put_queue, after_gain, after_drop, after_stamp, after_ready, after_enter, after_open, after_mark}
+use Names.{after_resume, after_add, after_lend, after_shift, after_end_walk, after_admit, after_refuse, Step, Drops}
+use Names.{Stamps, Readies, Enters, Admits, Refuses, Run, Course, course_after, ending_of, turn_of, run_behind}
+use Names.{has_ended, no_path}
+use Rattle.std.proofs.Common.{◌≡◌, ◌<◌, ◌∷◌}
 use Rattle.std.specs.List.{All}
-use Rattle.std.proofs.lemmas.List.Elements.{All-nil, All-cons}
-use Rattle.lock_model.specs.Config.{Config}
-use Rattle.lock_model.specs.Counts.{any_below, sum_below, least}
-use Rattle.lock_model.specs.History.{sections_in}
-use Rattle.lock_model.specs.Operations.{held_of}
-use Rattle.lock_model.specs.OrderedPlans.{IsOrdered, waits_or_tries}
-use Rattle.lock_model.specs.Orders.{edge, then, HasNoCycle, edges_behind, is_edge, forbids, first_to_forbid}
-use Rattle.lock_model.specs.Plans.{operations_of, lock_class}
-use Rattle.lock_model.specs.Queues.{lock_queue}
-use Rattle.lock_model.specs.Takes.{classes_open, take_edges, ReversalsHaveCause, OrdersAreLegal}
-use Rattle.lock_model.specs.Text.{IsDone, IsStuck, IsReversed, IsTooLong}
-use Rattle.lock_model.specs.declared.numbers.LockNo.{LockNo}
-use Rattle.lock_model.specs.declared.plan.Kind.TheVariants.{Mtx}
-use Rattle.lock_model.specs.declared.plan.Mode.{Mode}
-use Rattle.lock_model.specs.declared.plan.Mode.TheVariants.{Excl}
-use Rattle.lock_model.specs.declared.plan.Op.{Op}
-use Rattle.lock_model.specs.declared.plan.Op.TheVariants.{Take, Try, EndTry, Release, Sleep}
-use Rattle.lock_model.specs.declared.plan.Plan.{Plan}
-use Rattle.lock_model.specs.declared.turn.StepKind.TheVariants.{Note, Gain, Drop, Enter}
-use Rattle.lock_model.specs.declared.event.Entry.{Entry}
-use Rattle.lock_model.specs.declared.event.Held.{Held}
-use Rattle.lock_model.specs.declared.event.Event.{Event}
-use Rattle.lock_model.specs.declared.event.Event.TheVariants.{Locked, Tried, Unlocked, HaltedLock, Reversed, Sleeps}
-use Rattle.lock_model.proofs.Orders.{none_found, stays_without_cycle}
-use Rattle.lock_state.specs.State.{start_state, put, put_at, put_queue}
-use Rattle.lock_state.specs.Steps.LockWords.{after_gain, after_drop, after_stamp, after_ready}
-use Rattle.lock_state.specs.Steps.Turnstiles.{after_enter, after_open, after_mark, after_resume}
-use Rattle.lock_state.specs.Steps.SleepQueues.{after_add}
-use Rattle.lock_state.specs.Steps.Lending.{after_lend, after_shift, after_end_walk}
-use Rattle.lock_state.specs.Steps.Orders.{after_admit, after_refuse}
-use Rattle.lock_state.specs.Steps.{Step, Drops, Stamps, Readies, Enters, Admits, Refuses}
-use Rattle.lock_state.specs.Run.{Run, Course, course_after, ending_of, turn_of, run_behind, has_ended}
 use Rattle.lock_state.specs.Run as run
 use Rattle.run_laws.proofs.Histories.{entry, lock, chan, held}
-use Rattle.order_laws.proofs.OrderFacts.{no_path}
 use Rattle.run_laws.proofs.Rows.{at, plan, takes}
 
 -- 1. Histories. Lock a has the class 1, b the class 0, and d the class 2

@@ -1,41 +1,17 @@
 -- The run of an ordered plan: each edge of the class graph leads from the class of a lock to that of one declared
 -- behind it, so no take is refused. And no thread waits on a channel, so the run isn't stuck.
-use Rattle.std.proofs.Common.{◌≡◌, ◌≢◌, ℕ, zero, suc, ◌+◌, ◌<◌, Bool, true, false, ◌&&◌, cond, List, [], ◌∷◌, length, Some, None, All, refl, sym, ap, inl, inr, arith, ◌∙◌, subst}
-use Rattle.std.specs.List.{list_all, range_with_len}
-use Rattle.std.proofs.lemmas.Bool.{cases_eq, ne_eqb}
-use Rattle.std.proofs.lemmas.List.Elements.{All-head, All-tail}
-use Rattle.lock_model.specs.Config.{Config}
-use Rattle.lock_model.specs.Holds.{Holds}
-use Rattle.lock_model.specs.Operations.{IsProper, hold_in}
-use Rattle.lock_model.specs.OrderedPlans.{IsOrdered}
-use Rattle.lock_model.specs.Orders.{IsEdge, Reaches, edge, then, Forbids}
-use Rattle.lock_model.specs.Plans.{config_of, lock_class}
-use Rattle.lock_model.specs.Queues.{chan_queue, stands}
-use Rattle.lock_model.specs.Takes.{is_reversal, has_reversal}
-use Rattle.lock_model.specs.Text.{IsDone, IsStuck, IsReversed, IsTooLong}
-use Rattle.lock_model.proofs.Orders.{new_or_old, first_found, first_forbids}
-use Rattle.lock_model.specs.declared.numbers.LockNo.{LockNo}
-use Rattle.lock_model.specs.declared.numbers.ChanNo.{ChanNo}
-use Rattle.lock_model.specs.declared.plan.Mode.{Mode}
-use Rattle.lock_model.specs.declared.plan.Op.{Op}
-use Rattle.lock_model.specs.declared.plan.Op.TheVariants.{Take, Sleep}
-use Rattle.lock_model.specs.declared.plan.Plan.{Plan}
-use Rattle.lock_model.specs.declared.event.Event.{Event}
-use Rattle.lock_model.specs.declared.event.Entry.{Entry}
-use Rattle.lock_model.specs.declared.event.Held.{Held}
-use Rattle.lock_state.specs.State.{State, start_state}
-use Rattle.lock_state.specs.Steps.{after_all}
-use Rattle.lock_state.specs.Steps.LockWords.{after_look, after_gain, after_drop, after_stamp, after_ready}
-use Rattle.lock_state.specs.Steps.Turnstiles.{after_enter, after_open, after_mark, after_resume}
-use Rattle.lock_state.specs.Steps.SleepQueues.{after_enter_sleep, after_open_sleep, after_add, after_wake}
-use Rattle.lock_state.specs.Steps.Lending.{after_claim, after_lend, after_shift, after_end_walk}
-use Rattle.lock_state.specs.Steps.Orders.{classes_held, after_admit, after_refuse}
-use Rattle.lock_state.specs.Facts.Sleeps.{SleepersSlept}
-use Rattle.lock_state.specs.Run.{Run, Action, Course, waits_on, has_ended, turn_of, run_behind, round_of, with_turn, after_turn, go_on, is_over, all_ended, is_stuck, course_after, ending_of, held_before, held_now}
-use Rattle.run_laws.specs.OnTrack.{IsOnTrack, BeginsTake, admitted, first_against}
-use Rattle.lock_laws.proofs.HeldLists.{gain_passes}
-use Rattle.order_laws.proofs.TakeFacts.Admit.{has_held, first_among}
-use Rattle.lock_laws.proofs.Standing.{standing_named}
+use Rattle.run_laws.proofs.Names
+use Names.{ℕ, zero, suc, Bool, true, false, cond, List, [], length, Some, None, All, refl, sym, ap, inl, inr, arith}
+use Names.{subst, list_all, range_with_len, cases_eq, ne_eqb, All-head, All-tail, Config, Holds, IsProper, hold_in}
+use Names.{IsOrdered, IsEdge, Reaches, edge, then, Forbids, config_of, lock_class, chan_queue, stands, is_reversal}
+use Names.{has_reversal, IsDone, IsStuck, IsReversed, IsTooLong, new_or_old, first_found, first_forbids, LockNo, ChanNo}
+use Names.{Mode, Op, Take, Sleep, Plan, Event, Entry, Held, State, start_state, after_all, after_look, after_gain}
+use Names.{after_drop, after_stamp, after_ready, after_enter, after_open, after_mark, after_resume, after_enter_sleep}
+use Names.{after_open_sleep, after_add, after_wake, after_claim, after_lend, after_shift, after_end_walk, classes_held}
+use Names.{after_admit, after_refuse, SleepersSlept, Run, Action, Course, waits_on, has_ended, turn_of, run_behind}
+use Names.{round_of, with_turn, after_turn, go_on, is_over, all_ended, is_stuck, course_after, ending_of, held_before}
+use Names.{held_now, IsOnTrack, BeginsTake, admitted, first_against, gain_passes, has_held, first_among, standing_named}
+use Rattle.std.proofs.Common.{◌≡◌, ◌≢◌, ◌+◌, ◌<◌, ◌&&◌, ◌∷◌, ◌∙◌}
 use Rattle.run_laws.proofs.Stuck.{stuck_on_channels}
 use Rattle.run_laws.proofs.Turning.{behind_course}
 use Rattle.run_laws.proofs.TurnsOfWaits.{slept_waits}

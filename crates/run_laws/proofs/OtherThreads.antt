@@ -1,18 +1,10 @@
 -- A turn of a thread leaves the next operation, the walk, the marked list, the holds and the log of each other thread,
 -- and so whether that one has ended.
-use Rattle.std.proofs.Common.{◌≡◌, ◌≢◌, ℕ, Bool, not, ◌&&◌, ◌||◌, nat_le, is_some, List, length, Option, Some, None, option_map, refl, sym, ap, ◌∙◌}
-use Rattle.lock_model.specs.Counts.{any_below, is_empty}
-use Rattle.lock_model.specs.Config.{Config}
-use Rattle.lock_model.specs.Plans.{config_of, operations_of}
-use Rattle.lock_model.specs.Holds.{is_unheld, Hold}
-use Rattle.lock_model.specs.Queues.{Mark}
-use Rattle.lock_model.specs.Takes.{has_reversal}
-use Rattle.lock_state.specs.State.{Walk}
-use Rattle.lock_state.specs.Run.{Run, Action, is_walking, waits_on, to_release, turn_of, has_ended, next_ops, run_after, run_behind}
-use Rattle.lock_model.specs.declared.plan.Plan.{Plan}
-use Rattle.lock_model.specs.declared.event.Entry.{Entry}
-use Rattle.run_laws.specs.OnTrack.{admitted}
-use Rattle.lock_laws.proofs.Kit.{put_other}
+use Rattle.run_laws.proofs.Names
+use Names.{ℕ, Bool, not, nat_le, List, length, Option, Some, None, option_map, refl, sym, ap, any_below, is_empty}
+use Names.{Config, config_of, operations_of, is_unheld, Hold, Mark, has_reversal, Walk, Run, Action, is_walking}
+use Names.{waits_on, to_release, turn_of, has_ended, next_ops, run_after, run_behind, Plan, Entry, admitted, put_other}
+use Rattle.std.proofs.Common.{◌≡◌, ◌≢◌, ◌&&◌, ◌||◌, ◌∙◌, is_some}
 use Rattle.run_laws.proofs.Shares.{SameShare, AllBy, all_leave}
 use Rattle.run_laws.proofs.Actions as actions
 

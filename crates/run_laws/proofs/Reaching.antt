@@ -1,11 +1,9 @@
 -- Going on along the edges of a graph of lock orders that has no cycle comes to an end: with each edge fewer classes
 -- are left ahead.
-use Rattle.std.proofs.Common.{◌≡◌, ℕ, zero, suc, ◌<◌, ◌≤◌, Bool, true, false, List, refl, ap, inl, inr, arith}
-use Rattle.std.proofs.lemmas.Bool.{cases_eq, cases_Bool}
-use Rattle.lock_model.specs.Counts.{sum_below, one}
-use Rattle.lock_model.specs.Orders.{IsEdge, edge, then, HasNoCycle, leads_below, above_all}
-use Rattle.lock_model.proofs.Orders.{leads_reaches, edge_below}
-use Rattle.lock_laws.proofs.Sums.{sum_below-le}
+use Rattle.run_laws.proofs.Names
+use Names.{ℕ, zero, suc, Bool, true, false, List, refl, ap, inl, inr, arith, cases_eq, cases_Bool, sum_below, one}
+use Names.{IsEdge, edge, then, HasNoCycle, leads_below, above_all, leads_reaches, edge_below, sum_below-le}
+use Rattle.std.proofs.Common.{◌≡◌, ◌<◌, ◌≤◌}
 
 -- a sum whose entries are none greater than those of the other, and one is less
 sum_below-less : (n : ℕ) (f g : ℕ → ℕ) (i : ℕ) → i < n → f i < g i → ((j : ℕ) → j < n → f j ≤ g j) → sum_below n f < sum_below n g

@@ -1,27 +1,18 @@
 -- Worked runs, replayed on the definitions: what queues, records and words hold after the steps is what the runs
 -- print. Locks, threads and turnstiles are numbered in the order of their declaration, and a turnstile has the number
 -- of its thread.
-use Rattle.std.proofs.Common.{◌≡◌, ℕ, zero, suc, true, false, List, [], ◌∷◌, ◌++◌, length, Some, None, refl}
-use Rattle.lock_model.specs.Counts.{sum_below, least}
-use Rattle.lock_model.specs.Words.{word_of, bits_of}
-use Rattle.lock_model.specs.Config.{Config}
-use Rattle.lock_state.specs.State.{State, NoWalk, AtThread, start_state, put, put_at, put_queue}
-use Rattle.lock_model.specs.Queues.{Waiter, Mark, BySignal, lock_queue, chan_queue, stands}
-use Rattle.lock_state.specs.Steps.LockWords.{after_look, after_gain, after_drop, after_stamp, after_ready}
-use Rattle.lock_state.specs.Steps.Turnstiles.{after_enter, after_open, after_mark, after_resume}
-use Rattle.lock_state.specs.Steps.SleepQueues.{after_enter_sleep, after_open_sleep, after_add, after_wake}
-use Rattle.lock_state.specs.Steps.Lending.{after_claim, after_lend, after_shift, after_end_walk}
-use Rattle.lock_state.specs.Steps.Items.{RecordOf, after_take, after_give}
-use Rattle.lock_state.specs.Steps.{Step, Looks, TakesItem, GivesItem, Gains, Stamps, Readies, Enters, Opens, Marks, Resumes, Claims, Lends, Shifts, after_all, EntersSleepQueue, OpensSleepQueue, Adds, Wakes, Drops}
-use Rattle.lock_state.specs.Run.{Run}
+use Rattle.run_laws.proofs.Names
+use Names.{ℕ, zero, suc, true, false, List, [], length, Some, None, refl, sum_below, least, word_of, bits_of, Config}
+use Names.{State, NoWalk, AtThread, start_state, put, put_at, put_queue, Waiter, Mark, BySignal, lock_queue, chan_queue}
+use Names.{stands, after_look, after_gain, after_drop, after_stamp, after_ready, after_enter, after_open, after_mark}
+use Names.{after_resume, after_enter_sleep, after_open_sleep, after_add, after_wake, after_claim, after_lend}
+use Names.{after_shift, after_end_walk, RecordOf, after_take, after_give, Step, Looks, TakesItem, GivesItem, Gains}
+use Names.{Stamps, Readies, Enters, Opens, Marks, Resumes, Claims, Lends, Shifts, after_all, EntersSleepQueue}
+use Names.{OpensSleepQueue, Adds, Wakes, Drops, Run, Kind, Mtx, Rw, Sx, Mode, Excl, Shared, Claim, OpenUp, Note, Did}
+use Names.{Locked, Busy, Unlocked, Sleeps, WokeOne, WokeAll}
+use Rattle.std.proofs.Common.{◌≡◌, ◌∷◌, ◌++◌}
 use Rattle.lock_state.specs.Run as run
-use Rattle.lock_model.specs.declared.plan.Kind.{Kind}
-use Rattle.lock_model.specs.declared.plan.Kind.TheVariants.{Mtx, Rw, Sx}
-use Rattle.lock_model.specs.declared.plan.Mode.{Mode}
-use Rattle.lock_model.specs.declared.plan.Mode.TheVariants.{Excl, Shared}
-use Rattle.lock_model.specs.declared.turn.StepKind.TheVariants.{Claim, OpenUp, Wake, Note}
-use Rattle.lock_model.specs.declared.turn.Turn.TheVariants.{Did}
-use Rattle.lock_model.specs.declared.event.Event.TheVariants.{Locked, Busy, Unlocked, Sleeps, WokeOne, WokeAll}
+use Rattle.lock_model.specs.declared.turn.StepKind.TheVariants.{Wake}
 
 unfoldable pub at : {A : Type 0} → List A → A → ℕ → A
 at [] d n = d

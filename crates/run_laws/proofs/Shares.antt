@@ -1,23 +1,16 @@
 -- The thread that makes a step, and what each other thread has left of its own behind it: its holds, its log with the
 -- sections in it, what it wants and takes, what it has to note, its walk and its marked list. It doesn't begin to run.
-use Rattle.std.proofs.Common.{◌≡◌, ℕ, Bool, true, false, List, [], ◌∷◌, refl, sym, ap, ◌∙◌}
-use Rattle.std.specs.Prelude.{⊤}
-use Rattle.lock_model.specs.Config.{Config}
-use Rattle.lock_model.specs.History.{sections_in}
-use Rattle.lock_state.specs.State.{State, Running}
-use Rattle.lock_state.specs.Steps.{Step, Seeks, Gains, Drops, Stamps, Readies, Unreadies, Enters, Opens, EntersSleepQueue, OpensSleepQueue, Wakes, Marks, Resumes, Claims, Lends, Shifts, EndsWalk, Admits, Refuses, Halts, Aborts, after, after_all, maker}
-use Rattle.lock_state.specs.Steps.Items.{after_take, after_give}
-use Rattle.lock_state.specs.Steps.LockWords.{after_seek, after_look, after_gain, after_drop, after_stamp, after_ready, after_unready, begun_with}
-use Rattle.lock_state.specs.Steps.Turnstiles.{after_enter, after_open, after_mark, after_resume}
-use Rattle.lock_state.specs.Steps.SleepQueues.{after_enter_sleep, after_open_sleep, after_add, after_wake, after_abort}
-use Rattle.lock_state.specs.Steps.Lending.{after_claim, after_lend, after_shift, after_end_walk}
-use Rattle.lock_state.specs.Steps.Orders.{after_admit, after_refuse}
-use Rattle.lock_state.specs.Steps.Counting.{after_count_out, after_count_in, after_count_self_in, after_count_end, after_halt}
-use Rattle.sleep_laws.specs.Sleepers.{HaltNobody}
-use Rattle.lock_model.specs.Events.{OfSection, NoSection, BeginsIn, EndsFrom, LeftFor, TakenBack, facets}
-use Rattle.lock_laws.proofs.Kit.{at_put, put_other, put_at_other, put_at_row}
-use Rattle.lock_laws.proofs.OwnEntries.{other_sections}
-use Rattle.std.proofs.Common.{arith}
+use Rattle.run_laws.proofs.Names
+use Names.{ℕ, Bool, true, false, List, [], refl, sym, ap, ⊤, Config, sections_in, State, Running, Step, Seeks, Gains}
+use Names.{Drops, Stamps, Readies, Unreadies, Enters, Opens, EntersSleepQueue, OpensSleepQueue, Wakes, Marks, Resumes}
+use Names.{Claims, Lends, Shifts, EndsWalk, Admits, Refuses, Halts, Aborts, after, after_all, maker, after_take}
+use Names.{after_give, after_seek, after_look, after_gain, after_drop, after_stamp, after_ready, after_unready}
+use Names.{begun_with, after_enter, after_open, after_mark, after_resume, after_enter_sleep, after_open_sleep}
+use Names.{after_add, after_wake, after_abort, after_claim, after_lend, after_shift, after_end_walk, after_admit}
+use Names.{after_refuse, after_count_out, after_count_in, after_count_self_in, after_count_end, after_halt, HaltNobody}
+use Names.{OfSection, NoSection, BeginsIn, EndsFrom, LeftFor, TakenBack, facets, at_put, put_other, put_at_other}
+use Names.{put_at_row, other_sections, arith}
+use Rattle.std.proofs.Common.{◌≡◌, ◌∷◌, ◌∙◌}
 
 -- whether a step sets the halt word
 abbrev pub sets_halt : Step → Bool

@@ -1,32 +1,17 @@
 -- A run is never stuck on locks alone. A lock on whose queue a thread stands is held, by a thread that sleeps on too:
 -- on the queue of a lock to whose class an edge leads from that of the first, or on a channel's. Edges come to an
 -- end.
-use Rattle.std.proofs.Common.{◌≡◌, ◌≢◌, ℕ, zero, suc, ◌<◌, ◌≤◌, Bool, true, false, nat_le, ◌||◌, ◌&&◌, [], length, slice_get, Option, Some, None, refl, sym, ap, inl, inr, arith, eq-eqb, ◌∙◌, subst, not}
-use Rattle.std.proofs.lemmas.Bool.{cases_Bool, and_parts, or_cases, leb-true, not-true}
-use Rattle.std.proofs.lemmas.Option.{none-some, slice_get_past}
-use Rattle.lock_model.specs.Config.{Config}
-use Rattle.lock_model.specs.Counts.{sum_below, one, at_option}
-use Rattle.lock_model.specs.Holds.{Hold, Holds, is_unheld, is_exclusive}
-use Rattle.lock_model.specs.Operations.{IsProper}
-use Rattle.lock_model.specs.Orders.{IsEdge}
-use Rattle.lock_model.specs.Plans.{config_of, operations_of}
-use Rattle.lock_model.specs.Queues.{lock_queue, chan_queue, stands}
-use Rattle.lock_model.specs.Words.{Holder, Free, HeldBy, SharedBy, sharers}
-use Rattle.lock_model.specs.declared.plan.Mode.{Mode}
-use Rattle.lock_model.specs.declared.plan.Mode.TheVariants.{Excl, Shared}
-use Rattle.lock_model.specs.declared.plan.Plan.{Plan}
-use Rattle.lock_model.specs.declared.plan.QueueName.{QueueName}
-use Rattle.lock_model.specs.declared.plan.QueueName.TheVariants.{Lock, Chan}
-use Rattle.lock_state.specs.State.{State, Wait, Running, Queued, Woken}
-use Rattle.lock_state.specs.Facts.{Lawful, OnlyThreadsHold, WordsMatchHolders, owns, shares, FreeWordHasCalled, CalledWants, WokenWants, StandingIsUncalled, QueuedStands, WantsAreOrdered, OnlyLocksAreHeld}
-use Rattle.lock_state.specs.Facts.Sleeps.{WokenBySignal}
-use Rattle.lock_state.specs.Facts.Waits.{callers, calls_marked, calls_woken, busy}
-use Rattle.lock_state.specs.Run.{Run, has_ended, was_cut, owes, holds_none, waits_on, is_stuck, course_after}
-use Rattle.run_laws.specs.OnTrack.{IsOnTrack, IsSleeping, TakesLock}
-use Rattle.lock_laws.proofs.Kit.{sum_below-zero}
-use Rattle.lock_laws.proofs.Shown.{true-any_below, exclusive_is}
-use Rattle.sleep_laws.proofs.SleepFacts.Found.{sum_below-some}
-use Rattle.lock_laws.proofs.Derived.{shown}
+use Rattle.run_laws.proofs.Names
+use Names.{ℕ, zero, suc, Bool, true, false, nat_le, [], length, slice_get, Option, Some, None, refl, sym, ap, inl, inr}
+use Names.{arith, eq-eqb, subst, not, cases_Bool, and_parts, or_cases, leb-true, not-true, none-some, slice_get_past}
+use Names.{Config, sum_below, one, at_option, Hold, Holds, is_unheld, is_exclusive, IsProper, IsEdge, config_of}
+use Names.{operations_of, lock_queue, chan_queue, stands, Holder, Free, HeldBy, SharedBy, sharers, Mode, Excl, Shared}
+use Names.{Plan, QueueName, Lock, Chan, State, Wait, Running, Queued, Woken, Lawful, OnlyThreadsHold, WordsMatchHolders}
+use Names.{owns, shares, FreeWordHasCalled, CalledWants, WokenWants, StandingIsUncalled, QueuedStands, WantsAreOrdered}
+use Names.{OnlyLocksAreHeld, WokenBySignal, callers, calls_marked, calls_woken, busy, Run, has_ended, was_cut, owes}
+use Names.{holds_none, waits_on, is_stuck, course_after, IsOnTrack, IsSleeping, TakesLock, sum_below-zero}
+use Names.{true-any_below, exclusive_is, sum_below-some, shown}
+use Rattle.std.proofs.Common.{◌≡◌, ◌≢◌, ◌<◌, ◌≤◌, ◌||◌, ◌&&◌, ◌∙◌}
 use Rattle.run_laws.proofs.Reaching.{by_edges}
 use Rattle.run_laws.proofs.Turning.{behind_course}
 use Rattle.run_laws.proofs.Idle.{ended_unmarked, stuck_sleeps}

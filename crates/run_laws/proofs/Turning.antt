@@ -1,26 +1,13 @@
 -- Each step of a turn of a proper plan's thread may be made, and the turn leaves the run on track. So each run is on
 -- track, and each of its states is one that steps reach.
-use Rattle.std.proofs.Common.{◌≡◌, ℕ, zero, suc, ◌+◌, ◌<◌, ◌≤◌, Bool, true, false, not, cond, List, [], ◌∷◌, length, All, refl, arith, subst}
-use Rattle.std.specs.List.{range_with_len}
-use Rattle.std.proofs.lemmas.List.Elements.{All-nil, All-cons, All-head, All-tail, All-map, All-filter}
-use Rattle.lock_model.specs.Plans.{config_of}
-use Rattle.lock_model.specs.Operations.{IsProper}
-use Rattle.lock_model.specs.Config.{Config}
-use Rattle.lock_model.specs.History.{sections_in}
-use Rattle.lock_model.specs.Law.{HaltsOnlyWhenRunning, begins as leads_nowhere}
-use Rattle.lock_state.specs.State.{State, start_state}
-use Rattle.lock_state.specs.Steps.{Admits, MayAll, IsReachable, begins}
-use Rattle.lock_state.specs.Steps.Orders.{MayAdmit}
-use Rattle.lock_state.specs.Facts.{NothingIsOut, QueuedStands}
-use Rattle.lock_state.specs.Run.{Run, Action, Course, start_run, nothing, turn_of, run_behind, after_turns, course_after, has_ended, round_of, threads_of, with_turn, after_turn, go_on, is_over}
-use Rattle.lock_model.specs.declared.plan.Plan.{Plan}
-use Rattle.lock_model.specs.declared.numbers.LockNo.{LockNo}
-use Rattle.lock_model.specs.declared.turn.Turn.{Turn}
-use Rattle.lock_model.specs.declared.turn.Turn.TheVariants.{Idle, Ended}
-use Rattle.run_laws.specs.OnTrack.{IsOnTrack, admitted}
-use Rattle.sleep_laws.specs.Sleepers.{nobody}
-use Rattle.lock_laws.proofs.Steps.{all_reach}
-use Rattle.sleep_laws.proofs.SleepFacts.{begins as sleepers_begin}
+use Rattle.run_laws.proofs.Names
+use Names.{ℕ, zero, suc, Bool, true, false, not, cond, List, [], length, All, refl, arith, subst, range_with_len}
+use Names.{All-nil, All-cons, All-head, All-tail, All-map, All-filter, config_of, IsProper, Config, sections_in}
+use Names.{HaltsOnlyWhenRunning, leads_nowhere, State, start_state, Admits, MayAll, IsReachable, begins, MayAdmit}
+use Names.{NothingIsOut, QueuedStands, Run, Action, Course, start_run, nothing, turn_of, run_behind, after_turns}
+use Names.{course_after, has_ended, round_of, threads_of, with_turn, after_turn, go_on, is_over, Plan, LockNo, Turn}
+use Names.{Idle, Ended, IsOnTrack, admitted, nobody, all_reach, sleepers_begin, orders_begin, takes_begin}
+use Rattle.std.proofs.Common.{◌≡◌, ◌+◌, ◌<◌, ◌≤◌, ◌∷◌}
 use Rattle.lock_laws.proofs.StateAtStart as start
 use Rattle.run_laws.proofs.Follows.{led}
 use Rattle.run_laws.proofs.KeepingOrder.{action_keeps_order}
@@ -34,8 +21,6 @@ use Rattle.run_laws.proofs.TurnsOfNotes as noting
 use Rattle.run_laws.proofs.TurnsOfSleeps as sleeping
 use Rattle.run_laws.proofs.TurnsOfOrders as orders
 use Rattle.run_laws.proofs.OtherThreads.{own_steps}
-use Rattle.order_laws.proofs.OrderFacts.{begins as orders_begin}
-use Rattle.order_laws.proofs.TakeFacts.{begins as takes_begin}
 
 -- 1. The begin
 

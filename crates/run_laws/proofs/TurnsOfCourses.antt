@@ -1,7 +1,7 @@
 -- A course after so many turns: one turn more, and a run that is over.
-use Rattle.std.proofs.Common.{◌≡◌, ℕ, zero, suc, ◌+◌, ◌-◌, ◌≤◌, Bool, true, cond, add-one, refl, ap, ◌∙◌, arith}
-use Rattle.lock_state.specs.Run.{start_course, course_after, is_over, go_on, after_turn}
-use Rattle.lock_model.specs.declared.plan.Plan.{Plan}
+use Rattle.run_laws.proofs.Names.{ℕ, zero, suc, Bool, true, cond, add-one, refl, ap, arith, start_course, course_after}
+use Rattle.run_laws.proofs.Names.{is_over, go_on, after_turn, Plan}
+use Rattle.std.proofs.Common.{◌≡◌, ◌+◌, ◌-◌, ◌≤◌, ◌∙◌}
 
 -- the course behind no turn is the begin,
 pub none_made : (plan : Plan) → course_after plan 0 ≡ start_course plan

@@ -1,53 +1,23 @@
 -- The turns of a thread that takes or tries a lock, or takes one back after a wait: it gains or claims it, blocks, or
 -- finds it busy. Their steps may be made, and they leave the run on track.
-use Rattle.std.proofs.Common.{◌≡◌, ◌≢◌, ◌⊎◌, ℕ, suc, ◌<◌, Bool, true, false, cond, eqb, List, [], ◌∷◌, ◌++◌, length, Option, Some, None, option_map, refl, sym, ap, inl, inr, arith, ◌∙◌, subst}
-use Rattle.std.specs.Prelude.{unwrap_or}
-use Rattle.std.proofs.lemmas.Bool.{eqb-true}
-use Rattle.std.proofs.lemmas.Option.{none-some}
-use Rattle.lock_model.specs.Words.{is_plain, admits, bits_of}
-use Rattle.lock_model.specs.Plans.{config_of, lock_kind, operations_of}
-use Rattle.lock_model.specs.Operations.{IsProper, hold_in}
-use Rattle.lock_model.specs.Config.{Config}
-use Rattle.lock_model.specs.Holds.{Hold, NotHeld, Holds}
-use Rattle.lock_model.specs.Queues.{lock_queue}
-use Rattle.lock_model.specs.History.{Sections, sections_by, sections_in, open_in, left_in, replaced}
-use Rattle.lock_state.specs.State.{State, Queued, HeldLock, put, put_at, gained_order}
-use Rattle.lock_state.specs.Steps.{Step, Gains, Claims, Stamps, Readies, May, MayAll}
-use Rattle.lock_state.specs.Steps.Items.{IsOnItsWay}
-use Rattle.lock_state.specs.Steps.LockWords.{is_woken, Asks, begun_after, taking_after, entry_of, MayGain, MayStamp, after_look, after_gain, after_stamp, after_ready}
-use Rattle.lock_state.specs.Steps.SleepQueues.{has_slept, after_enter_sleep}
-use Rattle.lock_state.specs.Steps.Turnstiles.{MustWait, after_enter}
-use Rattle.lock_state.specs.Steps.Lending.{MayClaim, after_claim}
-use Rattle.lock_state.specs.Facts.{FreeMutexShowsNone}
-use Rattle.lock_state.specs.Facts.Sleeps.{is_signalled, signals_noted}
-use Rattle.lock_state.specs.Run.{Run, ends, does, finds_busy, waits_on, to_release, lock_of_wait, held_now}
-use Rattle.lock_model.specs.declared.plan.Kind.TheVariants.{Mtx}
-use Rattle.lock_model.specs.declared.plan.Mode.{Mode}
-use Rattle.lock_model.specs.declared.plan.Mode.TheVariants.{Excl}
-use Rattle.lock_model.specs.declared.plan.Op.{Op}
-use Rattle.lock_model.specs.declared.plan.Op.TheVariants.{Take, Try, Sleep}
-use Rattle.lock_model.specs.declared.plan.Plan.{Plan}
-use Rattle.lock_model.specs.declared.plan.QueueName.TheVariants.{Lock}
-use Rattle.lock_model.specs.declared.numbers.LockNo.{LockNo}
-use Rattle.lock_model.specs.declared.numbers.ChanNo.{ChanNo}
+use Rattle.run_laws.proofs.Names
+use Names.{ℕ, suc, Bool, true, false, cond, eqb, List, [], length, Option, Some, None, option_map, refl, sym, ap, inl}
+use Names.{inr, arith, subst, unwrap_or, eqb-true, none-some, is_plain, admits, bits_of, config_of, lock_kind}
+use Names.{operations_of, IsProper, hold_in, Config, Hold, NotHeld, Holds, lock_queue, Sections, sections_by}
+use Names.{sections_in, open_in, left_in, replaced, State, Queued, HeldLock, put, put_at, gained_order, Step, Gains}
+use Names.{Claims, Stamps, Readies, May, MayAll, IsOnItsWay, is_woken, Asks, begun_after, taking_after, entry_of}
+use Names.{MayGain, MayStamp, after_look, after_gain, after_stamp, after_ready, has_slept, after_enter_sleep, MustWait}
+use Names.{after_enter, MayClaim, after_claim, FreeMutexShowsNone, is_signalled, signals_noted, Run, ends, does}
+use Names.{finds_busy, waits_on, to_release, lock_of_wait, held_now, Mtx, Mode, Excl, Op, Take, Try, Sleep, Plan, Lock}
+use Names.{LockNo, ChanNo, Event, Entry, Held, IsOnTrack, IsAtOperation, AsleepAreOnTheirWay, ResumedSlept, columns}
+use Names.{put_same, put_at_same, IsClaim, is_claim, free_shows_none, refused_held, GainFits, gain_passes, PassesBlock}
+use Names.{try_passes, WaitFits, wait_fits, last_is, hold_in-push, gained_order-push, has_turnstile, has_sleep_queue}
+use Names.{shown_head, seen_again, one_channel, asleep, off_acting, unnoted_unhalted, signals_nowhere, own_section}
+use Rattle.std.proofs.Common.{◌≡◌, ◌≢◌, ◌⊎◌, ◌<◌, ◌∷◌, ◌++◌, ◌∙◌}
 use Rattle.lock_model.specs.declared.turn.StepKind.TheVariants as kind
-use Rattle.lock_model.specs.declared.event.Event.{Event}
 use Rattle.lock_model.specs.declared.event.Event.TheVariants as event
-use Rattle.lock_model.specs.declared.event.Entry.{Entry}
-use Rattle.lock_model.specs.declared.event.Held.{Held}
-use Rattle.run_laws.specs.OnTrack.{IsOnTrack, IsAtOperation}
-use Rattle.sleep_laws.specs.Sleepers.{AsleepAreOnTheirWay, ResumedSlept}
-use Rattle.lock_laws.proofs.Kit.{columns, put_same, put_at_same}
-use Rattle.lock_laws.proofs.Words.{IsClaim, is_claim, free_shows_none, refused_held}
-use Rattle.lock_laws.proofs.HeldLists.{GainFits, gain_passes, PassesBlock, try_passes, WaitFits, wait_fits, last_is, hold_in-push, gained_order-push}
-use Rattle.lock_laws.proofs.AtTurn.{has_turnstile, has_sleep_queue, shown_head, seen_again}
 use Rattle.run_laws.proofs.TurnsOfWaits.{given_up}
-use Rattle.sleep_laws.proofs.SleepFacts.Entries.{one_channel}
-use Rattle.sleep_laws.proofs.SleepFacts.Known.{asleep}
-use Rattle.sleep_laws.proofs.SleepFacts.Off.{off_acting, unnoted_unhalted}
-use Rattle.lock_laws.proofs.Dealt.{signals_nowhere}
 use Rattle.run_laws.proofs.OnTrack.{KeepsTrack, EndsWell, LetsGoOn, lets_go_on, goes_on, IsWhere, share_in, is_there, now_stands, not_running, put_at_own, noted_behind, none_unnoted, unnamed, acting, acting_in, ends_quietly, IsAwake, is_awake, awake_behind, before, behind, left, fit, are_locks, wants_none, wants_it}
-use Rattle.lock_laws.proofs.Sections.{own_section}
 use Rattle.run_laws.proofs.Actions.{Taking, anew, back, Gaining, by_taking, by_trying, Entering, on_turnstile, on_sleep_queue, lock_with, mode_left, its_mode}
 
 -- the section that an entry begins, beside the hold that changes

@@ -1,25 +1,11 @@
 -- The turns of a thread whose operation only makes an entry: the entry may be made, and the run stays on track.
-use Rattle.std.proofs.Common.{◌≡◌, ◌≢◌, ℕ, ◌<◌, true, false, length, Some, suc, refl, sym, ◌∙◌}
-use Rattle.std.proofs.lemmas.Bool.{not-true}
-use Rattle.lock_model.proofs.LeastCodes.{passed}
-use Rattle.lock_model.specs.Plans.{config_of}
-use Rattle.lock_model.specs.Operations.{IsProper, hold_in}
-use Rattle.lock_model.specs.Holds.{is_unheld, NotHeld, Holds, is_exclusive}
-use Rattle.lock_model.specs.Config.{Config}
-use Rattle.lock_model.specs.History.{open_in}
-use Rattle.lock_state.specs.State.{State, Running}
-use Rattle.lock_state.specs.Steps.{MayAll}
-use Rattle.lock_state.specs.Steps.LockWords.{Asks, changes_sections, after_stamp}
-use Rattle.lock_state.specs.Run.{Run, notes}
-use Rattle.lock_model.specs.declared.plan.Mode.TheVariants.{Excl}
-use Rattle.lock_model.specs.declared.plan.Op.{Op}
+use Rattle.run_laws.proofs.Names
+use Names.{ℕ, true, false, length, Some, suc, refl, sym, not-true, passed, config_of, IsProper, hold_in, is_unheld}
+use Names.{NotHeld, Holds, is_exclusive, Config, open_in, State, Running, MayAll, Asks, changes_sections, after_stamp}
+use Names.{Run, notes, Excl, Op, Plan, Event, IsOnTrack, IsAtOperation, exclusive_is, held_is}
+use Rattle.std.proofs.Common.{◌≡◌, ◌≢◌, ◌<◌, ◌∙◌}
 use Rattle.lock_model.specs.declared.plan.Op.TheVariants as operation
-use Rattle.lock_model.specs.declared.plan.Plan.{Plan}
 use Rattle.lock_model.specs.declared.turn.StepKind.TheVariants as kind
-use Rattle.lock_model.specs.declared.event.Event.{Event}
-use Rattle.run_laws.specs.OnTrack.{IsOnTrack, IsAtOperation}
-use Rattle.lock_laws.proofs.Shown.{exclusive_is}
-use Rattle.lock_laws.proofs.HeldLists.{held_is}
 use Rattle.run_laws.proofs.OnTrack.{KeepsTrack, LetsGoOn, lets_go_on, goes_on, ends_quietly, noted_behind, acting, awake, is_awake, all_open, holds_all, before, behind, left, fit, is_take, is_wait}
 use Rattle.run_laws.proofs.Actions.{Notes, sets, adds, gets, changes_base, shows}
 

@@ -1,38 +1,17 @@
 -- The first turn of a take: the order of its lock is checked. An admission may be made and leaves the run on track, and
 -- from there the turn goes on; a refusal may be made and noted, and cuts the thread.
-use Rattle.std.proofs.Common.{◌≡◌, ℕ, ◌<◌, true, false, List, [], ◌∷◌, length, take, Some, None, refl, sym, ap, arith, ◌∙◌, subst}
-use Rattle.std.specs.Prelude.{is_some}
-use Rattle.std.proofs.lemmas.List.{take_all}
-use Rattle.std.proofs.lemmas.Option.{none-some, same_Some}
-use Rattle.lock_model.specs.Plans.{config_of}
-use Rattle.lock_model.specs.Operations.{IsProper, hold_in}
-use Rattle.lock_model.specs.Config.{Config}
-use Rattle.lock_model.specs.History.{Sections}
-use Rattle.lock_model.specs.Holds.{NotHeld}
-use Rattle.lock_model.specs.Law.{HaltsOnlyWhenRunning}
-use Rattle.lock_model.specs.Orders.{IsAdmitted}
-use Rattle.lock_model.specs.Takes.{has_reversal}
-use Rattle.lock_model.proofs.Orders.{none_found, first_found}
-use Rattle.lock_state.specs.State.{State, OrderRefused, put, gained_order}
-use Rattle.lock_state.specs.Steps.{Stamps, Admits, Refuses, MayAll}
-use Rattle.lock_state.specs.Steps.Items.{TurnstileChain, SleepChain, RecordOf, CellOf, ClassGraph}
-use Rattle.lock_state.specs.Steps.LockWords.{MayStamp, entry_of, after_stamp}
-use Rattle.lock_state.specs.Steps.Orders.{IsFreeToTake, MayAdmit, classes_held, after_admit, after_refuse}
-use Rattle.lock_state.specs.Facts.{NothingIsOut}
-use Rattle.lock_state.specs.Run.{Run, does, waits_on}
-use Rattle.lock_model.specs.declared.numbers.LockNo.{LockNo}
-use Rattle.lock_model.specs.declared.plan.Mode.{Mode}
-use Rattle.lock_model.specs.declared.plan.Op.TheVariants.{Take}
-use Rattle.lock_model.specs.declared.plan.Plan.{Plan}
+use Rattle.run_laws.proofs.Names
+use Names.{ℕ, true, false, List, [], length, take, Some, None, refl, sym, ap, arith, subst, is_some, take_all}
+use Names.{none-some, same_Some, config_of, IsProper, hold_in, Config, Sections, NotHeld, HaltsOnlyWhenRunning}
+use Names.{IsAdmitted, has_reversal, none_found, first_found, State, OrderRefused, put, gained_order, Stamps, Admits}
+use Names.{Refuses, MayAll, TurnstileChain, SleepChain, RecordOf, CellOf, ClassGraph, MayStamp, entry_of, after_stamp}
+use Names.{IsFreeToTake, MayAdmit, classes_held, after_admit, after_refuse, NothingIsOut, Run, does, waits_on, LockNo}
+use Names.{Mode, Take, Plan, Event, Held, IsOnTrack, BeginsTake, admitted, first_against, put_same, GainFits}
+use Names.{gain_passes, sections_stay}
+use Rattle.std.proofs.Common.{◌≡◌, ◌<◌, ◌∷◌, ◌∙◌}
 use Rattle.lock_model.specs.declared.turn.StepKind.TheVariants as kind
-use Rattle.lock_model.specs.declared.event.Event.{Event}
 use Rattle.lock_model.specs.declared.event.Event.TheVariants as event
-use Rattle.lock_model.specs.declared.event.Held.{Held}
-use Rattle.run_laws.specs.OnTrack.{IsOnTrack, BeginsTake, admitted, first_against}
-use Rattle.lock_laws.proofs.Kit.{put_same}
-use Rattle.lock_laws.proofs.HeldLists.{GainFits, gain_passes}
 use Rattle.run_laws.proofs.LastHeld.{length-gained}
-use Rattle.lock_laws.proofs.OwnEntries.{sections_stay}
 use Rattle.run_laws.proofs.OnTrack.{KeepsTrack, NoneOut, waits_back, IsAwake, IsWhere, is_awake, is_led, share_in, there_wanting, stays_on_track, noted_behind, none_unnoted, acting_in, before, behind, fit, holds_all, all_listed, all_open}
 
 -- nothing is out still once the class graph is home

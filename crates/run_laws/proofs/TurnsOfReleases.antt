@@ -1,40 +1,21 @@
 -- The turns of a thread that gives a lock back, by an operation, after it went to sleep with it or after it was cut:
 -- their steps may be made, and they leave the run on track.
-use Rattle.std.proofs.Common.{◌≡◌, ◌≢◌, ℕ, suc, ◌<◌, Bool, true, false, cond, eqb, List, [], ◌∷◌, length, take, slice_get, Option, Some, None, option_map, refl, sym, ap, eq-eqb, ◌∙◌, subst}
-use Rattle.std.proofs.lemmas.Option.{none-some}
-use Rattle.lock_model.specs.Words.{Word, is_free, is_drop, is_turnstile, without_one, shows_waiters}
-use Rattle.lock_model.specs.Plans.{config_of, operations_of}
-use Rattle.lock_model.specs.Operations.{IsProper, hold_in, without_lock}
-use Rattle.lock_model.specs.Config.{Config}
-use Rattle.lock_model.specs.Holds.{Hold, NotHeld, Holds, is_unheld}
-use Rattle.lock_model.specs.Queues.{lock_queue}
-use Rattle.lock_model.specs.History.{open_in}
-use Rattle.lock_model.specs.Law.{HaltsOnlyWhenRunning}
-use Rattle.lock_model.specs.Takes.{has_reversal}
-use Rattle.lock_state.specs.State.{State, HeldLock, Running, put, put_at, gained_order}
-use Rattle.lock_state.specs.Steps.{Step, Stamps, May, MayAll, after, AsksOfSleepers}
-use Rattle.lock_state.specs.Steps.LockWords.{without_held, entry_of, after_drop, after_stamp}
-use Rattle.lock_state.specs.Steps.Turnstiles.{IsLastHolder, after_open}
-use Rattle.lock_state.specs.Steps.SleepQueues.{after_open_sleep}
-use Rattle.lock_state.specs.Facts.{QueuedStands, StandingWants, OnlyLocksAreHeld}
-use Rattle.lock_state.specs.Run.{Run, ends, does, mode_held, was_cut, waits_on, lock_of_wait, owed_release, to_release, without_unheld}
-use Rattle.lock_model.specs.declared.plan.Mode.{Mode}
-use Rattle.lock_model.specs.declared.plan.Op.TheVariants.{Release}
-use Rattle.lock_model.specs.declared.plan.Plan.{Plan}
-use Rattle.lock_model.specs.declared.numbers.LockNo.{LockNo}
-use Rattle.lock_model.specs.declared.turn.StepKind.{StepKind}
+use Rattle.run_laws.proofs.Names
+use Names.{ℕ, suc, Bool, true, false, cond, eqb, List, [], length, take, slice_get, Option, Some, None, option_map}
+use Names.{refl, sym, ap, eq-eqb, subst, none-some, Word, is_free, is_drop, is_turnstile, without_one, shows_waiters}
+use Names.{config_of, operations_of, IsProper, hold_in, without_lock, Config, Hold, NotHeld, Holds, is_unheld}
+use Names.{lock_queue, open_in, HaltsOnlyWhenRunning, has_reversal, State, HeldLock, Running, put, put_at, gained_order}
+use Names.{Step, Stamps, May, MayAll, after, AsksOfSleepers, without_held, entry_of, after_drop, after_stamp}
+use Names.{IsLastHolder, after_open, after_open_sleep, QueuedStands, StandingWants, OnlyLocksAreHeld, Run, ends, does}
+use Names.{mode_held, was_cut, waits_on, lock_of_wait, owed_release, to_release, without_unheld, Mode, Release, Plan}
+use Names.{LockNo, StepKind, Held, IsOnTrack, OwesNothing, IsAtOperation, IsCutShort, TakesLock, by_turn, put_same}
+use Names.{Apart, release_fits, still_unheld, hold_in-without, gained_order-without, own_section, arith}
+use Rattle.std.proofs.Common.{◌≡◌, ◌≢◌, ◌<◌, ◌∷◌, ◌∙◌}
 use Rattle.lock_model.specs.declared.event.Event.TheVariants as event
-use Rattle.lock_model.specs.declared.event.Held.{Held}
-use Rattle.run_laws.specs.OnTrack.{IsOnTrack, OwesNothing, IsAtOperation, IsCutShort, TakesLock}
-use Rattle.sleep_laws.specs.Sleepers.{by_turn}
-use Rattle.lock_laws.proofs.Kit.{put_same}
-use Rattle.lock_laws.proofs.HeldLists.{Apart, release_fits, still_unheld, hold_in-without, gained_order-without}
 use Rattle.run_laws.proofs.LastHeld.{GivesLast, gives_last, apart-take}
 use Rattle.run_laws.proofs.OnTrack.{KeepsTrack, EndsWell, NoneOut, IsWhere, share_in, goes_on, put_at_own, noted_behind, none_unnoted, unnamed, acting, IsAwake, lets_go_on, is_awake, awake_behind, cut_no_wait, waits_uncut, before, behind, left, fit, are_locks, holds_all, all_listed, all_open, wants_none}
-use Rattle.lock_laws.proofs.Sections.{own_section}
 use Rattle.run_laws.proofs.Actions.{GivingBack, its_mode}
 use Rattle.run_laws.proofs.Actions as actions
-use Rattle.std.proofs.Common.{arith}
 
 -- what a release that is no drop finds
 open_finds : (w : Word) → is_drop w ≡ false → (is_free (without_one w.holder) ≡ true) × (shows_waiters w ≡ true)

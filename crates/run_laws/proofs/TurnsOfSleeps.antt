@@ -1,38 +1,18 @@
 -- The turns of a thread that goes to sleep on a channel, or wakes sleepers: their steps may be made, and they leave
 -- the run on track.
-use Rattle.std.proofs.Common.{◌≡◌, ◌≢◌, ℕ, suc, ◌<◌, Bool, false, cond, eqb, List, [], ◌∷◌, length, map, Option, Some, None, refl, sym, ap, eq-eqb, ◌∙◌, subst}
-use Rattle.std.specs.Prelude.{unwrap_or}
-use Rattle.std.proofs.lemmas.Bool.{ne_eqb}
-use Rattle.std.proofs.lemmas.Option.{none-some, same_Some}
-use Rattle.lock_model.specs.Plans.{config_of}
-use Rattle.lock_model.specs.Operations.{IsProper, hold_in, without_lock}
-use Rattle.lock_model.specs.Config.{Config}
-use Rattle.lock_model.specs.Holds.{NotHeld}
-use Rattle.lock_model.specs.Queues.{Waiter, chan_queue, taken_off}
-use Rattle.lock_model.specs.Law.{HaltsOnlyWhenRunning}
-use Rattle.lock_model.specs.Takes.{has_reversal}
-use Rattle.lock_model.specs.History.{Sections, open_in, sections_in}
-use Rattle.lock_state.specs.State.{State, Queued, Wake, put, gained_order}
-use Rattle.lock_state.specs.Steps.{Readies, Stamps, Adds, MayAll}
-use Rattle.lock_state.specs.Steps.LockWords.{Asks, IsTheWake, is_woken, bits_of_threads, changes_sections, unstamped_after, MayStamp, after_ready, after_stamp}
-use Rattle.lock_state.specs.Steps.SleepQueues.{MayAdd, has_slept, after_add, after_wake}
-use Rattle.lock_state.specs.Run.{Run, does, mode_held, was_cut, waits_on, wakes, without_unheld}
-use Rattle.lock_model.specs.declared.plan.Mode.{Mode}
-use Rattle.lock_model.specs.declared.plan.Op.{Op}
-use Rattle.lock_model.specs.declared.plan.Op.TheVariants.{Sleep, WakeOne, WakeAll}
-use Rattle.lock_model.specs.declared.plan.Plan.{Plan}
-use Rattle.lock_model.specs.declared.plan.QueueName.TheVariants.{Chan}
-use Rattle.lock_model.specs.declared.numbers.ChanNo.{ChanNo}
+use Rattle.run_laws.proofs.Names
+use Names.{ℕ, suc, Bool, false, cond, eqb, List, [], length, map, Option, Some, None, refl, sym, ap, eq-eqb, subst}
+use Names.{unwrap_or, ne_eqb, none-some, same_Some, config_of, IsProper, hold_in, without_lock, Config, NotHeld, Waiter}
+use Names.{chan_queue, taken_off, HaltsOnlyWhenRunning, has_reversal, Sections, open_in, sections_in, State, Queued}
+use Names.{Wake, put, gained_order, Readies, Stamps, Adds, MayAll, Asks, IsTheWake, is_woken, bits_of_threads}
+use Names.{changes_sections, unstamped_after, MayStamp, after_ready, after_stamp, MayAdd, has_slept, after_add}
+use Names.{after_wake, Run, does, mode_held, was_cut, waits_on, wakes, without_unheld, Mode, Op, Sleep, WakeOne}
+use Names.{WakeAll, Plan, Chan, ChanNo, Event, Held, IsOnTrack, IsAtOperation, put_same, WaitFits, wait_fits, wake_fits}
+use Names.{last_is, gained_order-push, has_sleep_queue, own_sections_by}
+use Rattle.std.proofs.Common.{◌≡◌, ◌≢◌, ◌<◌, ◌∷◌, ◌∙◌}
 use Rattle.lock_model.specs.declared.turn.StepKind.TheVariants as kind
-use Rattle.lock_model.specs.declared.event.Event.{Event}
 use Rattle.lock_model.specs.declared.event.Event.TheVariants as event
-use Rattle.lock_model.specs.declared.event.Held.{Held}
-use Rattle.run_laws.specs.OnTrack.{IsOnTrack, IsAtOperation}
-use Rattle.lock_laws.proofs.Kit.{put_same}
-use Rattle.lock_laws.proofs.HeldLists.{WaitFits, wait_fits, wake_fits, last_is, gained_order-push}
-use Rattle.lock_laws.proofs.AtTurn.{has_sleep_queue}
 use Rattle.run_laws.proofs.OnTrack.{KeepsTrack, IsWhere, LetsGoOn, lets_go_on, share_in, not_running, goes_on, ends_quietly, now_stands, noted_behind, none_unnoted, unnamed, acting_in, IsAwake, before, behind, left, fit, are_locks, holds_all, all_listed, all_open, wants_none, is_take, is_wait}
-use Rattle.lock_laws.proofs.Sections.{own_sections_by}
 use Rattle.run_laws.proofs.Actions.{Waking, of_one, of_all, lock_with, its_mode}
 
 module _ (plan : Plan) (r : Run) (t : ℕ) (p : IsProper plan) (k : IsOnTrack plan r) (lt : t < length plan.threads) where

@@ -1,27 +1,13 @@
 -- The turns of a thread with a marked list, and of a woken one: their steps may be made, and leave the run on track.
-use Rattle.std.proofs.Common.{◌≡◌, ◌≢◌, ℕ, ◌<◌, true, List, [], ◌∷◌, length, Option, Some, None, refl, sym, ap, ◌∙◌, subst}
-use Rattle.std.proofs.lemmas.Option.{same_Some}
-use Rattle.lock_model.specs.Holds.{Hold, NotHeld}
-use Rattle.lock_model.specs.Plans.{config_of}
-use Rattle.lock_model.specs.Config.{Config}
-use Rattle.lock_model.specs.Queues.{Mark, Cause, BySignal, chan_queue}
-use Rattle.lock_state.specs.State.{State, Queued, Running, Woken, put}
-use Rattle.lock_state.specs.Steps.{Marks, Resumes}
-use Rattle.lock_state.specs.Steps.LockWords.{is_taking_back}
-use Rattle.lock_state.specs.Steps.SleepQueues.{has_slept}
-use Rattle.lock_state.specs.Steps.Turnstiles.{MayMark, MayResume, HasReleased, wanted_after, taking_by, noted_after, after_mark, after_resume}
-use Rattle.lock_state.specs.Facts.{QueuedStands, WokenWants}
-use Rattle.lock_state.specs.Facts.Sleeps.{WokenSlept, WokenBySignal}
-use Rattle.lock_state.specs.Run.{Run, waits_on, to_release, does}
-use Rattle.lock_model.specs.declared.event.Entry.{Entry}
-use Rattle.lock_model.specs.declared.plan.Plan.{Plan}
-use Rattle.lock_model.specs.declared.plan.QueueName.{QueueName}
-use Rattle.lock_model.specs.declared.plan.QueueName.TheVariants.{Lock, Chan}
+use Rattle.run_laws.proofs.Names
+use Names.{ℕ, true, List, [], length, Option, Some, None, refl, sym, ap, subst, same_Some, Hold, NotHeld, config_of}
+use Names.{Config, Mark, Cause, BySignal, chan_queue, State, Queued, Running, Woken, put, Marks, Resumes}
+use Names.{is_taking_back, has_slept, MayMark, MayResume, HasReleased, wanted_after, taking_by, noted_after, after_mark}
+use Names.{after_resume, QueuedStands, WokenWants, WokenSlept, WokenBySignal, Run, waits_on, to_release, does, Entry}
+use Names.{Plan, QueueName, Lock, Chan, IsOnTrack, OwesNothing, at_put, put_same, put_other, each_place, arith}
+use Rattle.std.proofs.Common.{◌≡◌, ◌≢◌, ◌<◌, ◌∷◌, ◌∙◌}
 use Rattle.lock_model.specs.declared.turn.StepKind.TheVariants as kind
-use Rattle.run_laws.specs.OnTrack.{IsOnTrack, OwesNothing}
-use Rattle.lock_laws.proofs.Kit.{at_put, put_same, put_other, each_place}
 use Rattle.run_laws.proofs.OnTrack.{KeepsTrack, MayWant, none_unnoted, is_there, there_wanting, waits_uncut}
-use Rattle.std.proofs.Common.{arith}
 
 -- a thread whose newest entry is the Sleeps entry of a channel waits there
 pub slept_waits : (d : ℕ) (es : List Entry) → has_slept d es ≡ true → waits_on es ≡ Some d

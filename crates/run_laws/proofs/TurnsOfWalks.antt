@@ -1,22 +1,12 @@
 -- The turns of a thread with a walk: their steps may be made, and they leave the run on track.
-use Rattle.std.proofs.Common.{◌≡◌, ◌⊎◌, ℕ, ◌<◌, true, false, ltb, [], ◌∷◌, length, Some, None, sym, arith, ◌∙◌, subst}
-use Rattle.std.proofs.lemmas.Bool.{ltb-true, ltb-false, and_parts}
-use Rattle.lock_model.specs.Words.{is_turnstile, owner_of}
-use Rattle.lock_model.specs.Plans.{config_of}
-use Rattle.lock_model.specs.Operations.{IsProper}
-use Rattle.lock_model.specs.Config.{Config}
-use Rattle.lock_model.specs.Queues.{lock_queue, stands}
-use Rattle.lock_state.specs.State.{State, Walk, AtLock, AtThread}
-use Rattle.lock_state.specs.Steps.{Lends, Shifts, EndsWalk}
-use Rattle.lock_state.specs.Steps.Lending.{MayLend, MayShift, MayEndWalk, IsAtEnd, after_lend, after_shift, after_end_walk}
-use Rattle.lock_state.specs.Facts.{OwnersHold}
-use Rattle.lock_state.specs.Run.{Run, does}
-use Rattle.lock_model.specs.declared.plan.Plan.{Plan}
-use Rattle.lock_model.specs.declared.plan.QueueName.TheVariants.{Lock}
-use Rattle.lock_model.specs.declared.numbers.LockNo.{LockNo}
+use Rattle.run_laws.proofs.Names
+use Names.{ℕ, true, false, ltb, [], length, Some, None, sym, arith, subst, ltb-true, ltb-false, and_parts, is_turnstile}
+use Names.{owner_of, config_of, IsProper, Config, lock_queue, stands, State, Walk, AtLock, AtThread, Lends, Shifts}
+use Names.{EndsWalk, MayLend, MayShift, MayEndWalk, after_lend, after_shift, after_end_walk, OwnersHold, Run, does}
+use Names.{Plan, Lock, LockNo, IsOnTrack, head_lock}
+use Rattle.std.proofs.Common.{◌≡◌, ◌⊎◌, ◌<◌, ◌∷◌, ◌∙◌}
+use Rattle.lock_state.specs.Steps.Lending.{IsAtEnd}
 use Rattle.lock_model.specs.declared.turn.StepKind.TheVariants as kind
-use Rattle.run_laws.specs.OnTrack.{IsOnTrack}
-use Rattle.lock_laws.proofs.HeadsAndNodes.{head_lock}
 use Rattle.run_laws.proofs.OnTrack.{KeepsTrack, none_unnoted, is_there}
 use Rattle.run_laws.proofs.Actions.{stands_at}
 

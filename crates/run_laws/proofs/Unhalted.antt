@@ -1,35 +1,17 @@
 -- In a scheduled run nobody is halted, and no waking passes over a sleeper: that would be passed over to the end, since
 -- its next entry would tell of a halt, and nobody was aborted. So the end of the history is a moment from which its
 -- halts come.
-use Rattle.std.proofs.Common.{◌≡◌, ℕ, Bool, true, false, List, [], ◌∷◌, length, refl, sym, ap, inl, inr, eq-eqb, arith, subst}
-use Rattle.std.proofs.lemmas.Bool.{cases_eq, cases_Bool, ne_eqb}
-use Rattle.lock_model.specs.Config.{Config}
-use Rattle.lock_model.specs.Events.{of_sleep, is_waking_of, sleeps_on}
-use Rattle.lock_model.specs.Halts.{HaltsAreHonest}
-use Rattle.lock_model.specs.History.{entries_of}
-use Rattle.lock_model.specs.Law.{LeadsTo, Gives, Point, Before, Asleep, Cut, WakingsNameSleepers, HaltsOnlyWhenRunning, is_asleep, is_passed_over, passes_over}
+use Rattle.run_laws.proofs.Names
+use Names.{ℕ, Bool, true, false, List, [], length, refl, sym, ap, inl, inr, eq-eqb, arith, subst, cases_eq, cases_Bool}
+use Names.{ne_eqb, Config, of_sleep, is_waking_of, sleeps_on, HaltsAreHonest, entries_of, LeadsTo, Gives, Point, Before}
+use Names.{Asleep, Cut, WakingsNameSleepers, HaltsOnlyWhenRunning, is_asleep, is_passed_over, passes_over, held_of}
+use Names.{config_of, operations_of, BySignal, ByAbort, Mark, Kind, Op, Plan, Lock, Chan, Entry, Event, Woke}
+use Names.{HaltedChan, Unlocked, Held, NobodyIsHalted, AreSignals, aborts, is_aborted, is_chan_halt, aborted, Run, Wait}
+use Names.{Running, Queued, Woken, has_slept, IsOnTrack, point_in, MarksAreSignals, PassedOverAreAborted, off}
+use Names.{asleep_slept, sum_below-zero, none_since, halts_to_come}
+use Rattle.std.proofs.Common.{◌≡◌, ◌∷◌}
 use Rattle.lock_model.specs.Law as law
-use Rattle.lock_model.specs.Operations.{held_of}
-use Rattle.lock_model.specs.Plans.{config_of, operations_of}
-use Rattle.lock_model.specs.Queues.{BySignal, ByAbort, Mark}
-use Rattle.lock_model.specs.declared.plan.Kind.{Kind}
-use Rattle.lock_model.specs.declared.plan.Op.{Op}
-use Rattle.lock_model.specs.declared.plan.Plan.{Plan}
-use Rattle.lock_model.specs.declared.plan.QueueName.TheVariants.{Lock, Chan}
-use Rattle.lock_model.specs.declared.event.Entry.{Entry}
-use Rattle.lock_model.specs.declared.event.Event.{Event}
-use Rattle.lock_model.specs.declared.event.Event.TheVariants.{Woke, HaltedChan, Unlocked}
-use Rattle.lock_model.specs.declared.event.Held.{Held}
-use Rattle.lock_state.specs.Facts.Halts.{NobodyIsHalted}
-use Rattle.lock_state.specs.Facts.Sleeps.{AreSignals, aborts, is_aborted, is_chan_halt, aborted}
-use Rattle.lock_state.specs.Run.{Run}
-use Rattle.lock_state.specs.State.{Wait, Running, Queued, Woken}
-use Rattle.lock_state.specs.Steps.SleepQueues.{has_slept}
-use Rattle.run_laws.specs.OnTrack.{IsOnTrack, point_in}
-use Rattle.sleep_laws.specs.Sleepers.{MarksAreSignals, WokenBySignal, PassedOverAreAborted, off}
-use Rattle.sleep_laws.proofs.SleepFacts.Entries.{asleep_slept}
-use Rattle.lock_laws.proofs.Kit.{sum_below-zero}
-use Rattle.count_laws.proofs.Moments.{none_since, halts_to_come}
+use Rattle.sleep_laws.specs.Sleepers.{WokenBySignal}
 
 -- 1. A thread that sleeps makes no waking
 

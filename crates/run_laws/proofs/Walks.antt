@@ -1,20 +1,13 @@
 -- A walk begins at a turnstile and goes on to turnstiles.
-use Rattle.std.proofs.Common.{◌≡◌, ℕ, Bool, true, false, List, [], ◌∷◌, Option}
-use Rattle.lock_model.specs.Config.{Config}
-use Rattle.lock_model.specs.Queues.{lock_queue}
-use Rattle.lock_model.specs.Words.{is_turnstile, owner_of}
-use Rattle.lock_state.specs.State.{State, Walk, NoWalk, AtLock, put}
-use Rattle.lock_state.specs.Steps.{Step, Enters, Lends, Shifts, EndsWalk, May, MayAll, after, after_all}
-use Rattle.lock_state.specs.Steps.Items.{after_take, after_give}
-use Rattle.lock_state.specs.Steps.LockWords.{after_seek, after_look, after_gain, after_drop, after_stamp, after_ready, after_unready}
-use Rattle.lock_state.specs.Steps.Turnstiles.{walk_up, after_enter, after_open, after_mark, after_resume}
-use Rattle.lock_state.specs.Steps.SleepQueues.{after_enter_sleep, after_open_sleep, after_add, after_wake, after_abort}
-use Rattle.lock_state.specs.Steps.Lending.{walk_to, after_claim, after_lend, after_shift, after_end_walk}
-use Rattle.lock_state.specs.Steps.Orders.{after_admit, after_refuse}
-use Rattle.lock_state.specs.Steps.Counting.{after_count_out, after_count_in, after_count_self_in, after_count_end, after_halt}
-use Rattle.run_laws.specs.OnTrack.{WalksAtTurnstiles}
-use Rattle.lock_laws.proofs.Kit.{at_put}
-use Rattle.std.proofs.Common.{arith}
+use Rattle.run_laws.proofs.Names
+use Names.{ℕ, Bool, true, false, List, [], Option, Config, lock_queue, is_turnstile, owner_of, State, Walk, NoWalk}
+use Names.{AtLock, put, Step, Enters, Lends, Shifts, EndsWalk, May, MayAll, after, after_all, after_take, after_give}
+use Names.{after_seek, after_look, after_gain, after_drop, after_stamp, after_ready, after_unready, walk_up}
+use Names.{after_enter, after_open, after_mark, after_resume, after_enter_sleep, after_open_sleep, after_add}
+use Names.{after_wake, after_abort, walk_to, after_claim, after_lend, after_shift, after_end_walk, after_admit}
+use Names.{after_refuse, after_count_out, after_count_in, after_count_self_in, after_count_end, after_halt}
+use Names.{WalksAtTurnstiles, at_put, arith}
+use Rattle.std.proofs.Common.{◌≡◌, ◌∷◌}
 
 module _ (c : Config) (s : State) (h : WalksAtTurnstiles c s.walk) where
   -- one thread's walk goes on

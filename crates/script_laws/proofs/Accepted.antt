@@ -1,36 +1,22 @@
 -- An accepted script's plan is proper: it keeps the limits, its schedule names its threads, and the operations of
 -- each thread fit what the thread holds. Each line that has no fault keeps what is known sound.
-use Rattle.std.proofs.Common.{◌≡◌, ℕ, suc, ◌+◌, ◌<◌, ◌≤◌, max, Bool, true, false, not, ◌||◌, cond, List, [], ◌∷◌, ◌++◌, length, Option, Some, None, refl, sym, ap, subst, ◌∙◌, arith, length-append}
-use Rattle.std.specs.Prelude.{map, sum, codes, option_and_then, option_to_list, is_none, is_some, unwrap_or, if◌then◌else◌}
-use Rattle.std.specs.List.{All, list_any, prefix_len}
-use Rattle.std.specs.Option.{IfSome}
-use Rattle.std.specs.Map.{lookup}
-use Rattle.std.proofs.lemmas.Option.{none-some, same_Some, option_and_then_some}
-use Rattle.std.proofs.lemmas.Bool.{and_parts, ltb-true, leb-true, false≢true}
-use Rattle.std.proofs.lemmas.List.{length-set}
-use Rattle.std.proofs.lemmas.List.Elements.{All-nil, All-cons, All-head, All-tail, All-same, All-push, All-weaker, All-append}
-use Rattle.lock_model.specs.Limits.{most_threads, most_locks, most_channels, most_classes, most_operations, most_scheduled}
-use Rattle.lock_model.specs.Counts.{is_empty}
-use Rattle.lock_model.specs.Names.{is_name}
-use Rattle.lock_model.specs.Operations.{operation_tests, Fit, IsProper}
-use Rattle.lock_model.specs.Tests.{test, Passes, where_some, first_fault}
-use Rattle.lock_model.proofs.LeastCodes.{passed, passed_both}
-use Rattle.lock_model.specs.Script.{Reading, Reads, Faulty, told, plan_of, faulty_or, reading_from, reading_of_lines, reading_of, IsAccepted}
-use Rattle.lock_model.specs.Script.Lines.{lines_of, is_same, has_meaning}
-use Rattle.lock_model.specs.Script.Statements.{Statement, Declares, DeclaresChan, Begins, Ends, Schedules, IsDone, Operates, EndsTry, Operation, statement_of}
-use Rattle.lock_model.specs.Script.Learning.{Known, OpenThread, Block, nothing_known, learned, with_class, with_lock, with_chan, with_thread, with_end, with_operation, with_endtry, without_block, op_of, lock_of, lock_named, thread_named, threads_named, thread_of, declared_as, class_number}
-use Rattle.lock_model.specs.Script.Faults.{byte_tests, word_tests, place_tests, name_tests, statement_stages, line_fault, behind_line, learned_from, operation_words, tests_in_thread, endtry_tests, is_before_threads, is_in_block, has_room}
-use Rattle.lock_model.specs.declared.plan.Declared.{Declared}
-use Rattle.lock_model.specs.declared.plan.Declared.TheVariants.{Lock, Chan, Thread}
-use Rattle.lock_model.specs.declared.plan.Kind.{Kind}
-use Rattle.lock_model.specs.declared.plan.ThreadDecl.{ThreadDecl}
-use Rattle.lock_model.specs.declared.plan.LockDecl.{LockDecl}
-use Rattle.lock_model.specs.declared.plan.ChanDecl.{ChanDecl}
-use Rattle.lock_model.specs.declared.numbers.LockNo.{LockNo}
-use Rattle.lock_model.specs.declared.numbers.ThreadNo.{ThreadNo}
-use Rattle.lock_model.specs.declared.plan.Plan.{Plan}
-use Rattle.lock_model.specs.declared.plan.Op.{Op}
-use Rattle.lock_model.specs.declared.plan.Op.TheVariants.{EndTry}
+use Rattle.script_laws.proofs.Names
+use Names.{ℕ, suc, max, Bool, true, false, not, cond, List, [], length, Option, Some, None, refl, sym, ap, subst, arith}
+use Names.{length-append, map, sum, codes, option_and_then, option_to_list, is_none, is_some, unwrap_or, All, list_any}
+use Names.{prefix_len, IfSome, lookup, none-some, same_Some, option_and_then_some, and_parts, ltb-true, leb-true}
+use Names.{false≢true, length-set, All-nil, All-cons, All-head, All-tail, All-same, All-push, All-weaker, All-append}
+use Names.{most_threads, most_locks, most_channels, most_classes, most_operations, most_scheduled, is_empty, is_name}
+use Names.{operation_tests, Fit, IsProper, test, Passes, where_some, first_fault, passed, passed_both, Reading, Reads}
+use Names.{Faulty, told, plan_of, faulty_or, reading_from, reading_of_lines, reading_of, IsAccepted, lines_of, is_same}
+use Names.{has_meaning, Statement, Declares, DeclaresChan, Begins, Ends, Schedules, IsDone, Operates, EndsTry}
+use Names.{Operation, statement_of, Known, OpenThread, Block, nothing_known, learned, with_class, with_lock, with_chan}
+use Names.{with_thread, with_end, with_operation, with_endtry, without_block, op_of, lock_of, lock_named, thread_named}
+use Names.{threads_named, thread_of, declared_as, class_number, byte_tests, word_tests, place_tests, name_tests}
+use Names.{statement_stages, line_fault, behind_line, learned_from, operation_words, tests_in_thread, endtry_tests}
+use Names.{is_before_threads, is_in_block, has_room, Declared, Lock, Chan, Thread, Kind, ThreadDecl, LockDecl, ChanDecl}
+use Names.{LockNo, ThreadNo, Plan, Op, EndTry}
+use Rattle.std.proofs.Common.{◌≡◌, ◌+◌, ◌<◌, ◌≤◌, ◌||◌, ◌∷◌, ◌++◌, ◌∙◌}
+use Rattle.std.specs.Prelude.{if◌then◌else◌}
 use Rattle.script_laws.proofs.AcceptedBlocks.{IsSoundOpen, IsNew, begin_sound, operation_push, endtry_sound, end_fits}
 use Rattle.script_laws.proofs.AcceptedLists.{none_is, empty_is, stages_pass, sum_push, read_all}
 

@@ -1,24 +1,15 @@
 -- The operations of a thread whose `end` hasn't come: each passes its tests on what those before it lead to, and each
 -- try's block is closed by its endtry, or is one of those that are open. One operation more keeps that, and so does
 -- an endtry, which closes the innermost block.
-use Rattle.std.proofs.Common.{◌≡◌, ◌≢◌, ℕ, zero, suc, ◌+◌, ◌<◌, ◌≤◌, Bool, true, false, List, [], ◌∷◌, ◌++◌, length, take, slice_get, slice_set, Some, None, refl, sym, ap, subst, ◌∙◌, inl, inr, arith, length-append}
+use Rattle.script_laws.proofs.Names
+use Names.{ℕ, zero, suc, Bool, true, false, List, [], length, take, slice_get, slice_set, Some, None, refl, sym, ap}
+use Names.{subst, inl, inr, arith, length-append, list_any, pointwise, same_Some, slice_get_within, slice_get_past}
+use Names.{cases_eq, eq-eqb, ne_eqb, true≢false, or_left, or_from, take_all, take-append-le, set-append_left}
+use Names.{length-set, held_behind, held_through, held_of, operation_tests, IsBlock, EndsBlock, AreNested, Fit, Passes}
+use Names.{least_code, OpenThread, Block, blocks_behind, without_block, is_same_held, Held, LockNo, Mode, LockDecl}
+use Names.{ChanDecl, Op, Try, EndTry}
+use Rattle.std.proofs.Common.{◌≡◌, ◌≢◌, ◌+◌, ◌<◌, ◌≤◌, ◌∷◌, ◌++◌, ◌∙◌}
 use Rattle.std.specs.Prelude.{◌==◌}
-use Rattle.std.specs.List.{list_any}
-use Rattle.std.specs.Cmp.Lexicographic.{pointwise}
-use Rattle.std.proofs.lemmas.Option.{same_Some, slice_get_within, slice_get_past}
-use Rattle.std.proofs.lemmas.Bool.{cases_eq, eq-eqb, ne_eqb, true≢false, or_left, or_from}
-use Rattle.std.proofs.lemmas.List.{take_all, take-append-le, set-append_left, length-set}
-use Rattle.lock_model.specs.Operations.{held_behind, held_through, held_of, operation_tests, IsBlock, EndsBlock, AreNested, Fit}
-use Rattle.lock_model.specs.Tests.{Passes, least_code}
-use Rattle.lock_model.specs.Script.Learning.{OpenThread, Block, blocks_behind, without_block}
-use Rattle.lock_model.specs.Script.Faults.{is_same_held}
-use Rattle.lock_model.specs.declared.event.Held.{Held}
-use Rattle.lock_model.specs.declared.numbers.LockNo.{LockNo}
-use Rattle.lock_model.specs.declared.plan.Mode.{Mode}
-use Rattle.lock_model.specs.declared.plan.LockDecl.{LockDecl}
-use Rattle.lock_model.specs.declared.plan.ChanDecl.{ChanDecl}
-use Rattle.lock_model.specs.declared.plan.Op.{Op}
-use Rattle.lock_model.specs.declared.plan.Op.TheVariants.{Try, EndTry}
 use Rattle.script_laws.proofs.AcceptedLists.{get_push, get_push_other, get_set, get_set_other, same_list, held_through-push}
 
 -- 1. Operations that differ at one place

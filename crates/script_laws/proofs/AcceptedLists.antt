@@ -1,21 +1,12 @@
 -- Lists and options as the judging of a script's lines uses them, and what one operation more does to what operations
 -- lead to.
-use Rattle.std.proofs.Common.{◌≡◌, ◌≢◌, ℕ, zero, suc, ◌+◌, Bool, true, false, List, [], ◌∷◌, ◌++◌, length, slice_get, slice_set, Option, Some, None, refl, sym, ap, arith}
-use Rattle.std.specs.Prelude.{not, if◌then◌else◌, is_none, unwrap_or, map, sum}
-use Rattle.std.specs.List.{All}
-use Rattle.std.specs.Cmp.Lexicographic.{pointwise}
-use Rattle.std.proofs.lemmas.Bool.{and_parts, eqb-true, false≢true}
-use Rattle.std.proofs.lemmas.Option.{none-some}
-use Rattle.std.proofs.lemmas.List.{map-append}
-use Rattle.std.proofs.lemmas.List.Sums.{sum_by-append}
-use Rattle.std.proofs.lemmas.List.Elements.{All-head, All-tail}
-use Rattle.lock_model.specs.Counts.{is_empty}
-use Rattle.lock_model.specs.Operations.{held_behind, held_through}
-use Rattle.lock_model.specs.Tests.{Test, Passes, first_fault}
-use Rattle.lock_model.specs.Script.Faults.{is_same_mode, is_same_held}
-use Rattle.lock_model.specs.declared.plan.Mode.{Mode}
-use Rattle.lock_model.specs.declared.plan.Op.{Op}
-use Rattle.lock_model.specs.declared.event.Held.{Held}
+use Rattle.script_laws.proofs.Names
+use Names.{ℕ, zero, suc, Bool, true, false, List, [], length, slice_get, slice_set, Option, Some, None, refl, sym, ap}
+use Names.{arith, is_none, unwrap_or, map, sum, All, pointwise, and_parts, eqb-true, false≢true, none-some, map-append}
+use Names.{sum_by-append, All-head, All-tail, is_empty, held_behind, held_through, Test, Passes, first_fault}
+use Names.{is_same_mode, is_same_held, Mode, Op, Held}
+use Rattle.std.proofs.Common.{◌≡◌, ◌≢◌, ◌+◌, ◌∷◌, ◌++◌}
+use Rattle.std.specs.Prelude.{if◌then◌else◌, not}
 
 -- 1. Tests and lists
 

@@ -1,31 +1,14 @@
 -- The lines of locks and of channels lead to what a script has made known of them.
-use Rattle.std.proofs.Common.{◌≡◌, ℕ, ◌+◌, ◌<◌, one-add, Bool, true, false, not, ◌||◌, cond, List, [], ◌∷◌, ◌++◌, length, slice_get, Option, Some, None, refl, sym, ap, subst, ◌∙◌, arith, length-append, append_assoc, append-nil}
-use Rattle.std.specs.Prelude.{map, codes, flat_map, is_none, is_some, unwrap_or, if◌then◌else◌}
-use Rattle.std.specs.List.{All, list_any, prefix_len}
-use Rattle.std.proofs.lemmas.Bool.{lt-ltb}
-use Rattle.std.proofs.lemmas.Option.{none-some, slice_get_past}
-use Rattle.std.proofs.lemmas.List.{length-map, map-append}
-use Rattle.std.proofs.lemmas.List.Elements.{All-head, All-tail}
-use Rattle.lock_model.specs.Limits.{most_locks, most_channels, most_classes}
-use Rattle.lock_model.specs.Operations.{IsProper}
-use Rattle.lock_model.specs.Tests.{test}
-use Rattle.lock_model.specs.Text.{line_of, lock_name, class_name}
-use Rattle.lock_model.specs.Script.{plan_of}
-use Rattle.lock_model.specs.Script.Canonical.{kind_word, lock_line, chan_line}
-use Rattle.lock_model.specs.Script.Lines.{is_same}
-use Rattle.lock_model.specs.Script.Statements.{Declares, DeclaresChan, said_by}
-use Rattle.lock_model.specs.Script.Learning.{Known, lock_named, class_number, with_class, with_chan}
-use Rattle.lock_model.specs.Script.Faults.{spelled, names_lock, has_room}
-use Rattle.lock_model.specs.declared.plan.Declared.{Declared}
-use Rattle.lock_model.specs.declared.plan.Declared.TheVariants.{Lock, Chan, Thread}
-use Rattle.lock_model.specs.declared.plan.Kind.{Kind}
-use Rattle.lock_model.specs.declared.plan.Kind.TheVariants.{Mtx, Rw, Sx}
-use Rattle.lock_model.specs.declared.plan.LockDecl.{LockDecl}
-use Rattle.lock_model.specs.declared.plan.ChanDecl.{ChanDecl}
-use Rattle.lock_model.specs.declared.plan.ThreadDecl.{ThreadDecl}
-use Rattle.lock_model.specs.declared.plan.Plan.{Plan}
-use Rattle.lock_model.specs.declared.numbers.LockNo.{LockNo}
-use Rattle.lock_model.specs.declared.numbers.ThreadNo.{ThreadNo}
+use Rattle.script_laws.proofs.Names
+use Names.{ℕ, one-add, Bool, true, false, not, cond, List, [], length, slice_get, Option, Some, None, refl, sym, ap}
+use Names.{subst, arith, length-append, append_assoc, append-nil, map, codes, flat_map, is_none, is_some, unwrap_or}
+use Names.{All, list_any, prefix_len, lt-ltb, none-some, slice_get_past, length-map, map-append, All-head, All-tail}
+use Names.{most_locks, most_channels, most_classes, IsProper, test, line_of, lock_name, class_name, plan_of, kind_word}
+use Names.{lock_line, chan_line, is_same, Declares, DeclaresChan, said_by, Known, lock_named, class_number, with_class}
+use Names.{with_chan, spelled, names_lock, has_room, Declared, Lock, Chan, Thread, Kind, Mtx, Rw, Sx, LockDecl}
+use Names.{ChanDecl, ThreadDecl, Plan, LockNo, ThreadNo}
+use Rattle.std.proofs.Common.{◌≡◌, ◌+◌, ◌<◌, ◌||◌, ◌∷◌, ◌++◌, ◌∙◌}
+use Rattle.std.specs.Prelude.{if◌then◌else◌}
 use Rattle.script_laws.proofs.AcceptedLists.{none_is}
 use Rattle.script_laws.proofs.CanonicalWords.{name_word}
 use Rattle.script_laws.proofs.CanonicalReading.{Leads, leads_nowhere, leads_on, line_leads}

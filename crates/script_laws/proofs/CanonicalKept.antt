@@ -1,41 +1,26 @@
 -- What each line of a script keeps of what is known, so that it can be written again: names and what they stand for,
 -- the classes of locks by their first uses, and threads that their own lines lead to.
-use Rattle.std.proofs.Common.{◌≡◌, ℕ, suc, ◌≤◌, Bool, true, false, not, ◌&&◌, nat_le, nat_lt, cond, List, [], ◌∷◌, ◌++◌, length, Option, Some, None, refl, sym, ap, subst, ◌∙◌, append-nil}
-use Rattle.std.specs.Prelude.{map, codes, is_some, option_map, unwrap_or}
-use Rattle.std.specs.List.{All}
-use Rattle.std.specs.Map.{lookup}
-use Rattle.std.proofs.lemmas.Bool.{and_parts, false≢true, leb-true}
-use Rattle.std.proofs.lemmas.Option.{none-some, same_Some}
-use Rattle.std.proofs.lemmas.List.{length-map, map-append}
-use Rattle.std.proofs.lemmas.List.Elements.{All-nil, All-same, All-push}
-use Rattle.lock_model.specs.Counts.{is_empty}
-use Rattle.lock_model.specs.Limits.{most_classes, most_operations, greatest_number, greatest_priority}
-use Rattle.lock_model.specs.Names.{is_name}
-use Rattle.lock_model.specs.Operations.{operation_tests}
-use Rattle.lock_model.specs.Tests.{test, Passes, where_some, first_fault}
-use Rattle.lock_model.proofs.LeastCodes.{passed, passed_both}
-use Rattle.lock_model.specs.Script.{Reads, Faulty, told, plan_of, reading_from, reading_of_lines, reading_of, IsAccepted}
-use Rattle.lock_model.specs.Script.Lines.{lines_of, is_same, has_meaning, priority_of, number_of, number_up_to, is_numeral, digits_value}
-use Rattle.lock_model.specs.Script.Statements.{Statement, Declares, DeclaresChan, Begins, Ends, Schedules, IsDone, Operates, EndsTry, Operation, statement_of}
+use Rattle.script_laws.proofs.Names
+use Names.{ℕ, suc, Bool, true, false, not, nat_le, nat_lt, cond, List, [], length, Option, Some, None, refl, sym, ap}
+use Names.{subst, append-nil, map, codes, is_some, option_map, unwrap_or, All, lookup, and_parts, false≢true, leb-true}
+use Names.{none-some, same_Some, length-map, map-append, All-nil, All-same, All-push, is_empty, most_classes}
+use Names.{most_operations, greatest_number, greatest_priority, is_name, operation_tests, test, Passes, where_some}
+use Names.{first_fault, passed, passed_both, Reads, Faulty, told, plan_of, reading_from, reading_of_lines, reading_of}
+use Names.{IsAccepted, lines_of, is_same, has_meaning, priority_of, number_of, number_up_to, is_numeral, digits_value}
+use Names.{Statement, Declares, DeclaresChan, Begins, Ends, Schedules, IsDone, Operates, EndsTry, Operation}
+use Names.{statement_of, Known, OpenThread, Block, nothing_known, learned, with_lock, with_chan, with_end}
+use Names.{with_operation, with_endtry, without_block, op_of, with_key, with_number, lock_named, chan_named}
+use Names.{class_number, with_class, class_named, byte_tests, word_tests, place_tests, name_tests, statement_stages}
+use Names.{line_fault, behind_line, learned_from, operation_words, tests_in_thread, endtry_tests, is_in_block, has_room}
+use Names.{Declared, Lock, Chan, Thread, Kind, ThreadDecl, LockDecl, ChanDecl, LockNo, Plan, Op, Take, Try, Release}
+use Names.{Set, Add, Get, Base, Sleep, WakeOne, WakeAll, arith}
+use Rattle.std.proofs.Common.{◌≡◌, ◌≤◌, ◌&&◌, ◌∷◌, ◌++◌, ◌∙◌}
 use Rattle.lock_model.specs.Script.Statements as say
-use Rattle.lock_model.specs.Script.Learning.{Known, OpenThread, Block, nothing_known, learned, with_lock, with_chan, with_end, with_operation, with_endtry, without_block, op_of, with_key, with_number, lock_named, chan_named, class_number, with_class, class_named}
-use Rattle.lock_model.specs.Script.Faults.{byte_tests, word_tests, place_tests, name_tests, statement_stages, line_fault, behind_line, learned_from, operation_words, tests_in_thread, endtry_tests, is_in_block, has_room}
-use Rattle.lock_model.specs.declared.plan.Declared.{Declared}
-use Rattle.lock_model.specs.declared.plan.Declared.TheVariants.{Lock, Chan, Thread}
-use Rattle.lock_model.specs.declared.plan.Kind.{Kind}
-use Rattle.lock_model.specs.declared.plan.ThreadDecl.{ThreadDecl}
-use Rattle.lock_model.specs.declared.plan.LockDecl.{LockDecl}
-use Rattle.lock_model.specs.declared.plan.ChanDecl.{ChanDecl}
-use Rattle.lock_model.specs.declared.numbers.LockNo.{LockNo}
-use Rattle.lock_model.specs.declared.plan.Plan.{Plan}
-use Rattle.lock_model.specs.declared.plan.Op.{Op}
-use Rattle.lock_model.specs.declared.plan.Op.TheVariants.{Take, Try, Release, Set, Add, Get, Base, Sleep, WakeOne, WakeAll}
 use Rattle.script_laws.proofs.Accepted.{OpenIsSound, IsSound, nothing_sound, line_sound, faulty-reads, not_inside, none_left}
 use Rattle.script_laws.proofs.AcceptedLists.{none_is, empty_is, stages_pass}
 use Rattle.script_laws.proofs.CanonicalNames.{name_in, AreNamed, named_more, more_locks, more_chans, more_threads}
 use Rattle.script_laws.proofs.CanonicalOperations.{IsReadable, behind}
 use Rattle.script_laws.proofs.CanonicalThreads.{IsReplayed, IsEnded, begin_replayed, operation_replayed, endtry_replayed}
-use Rattle.std.proofs.Common.{arith}
 
 -- 1. What is kept
 

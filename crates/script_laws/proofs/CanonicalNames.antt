@@ -1,13 +1,9 @@
 -- What each name stands for, and which name each lock, channel and thread has: the one list is the other, turned round.
-use Rattle.std.proofs.Common.{◌≡◌, ◌⊎◌, inl, inr, ℕ, zero, suc, Bool, true, false, cond, List, [], ◌∷◌, ◌++◌, length, slice_get, Option, Some, None, refl, sym, ap, subst, ◌∙◌}
-use Rattle.std.specs.Map.{lookup}
-use Rattle.std.specs.Prelude.{nat_eq}
-use Rattle.std.proofs.lemmas.Bool.{and_parts, and_from, false≢true, eqb-true, eq-eqb}
-use Rattle.std.proofs.lemmas.Option.{none-some, same_Some}
-use Rattle.lock_model.specs.Names.{is_name}
-use Rattle.lock_model.specs.Script.Lines.{is_same}
-use Rattle.lock_model.specs.declared.plan.Declared.{Declared}
-use Rattle.lock_model.specs.declared.plan.Declared.TheVariants.{Lock, Chan, Thread}
+use Rattle.script_laws.proofs.Names
+use Names.{inl, inr, ℕ, zero, suc, Bool, true, false, cond, List, [], length, slice_get, Option, Some, None, refl, sym}
+use Names.{ap, subst, lookup, nat_eq, and_parts, and_from, false≢true, eqb-true, eq-eqb, none-some, same_Some, is_name}
+use Names.{is_same, Declared, Lock, Chan, Thread}
+use Rattle.std.proofs.Common.{◌≡◌, ◌⊎◌, ◌∷◌, ◌++◌, ◌∙◌}
 
 -- 1. Same words
 

@@ -1,41 +1,20 @@
 -- The line of an operation leads a thread, wherever its locks and channels are known, to where the operation leads it.
-use Rattle.std.proofs.Common.{◌≡◌, ℕ, zero, suc, ◌<◌, ◌≤◌, ◌^◌, Bool, true, false, not, ◌||◌, ◌==◌, nat_lt, cond, List, [], ◌∷◌, ◌++◌, length, slice_get, Option, Some, None, decimal, refl, sym, ap, subst, ◌∙◌, arith, length-append}
-use Rattle.std.specs.Prelude.{map, codes, unwrap_or, option_map, if◌then◌else◌, is_some}
-use Rattle.std.specs.List.{All, list_all}
-use Rattle.std.specs.Cmp.Lexicographic.{pointwise}
-use Rattle.std.proofs.lemmas.Bool.{false≢true, lt-ltb, ltb-true, eqb-true}
-use Rattle.std.proofs.lemmas.Option.{slice_get-map, slice_get_within}
-use Rattle.std.proofs.lemmas.List.{length-map}
-use Rattle.std.proofs.lemmas.List.Elements.{All-head, All-tail}
-use Rattle.lock_model.specs.Limits.{most_open_tries, most_operations, greatest_number, greatest_priority}
-use Rattle.lock_model.specs.Holds.{Hold, Holds, is_unheld}
-use Rattle.lock_model.specs.Names.{is_name}
-use Rattle.lock_model.specs.Operations.{hold_in, held_behind, is_of_kind, is_kind, may_be_held, operation_tests}
-use Rattle.lock_model.specs.Tests.{Test, test, Passes, least_code}
-use Rattle.lock_model.proofs.LeastCodes.{passed}
-use Rattle.lock_model.specs.Text.{spaced, line_of, mode_letter, lock_name, lock_kind, chan_name, is_cond}
-use Rattle.lock_model.specs.Script.Canonical.{held_mode, operation_line}
-use Rattle.lock_model.specs.Script.Lines.{has_meaning, number_of}
-use Rattle.lock_model.specs.Script.Statements.{Statement, Operates, EndsTry, Operation, said_by}
+use Rattle.script_laws.proofs.Names
+use Names.{ℕ, zero, suc, Bool, true, false, not, nat_lt, cond, List, [], length, slice_get, Option, Some, None, decimal}
+use Names.{refl, sym, ap, subst, arith, length-append, map, codes, unwrap_or, option_map, is_some, All, list_all}
+use Names.{pointwise, false≢true, lt-ltb, ltb-true, eqb-true, slice_get-map, slice_get_within, length-map, All-head}
+use Names.{All-tail, most_open_tries, most_operations, greatest_number, greatest_priority, Hold, Holds, is_unheld}
+use Names.{is_name, hold_in, held_behind, is_of_kind, is_kind, may_be_held, operation_tests, Test, test, Passes}
+use Names.{least_code, passed, spaced, line_of, mode_letter, lock_name, lock_kind, chan_name, is_cond, held_mode}
+use Names.{operation_line, has_meaning, number_of, Statement, Operates, EndsTry, Operation, said_by, Known, OpenThread}
+use Names.{Block, without_block, lock_named, chan_named, op_of, blocks_behind, with_operation, operation_words}
+use Names.{tests_in_thread, is_other, is_same_truth, has_room, spelled, names_lock, names_chan, reads_number}
+use Names.{gaining_words, sleeping_words, of_kind, of_sort, held_so, reads_priority, is_in_block, is_same_held}
+use Names.{Declared, Lock, Chan, Kind, Mtx, Rw, Sx, Mode, Excl, Shared, LockDecl, ChanDecl, ThreadDecl, Op, Take, Try}
+use Names.{EndTry, Release, Set, Add, Get, Base, Show, Sleep, WakeOne, WakeAll, Plan, Held, ChanNo, LockNo, ThreadNo}
+use Rattle.std.proofs.Common.{◌≡◌, ◌<◌, ◌≤◌, ◌^◌, ◌||◌, ◌==◌, ◌∷◌, ◌++◌, ◌∙◌}
+use Rattle.std.specs.Prelude.{if◌then◌else◌}
 use Rattle.lock_model.specs.Script.Statements as say
-use Rattle.lock_model.specs.Script.Learning.{Known, OpenThread, Block, without_block, lock_named, chan_named, op_of, blocks_behind, with_operation}
-use Rattle.lock_model.specs.Script.Faults.{operation_words, tests_in_thread, is_other, is_same_truth, has_room, spelled, names_lock, names_chan, reads_number, gaining_words, sleeping_words, of_kind, of_sort, held_so, reads_priority, is_in_block, is_same_held}
-use Rattle.lock_model.specs.declared.plan.Declared.{Declared}
-use Rattle.lock_model.specs.declared.plan.Declared.TheVariants.{Lock, Chan}
-use Rattle.lock_model.specs.declared.plan.Kind.{Kind}
-use Rattle.lock_model.specs.declared.plan.Kind.TheVariants.{Mtx, Rw, Sx}
-use Rattle.lock_model.specs.declared.plan.Mode.{Mode}
-use Rattle.lock_model.specs.declared.plan.Mode.TheVariants.{Excl, Shared}
-use Rattle.lock_model.specs.declared.plan.LockDecl.{LockDecl}
-use Rattle.lock_model.specs.declared.plan.ChanDecl.{ChanDecl}
-use Rattle.lock_model.specs.declared.plan.ThreadDecl.{ThreadDecl}
-use Rattle.lock_model.specs.declared.plan.Op.{Op}
-use Rattle.lock_model.specs.declared.plan.Op.TheVariants.{Take, Try, EndTry, Release, Set, Add, Get, Base, Show, Sleep, WakeOne, WakeAll}
-use Rattle.lock_model.specs.declared.plan.Plan.{Plan}
-use Rattle.lock_model.specs.declared.event.Held.{Held}
-use Rattle.lock_model.specs.declared.numbers.ChanNo.{ChanNo}
-use Rattle.lock_model.specs.declared.numbers.LockNo.{LockNo}
-use Rattle.lock_model.specs.declared.numbers.ThreadNo.{ThreadNo}
 use Rattle.script_laws.proofs.CanonicalWords.{is_word_byte, IsWord, IsLine, name_word, decimal_word, decimal_number}
 use Rattle.script_laws.proofs.CanonicalReading.{Leads, line_leads}
 use Rattle.script_laws.proofs.CanonicalNames.{stands_for}

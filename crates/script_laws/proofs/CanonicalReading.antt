@@ -1,15 +1,10 @@
 -- Bytes that lead from what is known to what is known behind them, whatever stands behind: a line of words that
 -- passes its tests does, and so do texts that do one behind the other.
-use Rattle.std.proofs.Common.{◌≡◌, ℕ, suc, ◌≤◌, true, false, List, [], ◌∷◌, ◌++◌, length, Some, None, refl, ap, ◌∙◌, append_assoc}
-use Rattle.std.specs.List.{list_all}
-use Rattle.std.proofs.lemmas.Bool.{le-leb}
-use Rattle.lock_model.specs.Tests.{least_code, Passes}
-use Rattle.lock_model.specs.Text.{spaced, line_of}
-use Rattle.lock_model.specs.Script.{reading_from}
-use Rattle.lock_model.specs.Script.Lines.{lines_of, is_printable, has_meaning}
-use Rattle.lock_model.specs.Script.Statements.{Statement, statement_of, said_by}
-use Rattle.lock_model.specs.Script.Learning.{Known, learned}
-use Rattle.lock_model.specs.Script.Faults.{place_tests, name_tests, line_fault, behind_line}
+use Rattle.script_laws.proofs.Names
+use Names.{ℕ, suc, true, false, List, [], length, Some, None, refl, ap, append_assoc, list_all, le-leb, least_code}
+use Names.{Passes, spaced, line_of, reading_from, lines_of, is_printable, has_meaning, Statement, statement_of, said_by}
+use Names.{Known, learned, place_tests, name_tests, line_fault, behind_line}
+use Rattle.std.proofs.Common.{◌≡◌, ◌≤◌, ◌∷◌, ◌++◌, ◌∙◌}
 use Rattle.script_laws.proofs.CanonicalWords.{IsLine, line_read, line_stands, line_means, line_says}
 
 -- reading goes on behind the bytes with what is known there

@@ -1,30 +1,16 @@
 -- The lines of threads and of the schedule, and the whole canonical text: reading it gives the plan.
-use Rattle.std.proofs.Common.{◌≡◌, ℕ, zero, suc, ◌+◌, ◌*◌, ◌/◌, ◌<◌, ◌≤◌, ◌^◌, true, not, nat_le, List, [], ◌∷◌, ◌++◌, length, length-drop, take, drop, Option, Some, decimal, refl, sym, ap, subst, ◌∙◌, arith, length-append, append_assoc, append-nil}
-use Rattle.std.specs.Prelude.{map, sum, codes, flat_map, is_none, is_some, unwrap_or}
-use Rattle.std.specs.List.{All, list_all}
-use Rattle.std.proofs.lemmas.Bool.{lt-ltb, le-leb, and_from}
-use Rattle.std.proofs.lemmas.List.{length-map, length-take, map-append, take-append-drop}
-use Rattle.std.proofs.lemmas.List.Sums.{sum_by-append}
-use Rattle.std.proofs.lemmas.List.Elements.{All-head, All-tail, All-take, All-drop}
-use Rattle.lock_model.specs.Counts.{is_empty}
-use Rattle.lock_model.specs.Limits.{most_threads, most_operations, most_scheduled, greatest_priority}
-use Rattle.lock_model.specs.Names.{is_name}
-use Rattle.lock_model.specs.Operations.{IsProper}
-use Rattle.lock_model.specs.Tests.{test}
-use Rattle.lock_model.specs.Text.{spaced, line_of, thread_name}
-use Rattle.lock_model.specs.Script.{Reads, plan_of, reading_from, reading_of_lines, reading_of, IsAccepted}
-use Rattle.lock_model.specs.Script.Canonical.{canonical, lock_line, chan_line, operation_lines, thread_lines, schedule_line, lines_of_ten, schedule_lines}
-use Rattle.lock_model.specs.Script.Lines.{lines_of, priority_of}
-use Rattle.lock_model.specs.Script.Statements.{Begins, Ends, Schedules, IsDone}
-use Rattle.lock_model.specs.Script.Learning.{Known, OpenThread, nothing_known, thread_named, threads_named, with_thread, learned}
-use Rattle.lock_model.specs.Script.Faults.{spelled, reads_priority, has_room, is_in_block}
-use Rattle.lock_model.specs.declared.plan.Declared.{Declared}
-use Rattle.lock_model.specs.declared.plan.Declared.TheVariants.{Lock, Chan, Thread}
-use Rattle.lock_model.specs.declared.plan.LockDecl.{LockDecl}
-use Rattle.lock_model.specs.declared.plan.ChanDecl.{ChanDecl}
-use Rattle.lock_model.specs.declared.plan.ThreadDecl.{ThreadDecl}
-use Rattle.lock_model.specs.declared.plan.Plan.{Plan}
-use Rattle.lock_model.specs.declared.numbers.ThreadNo.{ThreadNo}
+use Rattle.script_laws.proofs.Names
+use Names.{ℕ, zero, suc, true, not, nat_le, List, [], length, length-drop, take, drop, Option, Some, decimal, refl, sym}
+use Names.{ap, subst, arith, length-append, append_assoc, append-nil, map, sum, codes, flat_map, is_none, is_some}
+use Names.{unwrap_or, All, list_all, lt-ltb, le-leb, and_from, length-map, length-take, map-append, take-append-drop}
+use Names.{sum_by-append, All-head, All-tail, All-take, All-drop, is_empty, most_threads, most_operations}
+use Names.{most_scheduled, greatest_priority, is_name, IsProper, test, spaced, line_of, thread_name, Reads, plan_of}
+use Names.{reading_from, reading_of_lines, reading_of, IsAccepted, canonical, lock_line, chan_line, operation_lines}
+use Names.{thread_lines, schedule_line, lines_of_ten, schedule_lines, lines_of, priority_of, Begins, Ends, Schedules}
+use Names.{IsDone, Known, OpenThread, nothing_known, thread_named, threads_named, with_thread, learned, spelled}
+use Names.{reads_priority, has_room, is_in_block, Declared, Lock, Chan, Thread, LockDecl, ChanDecl, ThreadDecl, Plan}
+use Names.{ThreadNo}
+use Rattle.std.proofs.Common.{◌≡◌, ◌+◌, ◌*◌, ◌/◌, ◌<◌, ◌≤◌, ◌^◌, ◌∷◌, ◌++◌, ◌∙◌}
 use Rattle.script_laws.proofs.Accepted.{accepted_proper}
 use Rattle.script_laws.proofs.AcceptedLists.{none_is}
 use Rattle.script_laws.proofs.CanonicalWords.{AreWords, name_word, decimal_word, decimal_number}

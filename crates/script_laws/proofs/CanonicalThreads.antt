@@ -1,33 +1,14 @@
 -- The lines of an open thread's operations lead, wherever its locks and channels are known, to that thread. Each line
 -- that the thread adds keeps this.
-use Rattle.std.proofs.Common.{◌≡◌, ℕ, zero, suc, ◌+◌, ◌≤◌, Bool, true, false, ◌==◌, cond, List, [], ◌∷◌, ◌++◌, length, slice_get, slice_set, Some, refl, sym, ap, subst, ◌∙◌, arith, length-append, append_assoc, append-nil}
-use Rattle.std.specs.Prelude.{codes}
-use Rattle.std.specs.List.{All}
-use Rattle.std.specs.Cmp.Lexicographic.{pointwise}
-use Rattle.std.proofs.lemmas.Option.{same_Some}
-use Rattle.std.proofs.lemmas.List.{length-set}
-use Rattle.std.proofs.lemmas.List.Elements.{All-nil, All-cons, All-head, All-tail, All-push}
-use Rattle.lock_model.specs.Limits.{most_operations, greatest_priority}
-use Rattle.lock_model.specs.Operations.{of_locks, held_after, held_behind, held_through, may_be_held, tests_of, operation_tests, without_lock}
-use Rattle.lock_model.specs.Tests.{Passes}
-use Rattle.lock_model.proofs.LeastCodes.{passed}
-use Rattle.lock_model.specs.Text.{line_of}
-use Rattle.lock_model.specs.Script.Canonical.{operation_line, operation_lines}
-use Rattle.lock_model.specs.Script.Learning.{Known, OpenThread, Block, without_block}
-use Rattle.lock_model.specs.Script.Faults.{is_same_held}
-use Rattle.lock_model.specs.declared.plan.Declared.{Declared}
-use Rattle.lock_model.specs.declared.plan.LockDecl.{LockDecl}
-use Rattle.lock_model.specs.declared.plan.ChanDecl.{ChanDecl}
-use Rattle.lock_model.specs.declared.plan.ThreadDecl.{ThreadDecl}
-use Rattle.lock_model.specs.declared.plan.Op.{Op}
-use Rattle.lock_model.specs.declared.plan.Op.TheVariants.{Try, EndTry}
-use Rattle.lock_model.specs.declared.plan.OfLocks.{OfLocks}
-use Rattle.lock_model.specs.declared.plan.OfLocks.TheVariants.{NoLock, Acquires, ClosesBlock, Releases, EditsAt, ReadsAt, SleepsOn, WakesOn}
-use Rattle.lock_model.specs.declared.plan.Mode.{Mode}
-use Rattle.lock_model.specs.declared.plan.Plan.{Plan}
-use Rattle.lock_model.specs.declared.event.Held.{Held}
-use Rattle.lock_model.specs.declared.numbers.LockNo.{LockNo}
-use Rattle.lock_model.specs.declared.numbers.ThreadNo.{ThreadNo}
+use Rattle.script_laws.proofs.Names
+use Names.{ℕ, zero, suc, Bool, true, false, cond, List, [], length, slice_get, slice_set, Some, refl, sym, ap, subst}
+use Names.{arith, length-append, append_assoc, append-nil, codes, All, pointwise, same_Some, length-set, All-nil}
+use Names.{All-cons, All-head, All-tail, All-push, most_operations, greatest_priority, of_locks, held_after}
+use Names.{held_behind, held_through, may_be_held, tests_of, operation_tests, without_lock, Passes, passed, line_of}
+use Names.{operation_line, operation_lines, Known, OpenThread, Block, without_block, is_same_held, Declared, LockDecl}
+use Names.{ChanDecl, ThreadDecl, Op, Try, EndTry, OfLocks, NoLock, Acquires, ClosesBlock, Releases, EditsAt, ReadsAt}
+use Names.{SleepsOn, WakesOn, Mode, Plan, Held, LockNo, ThreadNo}
+use Rattle.std.proofs.Common.{◌≡◌, ◌+◌, ◌≤◌, ◌==◌, ◌∷◌, ◌++◌, ◌∙◌}
 use Rattle.script_laws.proofs.AcceptedBlocks.{IsSoundOpen, innermost_try}
 use Rattle.script_laws.proofs.CanonicalReading.{Leads, leads_nowhere, leads_on}
 use Rattle.script_laws.proofs.CanonicalOperations.{IsReadable, behind, Knows, the_plan, inside, operation_leads, endtry_leads}

@@ -1,21 +1,14 @@
 -- How a line of words is read: it is one line, its words are those, and each of its bytes may stand in a script.
 -- Names and decimal numbers are such words.
-use Rattle.std.proofs.Common.{◌≡◌, ℕ, ◌+◌, ◌-◌, ◌*◌, ◌^◌, ◌<◌, ◌≤◌, Bool, true, false, not, ◌&&◌, ◌==◌, nat_le, List, [], ◌∷◌, ◌++◌, length, Some, decimal, refl, sym, ap, ◌∙◌, arith, append_assoc, append-nil, get_or, inl, inr}
-use Rattle.std.specs.Prelude.{fold}
-use Rattle.std.specs.List.{list_all, list_any}
+use Rattle.script_laws.proofs.Names
+use Names.{ℕ, Bool, true, false, not, nat_le, List, [], length, Some, decimal, refl, sym, ap, arith, append_assoc}
+use Names.{append-nil, get_or, inl, inr, fold, list_all, list_any, digit_value, cases_eq, and_parts, and_from}
+use Names.{false≢true, le-leb, ne_eqb, leb-true, nat_tests, list_all-append, digit_value_digit, digit_from_value}
+use Names.{decimal_is_IsNumeral, decimal_digit, first_decimal, length-decimal-le, is_empty, is_name, is_letter}
+use Names.{is_digit, is_name_byte, spaced, line_of, lines_of, words_of, is_printable, has_meaning, digits_value}
+use Names.{is_numeral, number_up_to, Statement, statement_of, said_by}
+use Rattle.std.proofs.Common.{◌≡◌, ◌+◌, ◌-◌, ◌*◌, ◌^◌, ◌<◌, ◌≤◌, ◌&&◌, ◌==◌, ◌∷◌, ◌++◌, ◌∙◌}
 use Rattle.std.specs.Str.Parse as parse
-use Rattle.std.specs.Char.{digit_value}
-use Rattle.std.proofs.lemmas.Bool.{cases_eq, and_parts, and_from, false≢true, le-leb, ne_eqb, leb-true}
-use Rattle.std.proofs.lemmas.Bool.Decides.{nat_tests}
-use Rattle.std.proofs.lemmas.List.Folds.{list_all-append}
-use Rattle.std.proofs.lemmas.Str.{digit_value_digit}
-use Rattle.std.proofs.lemmas.Str.Parse.{digit_from_value}
-use Rattle.std.proofs.lemmas.Fmt.{decimal_is_IsNumeral, decimal_digit, first_decimal, length-decimal-le}
-use Rattle.lock_model.specs.Counts.{is_empty}
-use Rattle.lock_model.specs.Names.{is_name, is_letter, is_digit, is_name_byte}
-use Rattle.lock_model.specs.Text.{spaced, line_of}
-use Rattle.lock_model.specs.Script.Lines.{lines_of, words_of, is_printable, has_meaning, digits_value, is_numeral, number_up_to}
-use Rattle.lock_model.specs.Script.Statements.{Statement, statement_of, said_by}
 
 -- 1. Words
 

@@ -1,3 +1,4 @@
+pub mod Names
 pub mod AcceptedLists
 pub mod AcceptedBlocks
 pub mod Accepted

@@ -1,12 +1,7 @@
 -- The history of each lawful state keeps the law as far as that says nothing of operations.
-use Rattle.std.proofs.Common.{ℕ, Bool, true, List, [], ◌∷◌, Option}
-use Rattle.lock_model.specs.Config.{Config}
-use Rattle.lock_model.specs.Law.{HaltsOnlyWhenRunning}
-use Rattle.lock_model.specs.Legal.{IsLegalSoFar}
-use Rattle.lock_model.specs.declared.event.Entry.{Entry}
-use Rattle.lock_state.specs.Facts.{Lawful}
-use Rattle.lock_state.specs.State.{State}
-use Rattle.sleep_laws.specs.Sleepers.{SleepersFit}
+use Rattle.sleep_laws.proofs.Names.{ℕ, Bool, true, List, [], Option, Config, HaltsOnlyWhenRunning, IsLegalSoFar, Entry}
+use Rattle.sleep_laws.proofs.Names.{Lawful, State, SleepersFit}
+use Rattle.std.proofs.Common.{◌∷◌}
 
 -- as far as each lawful state keeps it
 pub legal_so_far : (at_work : ℕ → Option ℕ) (c : Config) (s : State) (is_run : Bool) → Lawful c s

@@ -1,3 +1,4 @@
+pub mod Names
 pub mod SleepFacts
 pub mod SleepGuards
 pub mod LegalSoFar

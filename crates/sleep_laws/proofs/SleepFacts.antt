@@ -20,13 +20,13 @@ pub mod Moves
 pub mod Floor
 pub mod Turns
 pub mod Props
-use Rattle.std.proofs.Common.{ℕ, Option, refl, arith}
-use Rattle.lock_model.specs.Config.{Config}
-use Rattle.lock_model.specs.Law.{is_asleep, is_named, is_passed_over, WakingsNameSleepers}
-use Rattle.lock_state.specs.State.{start_state}
-use Rattle.sleep_laws.specs.Sleepers.{SleepersFit, NamedAreWoken, MarksAreSignals, WokenBySignal, NoSleepIsHalted, SleepersSlept, WokenSlept, ResumedSlept, SleepersWantNothing, SleepersAreUnwoken, AsleepStandThere, AsleepAreOnTheirWay, SleepersInOrder, LatecomersAreLater, SleepersKeepBase, SleepersAreExclusive, UnnotedAreMarked, UnnotedIsAtWork, UnnotedIsFair, AbortedSleep, SleepersAreUnhalted, PassedOverAreAborted}
-use Rattle.lock_state.specs.Facts.Sleeps.{aborted}
-use Rattle.lock_laws.proofs.Kit.{sum_below-zero}
+use Rattle.sleep_laws.proofs.Names
+use Names.{ℕ, Option, refl, arith, Config, is_asleep, is_named, is_passed_over, WakingsNameSleepers, start_state}
+use Names.{SleepersFit, NamedAreWoken, MarksAreSignals, WokenBySignal, NoSleepIsHalted, SleepersSlept, WokenSlept}
+use Names.{ResumedSlept, SleepersWantNothing, SleepersAreUnwoken, AsleepStandThere, AsleepAreOnTheirWay}
+use Names.{SleepersInOrder, LatecomersAreLater, SleepersKeepBase, SleepersAreExclusive, UnnotedAreMarked}
+use Names.{UnnotedIsAtWork, UnnotedIsFair, AbortedSleep, SleepersAreUnhalted, PassedOverAreAborted, aborted}
+use Names.{sum_below-zero}
 
 pub begins : (at_work : ℕ → Option ℕ) (c : Config) → SleepersFit at_work c (start_state c)
 unfolding start_state NamedAreWoken MarksAreSignals WokenBySignal NoSleepIsHalted SleepersSlept WokenSlept ResumedSlept

@@ -1,21 +1,14 @@
 -- The guards of sleeps can be met: p takes a mutex and sleeps on a channel with it, q wakes it, and p takes the mutex
 -- back. And they refuse a sleeper with a closed section, a gain before the add, and a look at another lock in a round
 -- or in a release's section.
-use Rattle.std.proofs.Common.{◌≡◌, ℕ, Bool, true, false, List, [], ◌∷◌, ◌++◌, refl, inl, inr, arith}
-use Rattle.lock_model.specs.Config.{Config}
-use Rattle.lock_model.specs.Counts.{sum_below, least}
-use Rattle.lock_model.specs.Holds.{NotHeld, Holds}
-use Rattle.lock_model.specs.History.{sections_in}
-use Rattle.lock_model.specs.Queues.{BySignal, Mark, chan_queue}
-use Rattle.lock_model.specs.declared.plan.Mode.TheVariants.{Excl}
-use Rattle.lock_model.specs.declared.event.Event.TheVariants.{Locked, Unlocked, Sleeps, Woke, WokeOne}
-use Rattle.lock_state.specs.State.{start_state, put, put_at, put_queue}
-use Rattle.lock_state.specs.Steps.LockWords.{after_seek, after_look, after_gain, after_drop, after_stamp, after_ready}
-use Rattle.lock_state.specs.Steps.Turnstiles.{after_mark, after_resume}
-use Rattle.lock_state.specs.Steps.SleepQueues.{after_add, after_wake}
-use Rattle.lock_state.specs.Steps.Items.{TurnstileChain, SleepChain, RecordOf, after_take, after_give}
-use Rattle.lock_state.specs.Steps.{Step, FitsFloor, Seeks, Looks, TakesItem, GivesItem, Gains, Drops, Stamps, Readies, Adds, Wakes, Marks, Resumes, after_all}
-use Rattle.lock_laws.proofs.FloorGuards.{FloorAll, floor_plan, taking}
+use Rattle.sleep_laws.proofs.Names
+use Names.{ℕ, Bool, true, false, List, [], refl, inl, inr, arith, Config, sum_below, least, NotHeld, Holds, sections_in}
+use Names.{BySignal, Mark, chan_queue, Excl, Locked, Unlocked, Sleeps, Woke, WokeOne, start_state, put, put_at}
+use Names.{put_queue, after_seek, after_look, after_gain, after_drop, after_stamp, after_ready, after_mark}
+use Names.{after_resume, after_add, after_wake, TurnstileChain, SleepChain, RecordOf, after_take, after_give, Step}
+use Names.{FitsFloor, Seeks, Looks, TakesItem, GivesItem, Gains, Drops, Stamps, Readies, Adds, Wakes, Marks, Resumes}
+use Names.{after_all, FloorAll, floor_plan, taking}
+use Rattle.std.proofs.Common.{◌≡◌, ◌∷◌, ◌++◌}
 
 unfoldable pub sleeping : List Step
 sleeping =

@@ -1,39 +1,15 @@
 -- How the objects of a run begin: the threads are new, and the machine shows the run's start.
-use Rattle.std.proofs.Common.{◌≡◌, ℕ, ◌*◌, ◌<◌, List, [], ◌∷◌, ◌++◌, length, map, get_or, slice_get, replicate, Some, IsSome, unwrap_or, option_map, refl, sym, ap, subst, ◌∙◌, inl, inr, arith, IsTrue, Contains}
-use Rattle.std.specs.Prelude.{IsSomeAnd}
-use Rattle.std.specs.FinMap.{empty}
-use Rattle.std.proofs.lemmas.Bool.{cases_eq}
-use Rattle.std.proofs.lemmas.List.{get_or_push, get_or_append_left, length_push, get_or-replicate, length-replicate}
-use Rattle.std.proofs.lemmas.List.Elements.{All-nil, All-get_or}
-use Rattle.std.proofs.lemmas.Option.{slice_get-get_or, slice_get-map, slice_get_within, slice_get_cases, same_Some}
-use Rattle.lock_model.specs.History.{tables_of}
-use Rattle.lock_model.specs.Keys.{plan_names}
-use Rattle.lock_model.specs.Operations.{IsProper, operations_in_all, hold_in}
-use Rattle.lock_model.specs.Plans.{config_of, declared_base, lock_class}
-use Rattle.lock_state.specs.Run.{start_run}
-use Rattle.lock_model.specs.Config.{Config}
-use Rattle.lock_state.specs.State.{start_state}
-use Rattle.lock_model.specs.Words.{word_of, free_word}
-use Rattle.lock_model.specs.declared.numbers.ChanNo.{ChanNo}
-use Rattle.lock_model.specs.declared.plan.LockDecl.{LockDecl}
-use Rattle.lock_model.specs.declared.plan.Plan.{Plan}
-use Rattle.lock_model.specs.declared.plan.QueueName.{QueueName}
-use Rattle.lock_model.specs.declared.plan.ThreadDecl.{ThreadDecl}
-use Rattle.witness_orders.specs.Graph.{Graph}
-use Rattle.thread_records.specs.Loans.{loans_for}
-use Rattle.thread_records.specs.Records.{Record, made}
+use Rattle.step_machine.proofs.Names
+use Names.{ℕ, List, [], length, map, get_or, slice_get, replicate, Some, IsSome, unwrap_or, option_map, refl, sym, ap}
+use Names.{subst, inl, inr, arith, IsTrue, Contains, IsSomeAnd, empty, cases_eq, get_or_push, get_or_append_left}
+use Names.{length_push, get_or-replicate, length-replicate, All-nil, All-get_or, slice_get-get_or, slice_get-map}
+use Names.{slice_get_within, slice_get_cases, same_Some, tables_of, plan_names, IsProper, operations_in_all, hold_in}
+use Names.{config_of, declared_base, lock_class, start_run, Config, start_state, word_of, free_word, ChanNo, LockDecl}
+use Names.{Plan, QueueName, ThreadDecl, Graph, loans_for, Record, made, AreNew, IsNew, IsAsFar, RepresentsRun, holds_of}
+use Names.{places_of, AreOfKind, Marked, Waiters, Sleepers, AbortedSleepers, columns_of, mark_of, walk_of, wait_of}
+use Names.{Represents, RepresentsWords, RepresentsThread, RepresentsThreads, progress, Machine, Thread}
+use Rattle.std.proofs.Common.{◌≡◌, ◌*◌, ◌<◌, ◌∷◌, ◌++◌, ◌∙◌}
 use Rattle.turnstile_core.specs.Seen.{Place}
-use Rattle.step_machine.specs.Threads.{AreNew, IsNew}
-use Rattle.step_machine.specs.Runs.{IsAsFar, RepresentsRun}
-use Rattle.lock_objects.specs.Held.{holds_of}
-use Rattle.lock_objects.specs.Marked.{places_of, AreOfKind}
-use Rattle.lock_objects.specs.declared.marked.Marked.{Marked}
-use Rattle.lock_objects.specs.declared.marked.Marked.TheVariants.{Waiters, Sleepers, AbortedSleepers}
-use Rattle.lock_objects.specs.Represents.{columns_of, mark_of, walk_of, wait_of}
-use Rattle.step_machine.specs.Represents.{Represents, RepresentsWords, RepresentsThread, RepresentsThreads}
-use Rattle.step_machine.specs.Steps.{progress}
-use Rattle.step_machine.specs.declared.machine.Machine.{Machine}
-use Rattle.step_machine.specs.declared.thread.Thread.{Thread}
 
 -- 1. Threads
 

@@ -1,43 +1,19 @@
 -- A thread is put on a queue: it blocks on a lock that is held, or sleeps on a channel.
-use Rattle.std.proofs.Common.{◌≡◌, ◌⊎◌, inl, inr, ℕ, ◌<◌, Bool, true, false, cond, List, slice_get, Option, Some, None, option_map, is_some, IsSome, refl, sym, ap, subst, ◌∙◌}
-use Rattle.std.specs.Vec.{with_item}
-use Rattle.std.specs.Box.{with_value}
-use Rattle.lock_model.specs.Config.{Config}
-use Rattle.lock_model.specs.Words.{word_of, entered, owner_of, is_free, is_turnstile}
-use Rattle.lock_model.specs.Queues.{lock_queue, chan_queue, side_of, is_turnstile_queue}
-use Rattle.lock_model.specs.declared.plan.Kind.{Kind}
-use Rattle.lock_model.specs.declared.plan.Kind.TheVariants.{Mtx, Rw}
-use Rattle.lock_model.specs.declared.plan.Mode.{Mode}
-use Rattle.lock_model.specs.declared.plan.Side.{Side}
-use Rattle.lock_model.specs.declared.plan.Side.TheVariants.{X}
-use Rattle.lock_model.specs.declared.plan.QueueName.{QueueName}
+use Rattle.step_machine.proofs.Names
+use Names.{inl, inr, ℕ, Bool, true, false, cond, List, slice_get, Option, Some, None, option_map, is_some, IsSome, refl}
+use Names.{sym, ap, subst, with_item, with_value, Config, word_of, entered, owner_of, is_free, is_turnstile, lock_queue}
+use Names.{chan_queue, side_of, is_turnstile_queue, Kind, Mtx, Rw, Mode, Side, X, QueueName, State, Queued, put, Lawful}
+use Names.{MayMake, Enters, EntersSleepQueue, MayReady, after_ready, MayEnter, after_enter, walk_up, MayEnterSleep}
+use Names.{MayAdd, after_enter_sleep, after_add, put_same, put_other, ready_lawful, Turnstile, SleepQueue, head_of}
+use Names.{Record, Walk, RecordColumns, RepresentsQueues, RepresentsSleepers, RepresentsRecord, queue_in, sleepers_in}
+use Names.{record_in, walk_of, CanStand, CanLend, IsBalanced, ChangesSleepers, sleeper_of, slept, can_lend, can_stand}
+use Names.{balanced, can_sleep, turnstiles_stay, sleepers_stay, sleeper_is, enter_changes, enter_sleep_changes}
+use Names.{add_changes, Machine, Thread, Represents, RepresentsWords, thread_in, enters, arith}
+use Rattle.std.proofs.Common.{◌≡◌, ◌⊎◌, ◌<◌, ◌∙◌}
 use Rattle.lock_state.specs.State as state
-use Rattle.lock_state.specs.State.{State, Queued, put}
-use Rattle.lock_state.specs.Facts.{Lawful}
-use Rattle.lock_state.specs.Steps.{May as MayMake, Enters, EntersSleepQueue}
-use Rattle.lock_state.specs.Steps.LockWords.{MayReady, after_ready}
-use Rattle.lock_state.specs.Steps.Turnstiles.{MayEnter, after_enter, walk_up}
-use Rattle.lock_state.specs.Steps.SleepQueues.{MayEnterSleep, MayAdd, after_enter_sleep, after_add}
-use Rattle.lock_laws.proofs.Kit.{put_same, put_other}
-use Rattle.lock_laws.proofs.OwnWaits.{ready_lawful}
-use Rattle.turnstile_core.specs.Seen.{Turnstile}
-use Rattle.sleep_queues.specs.Seen.{SleepQueue}
-use Rattle.chain_table.specs.Chains.{head_of}
-use Rattle.thread_records.specs.Records.{Record}
 use Rattle.prio_lending.specs.Hops as hops
-use Rattle.prio_lending.specs.declared.walk.Walk.{Walk}
-use Rattle.lock_objects.specs.Represents.{RecordColumns, RepresentsQueues, RepresentsSleepers, RepresentsRecord, queue_in, sleepers_in, record_in, walk_of}
-use Rattle.lock_objects.specs.Enters.{CanStand, CanLend}
-use Rattle.lock_objects.specs.Sleeps.{IsBalanced, ChangesSleepers, sleeper_of, slept}
-use Rattle.lock_objects.proofs.Enters.{can_lend, can_stand}
-use Rattle.lock_objects.proofs.StepsOfSleepers.{balanced, can_sleep, turnstiles_stay, sleepers_stay, sleeper_is, enter_changes, enter_sleep_changes, add_changes}
-use Rattle.step_machine.specs.declared.machine.Machine.{Machine}
-use Rattle.step_machine.specs.declared.thread.Thread.{Thread}
 use Rattle.lock_objects.specs.declared.wait.Wait.TheVariants as wait
-use Rattle.step_machine.specs.Represents.{Represents, RepresentsWords, thread_in}
-use Rattle.step_machine.specs.Steps.{enters}
 use Rattle.step_machine.proofs.Kit.{OthersStay, thread_changed, word_changed, record_of, shown_by}
-use Rattle.std.proofs.Common.{arith}
 
 -- 1. A thread is made ready
 

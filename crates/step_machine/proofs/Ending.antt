@@ -1,15 +1,9 @@
 -- A thread goes on with another operation, and its walk ends.
-use Rattle.std.proofs.Common.{◌≡◌, ℕ, ◌<◌, List, length, get_or, slice_get, Some, refl, sym, ap, ◌∙◌}
-use Rattle.std.proofs.lemmas.Option.{slice_get_read}
-use Rattle.std.specs.Vec.{with_item}
-use Rattle.lock_model.specs.Config.{Config}
-use Rattle.lock_state.specs.State.{State, NoWalk}
-use Rattle.lock_state.specs.Steps.Lending.{MayEndWalk, after_end_walk}
-use Rattle.lock_laws.proofs.Kit.{put_same, put_other}
+use Rattle.step_machine.proofs.Names
+use Names.{ℕ, List, length, get_or, slice_get, Some, refl, sym, ap, slice_get_read, with_item, Config, State, NoWalk}
+use Names.{MayEndWalk, after_end_walk, put_same, put_other, Machine, Thread, Represents, thread_in}
+use Rattle.std.proofs.Common.{◌≡◌, ◌<◌, ◌∙◌}
 use Rattle.prio_lending.specs.declared.walk.Walk.TheVariants as walk
-use Rattle.step_machine.specs.declared.machine.Machine.{Machine}
-use Rattle.step_machine.specs.declared.thread.Thread.{Thread}
-use Rattle.step_machine.specs.Represents.{Represents, thread_in}
 use Rattle.step_machine.proofs.Kit.{OthersStay, thread_changed, shown_by}
 
 -- 1. Operations

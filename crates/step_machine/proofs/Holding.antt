@@ -1,40 +1,17 @@
 -- A thread gains a lock whose word admits it, or claims one whose word shows waiters, and puts one down that it holds.
-use Rattle.std.proofs.Common.{◌≡◌, ℕ, ◌<◌, ◌≤◌, Bool, true, false, List, [], ◌∷◌, ◌++◌, length, slice_get, Option, Some, None, is_some, refl, sym, ap, subst, ◌∙◌, arith}
-use Rattle.std.specs.Prelude.{IfSome, option_map}
-use Rattle.std.specs.Box.{with_value}
-use Rattle.std.specs.Vec.{with_item, vec_capacity}
-use Rattle.lock_state.specs.Facts.{Lawful, WordsMatchHolders}
-use Rattle.lock_state.specs.Facts.Words.{shares}
-use Rattle.lock_state.specs.Steps.LockWords.{effective_of, MayGain, after_gain, MayDrop, after_drop}
-use Rattle.lock_state.specs.Steps.Lending.{MayClaim, after_claim, loan_of}
-use Rattle.lock_model.specs.Operations.{hold_in, without_lock}
-use Rattle.lock_model.specs.Config.{Config}
-use Rattle.lock_state.specs.State.{State, Loan, put, put_at}
-use Rattle.lock_model.specs.Holds.{Hold, NotHeld, Holds}
+use Rattle.step_machine.proofs.Names
+use Names.{ℕ, Bool, true, false, List, [], length, slice_get, Option, Some, None, is_some, refl, sym, ap, subst, arith}
+use Names.{IfSome, with_value, with_item, vec_capacity, Lawful, WordsMatchHolders, shares, effective_of, MayGain}
+use Names.{after_gain, MayDrop, after_drop, MayClaim, after_claim, loan_of, hold_in, without_lock, Config, State, Loan}
+use Names.{put, put_at, Hold, NotHeld, Holds, word_of, sharers, admits, lock_queue, least_of, Kind, Mtx, Rw, Sx, Mode}
+use Names.{Excl, Shared, QueueName, LockNo, Held, put_same, put_other, put_at_other, sum_below-most, owner_is}
+use Names.{has_sharer, IsHeldIn, Turnstile, Record, holds_of, RepresentsQueues, RepresentsRecord, queue_in, record_in}
+use Names.{once_push, once_without, column_push, column_without, Machine, Thread, Represents, RepresentsThread}
+use Names.{thread_in, thread_of, HoldsFew, progress_of, mode_left, with_released}
+use Rattle.std.proofs.Common.{◌≡◌, ◌<◌, ◌≤◌, ◌∷◌, ◌++◌, ◌∙◌}
+use Rattle.std.specs.Prelude.{option_map}
 use Rattle.lock_model.specs.Words as words
-use Rattle.lock_model.specs.Words.{word_of, sharers, admits}
-use Rattle.lock_model.specs.Queues.{lock_queue, least_of}
-use Rattle.lock_model.specs.declared.plan.Kind.{Kind}
-use Rattle.lock_model.specs.declared.plan.Kind.TheVariants.{Mtx, Rw, Sx}
-use Rattle.lock_model.specs.declared.plan.Mode.{Mode}
-use Rattle.lock_model.specs.declared.plan.Mode.TheVariants.{Excl, Shared}
-use Rattle.lock_model.specs.declared.plan.QueueName.{QueueName}
-use Rattle.lock_model.specs.declared.numbers.LockNo.{LockNo}
-use Rattle.lock_model.specs.declared.event.Held.{Held}
-use Rattle.lock_laws.proofs.Kit.{put_same, put_other, put_at_other}
-use Rattle.lock_laws.proofs.Sums.{sum_below-most}
-use Rattle.lock_laws.proofs.Words.{owner_is, has_sharer}
 use Rattle.lock_words.specs.Views as views
-use Rattle.lock_words.specs.Views.{IsHeldIn}
-use Rattle.turnstile_core.specs.Seen.{Turnstile}
-use Rattle.thread_records.specs.Records.{Record}
-use Rattle.lock_objects.specs.Held.{holds_of}
-use Rattle.lock_objects.specs.Represents.{RepresentsQueues, RepresentsRecord, queue_in, record_in}
-use Rattle.lock_objects.proofs.Held.{once_push, once_without, column_push, column_without}
-use Rattle.step_machine.specs.declared.machine.Machine.{Machine}
-use Rattle.step_machine.specs.declared.thread.Thread.{Thread}
-use Rattle.step_machine.specs.Represents.{Represents, RepresentsThread, thread_in, thread_of}
-use Rattle.step_machine.specs.Steps.{HoldsFew, progress_of, mode_left, with_released}
 use Rattle.step_machine.proofs.Kit.{OthersStay, thread_changed, word_changed, record_of, shown_by}
 
 -- 1. A gain, and a claim

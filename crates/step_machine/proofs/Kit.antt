@@ -1,26 +1,13 @@
 -- How the parts of a machine show a state's columns when one thread or one word changes.
-use Rattle.std.proofs.Common.{◌≡◌, ◌≢◌, ℕ, ◌<◌, ◌==◌, if◌then◌else◌, Bool, List, length, reverse, slice_set, slice_index_or, get_or, slice_get, Some, option_map, refl, sym, ap, subst, inl, inr, arith, ◌∙◌}
-use Rattle.std.proofs.lemmas.Bool.{cases_eq, cases_lt, eq-eqb, ne_eqb}
-use Rattle.std.proofs.lemmas.List.{get_or-set_same, get_or-set_other, length-set, get_or_read}
-use Rattle.std.proofs.lemmas.Option.{slice_get-get_or, slice_get_within, slice_get_past, slice_get_read, same_Some}
-use Rattle.std.specs.Global.{Vec}
-use Rattle.lock_model.specs.Words.{Word, word_of, IsPossible}
-use Rattle.lock_model.specs.History.{tables_of}
-use Rattle.lock_model.specs.declared.plan.QueueName.{QueueName}
-use Rattle.lock_model.specs.Config.{Config}
-use Rattle.lock_state.specs.State.{State, put}
-use Rattle.lock_state.specs.Steps.LockWords.{after_look}
-use Rattle.lock_state.specs.Facts.{Lawful}
-use Rattle.lock_laws.proofs.Kit.{put_same, put_other}
-use Rattle.lock_laws.proofs.WordsAndHeads.{possible_holder}
-use Rattle.lock_objects.specs.Represents.{RepresentsRecord, RepresentsQueues, RepresentsSleepers, queue_in, sleepers_in, record_in}
-use Rattle.turnstile_core.specs.Seen.{Turnstile}
-use Rattle.sleep_queues.specs.Seen.{SleepQueue}
-use Rattle.step_machine.specs.declared.thread.Thread.{Thread}
-use Rattle.step_machine.specs.Steps.{Progress, progress_of}
-use Rattle.step_machine.specs.declared.machine.Machine.{Machine}
-use Rattle.witness_orders.specs.Graph.{RepresentsGraph}
-use Rattle.step_machine.specs.Represents.{Represents, RepresentsWords, RepresentsThread, RepresentsThreads, thread_in}
+use Rattle.step_machine.proofs.Names
+use Names.{ℕ, Bool, List, length, reverse, slice_set, slice_index_or, get_or, slice_get, Some, option_map, refl, sym}
+use Names.{ap, subst, inl, inr, arith, cases_eq, cases_lt, eq-eqb, ne_eqb, get_or-set_same, get_or-set_other}
+use Names.{length-set, get_or_read, slice_get-get_or, slice_get_within, slice_get_past, slice_get_read, same_Some, Vec}
+use Names.{Word, word_of, IsPossible, tables_of, QueueName, Config, State, put, after_look, Lawful, put_same, put_other}
+use Names.{possible_holder, RepresentsRecord, RepresentsQueues, RepresentsSleepers, queue_in, sleepers_in, record_in}
+use Names.{Turnstile, SleepQueue, Thread, Progress, progress_of, Machine, RepresentsGraph, Represents, RepresentsWords}
+use Names.{RepresentsThread, RepresentsThreads, thread_in}
+use Rattle.std.proofs.Common.{◌≡◌, ◌≢◌, ◌<◌, ◌==◌, if◌then◌else◌, ◌∙◌}
 
 -- 1. Lists
 

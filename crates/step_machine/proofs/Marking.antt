@@ -1,30 +1,15 @@
 -- The first of a marked list has its object back and is woken.
-use Rattle.std.proofs.Common.{◌≡◌, ◌≢◌, ℕ, ◌<◌, Bool, true, false, not, List, [], get_or, ◌∷◌, map, slice_get, slice_set, Option, Some, None, IsSome, unwrap_or, refl, sym, ap, subst, ◌∙◌}
-use Rattle.std.specs.Box.{with_value}
-use Rattle.std.specs.Vec.{with_item}
-use Rattle.std.proofs.lemmas.List.Elements.{All-head, All-tail, All-same}
-use Rattle.lock_model.specs.Config.{Config}
-use Rattle.lock_state.specs.State.{State, Woken as WokenFrom, put}
-use Rattle.lock_model.specs.Queues.{Mark, BySignal, is_turnstile_queue}
-use Rattle.lock_state.specs.Facts.{Lawful}
-use Rattle.lock_state.specs.Steps.Turnstiles.{MayMark, after_mark}
-use Rattle.lock_model.specs.declared.plan.QueueName.{QueueName}
-use Rattle.lock_laws.proofs.Kit.{put_same, put_other}
-use Rattle.lock_laws.proofs.Standing.{marked_named, marked_thread, named_out, asleep_out}
-use Rattle.sleep_queues.specs.Seen.{Place}
-use Rattle.thread_records.specs.Records.{Record}
-use Rattle.lock_objects.specs.Represents.{record_in, mark_of}
-use Rattle.lock_objects.specs.Marked.{places_of, cause_in, cause_by, AreOfKind, node_of, like, IsFirst, IsAway, record_woken}
-use Rattle.lock_objects.specs.declared.marked.Marked.{Marked}
-use Rattle.lock_objects.specs.declared.marked.Woken.{Woken}
-use Rattle.lock_objects.specs.declared.marked.Woken.TheVariants.{Waiter, Sleeper, AbortedSleeper}
-use Rattle.step_machine.specs.declared.machine.Machine.{Machine}
-use Rattle.step_machine.specs.declared.thread.Thread.{Thread}
+use Rattle.step_machine.proofs.Names
+use Names.{ℕ, Bool, true, false, not, List, [], get_or, map, slice_get, slice_set, Option, Some, None, IsSome}
+use Names.{unwrap_or, refl, sym, ap, subst, with_value, with_item, All-head, All-tail, All-same, Config, State}
+use Names.{WokenFrom, put, Mark, BySignal, is_turnstile_queue, Lawful, MayMark, after_mark, QueueName, put_same}
+use Names.{put_other, marked_named, marked_thread, named_out, asleep_out, Place, Record, record_in, mark_of, places_of}
+use Names.{cause_in, cause_by, AreOfKind, node_of, like, IsFirst, IsAway, record_woken, Marked, Woken, Waiter, Sleeper}
+use Names.{AbortedSleeper, Machine, Thread, Represents, RepresentsThread, RepresentsThreads, thread_in, KeepsProgress}
+use Names.{arith}
+use Rattle.std.proofs.Common.{◌≡◌, ◌≢◌, ◌<◌, ◌∷◌, ◌∙◌}
 use Rattle.lock_objects.specs.declared.wait.Wait.TheVariants as wait
-use Rattle.step_machine.specs.Represents.{Represents, RepresentsThread, RepresentsThreads, thread_in}
-use Rattle.step_machine.specs.Steps.{KeepsProgress}
 use Rattle.step_machine.proofs.Kit.{OthersStay, thread_changed, read, aside_stays, shown_by}
-use Rattle.std.proofs.Common.{arith}
 
 -- the thread with another marked list
 abbrev pub with_marked : Thread → Marked → Thread

@@ -1,43 +1,18 @@
 -- Those who stand on a queue are taken off it: waiters of a lock by its last holder's release, and sleepers of a
 -- channel by a wake.
-use Rattle.std.proofs.Common.{◌≡◌, ℕ, ◌≤◌, ◌<◌, ◌^◌, Bool, true, false, cond, List, map, slice_get, Option, Some, None, IsSome, refl, sym, ap, subst, ◌∙◌, arith}
-use Rattle.std.specs.List.{All}
-use Rattle.std.specs.Vec.{with_item, vec_capacity}
-use Rattle.std.specs.Box.{with_value}
-use Rattle.lock_model.specs.Config.{Config}
-use Rattle.lock_model.specs.Holds.{NotHeld}
-use Rattle.lock_model.specs.Operations.{hold_in, without_lock}
-use Rattle.lock_model.specs.Queues.{Mark, BySignal, lock_queue, chan_queue, is_turnstile_queue, list_of, dealt, taken_off}
-use Rattle.lock_model.specs.Words.{Holder, Free, HeldBy, SharedBy, word_of, is_free, is_turnstile, without_one, opened, side_opened, side_woken}
-use Rattle.lock_model.specs.declared.plan.Kind.{Kind}
-use Rattle.lock_model.specs.declared.plan.Mode.{Mode}
-use Rattle.lock_model.specs.declared.plan.Side.{Side}
-use Rattle.lock_model.specs.declared.plan.Side.TheVariants.{X}
-use Rattle.lock_model.specs.declared.plan.QueueName.{QueueName}
-use Rattle.lock_state.specs.State.{State, put, put_at}
-use Rattle.lock_state.specs.Facts.{Lawful}
-use Rattle.lock_state.specs.Steps.{May as MayMake, Opens, OpensSleepQueue}
-use Rattle.lock_state.specs.Steps.LockWords.{effective_of, bits_of_threads}
-use Rattle.lock_state.specs.Steps.Turnstiles.{IsLastHolder, MayOpen, after_open}
-use Rattle.lock_state.specs.Steps.SleepQueues.{MayOpenSleep, MayWake, after_open_sleep, after_wake}
-use Rattle.lock_laws.proofs.Kit.{put_same, put_other, put_at_other}
-use Rattle.lock_laws.proofs.Taken.{few_bits}
-use Rattle.lock_words.specs.Views.{IsHeldIn}
-use Rattle.turnstile_core.specs.Seen.{Turnstile}
-use Rattle.sleep_queues.specs.Seen.{SleepQueue, Place}
-use Rattle.thread_records.specs.Records.{Record}
-use Rattle.lock_objects.specs.Held.{holds_of}
-use Rattle.lock_objects.specs.Marked.{places_of, cause_in, AreOfKind}
-use Rattle.lock_objects.specs.declared.marked.Marked.{Marked}
-use Rattle.lock_objects.specs.declared.marked.Marked.TheVariants.{Waiters, Sleepers}
-use Rattle.lock_objects.specs.Represents.{RepresentsQueues, RepresentsSleepers, RepresentsRecord, queue_in, sleepers_in, record_in, mark_of}
-use Rattle.lock_objects.specs.Sleeps.{IsBalanced, ChangesSleepers, woken}
-use Rattle.lock_objects.proofs.Held.{once_without, column_without}
-use Rattle.lock_objects.proofs.StepsOfSleepers.{balanced, taken_are, turnstiles_stay, sleepers_stay, open_changes, open_sleep_changes, wake_changes}
-use Rattle.step_machine.specs.declared.machine.Machine.{Machine}
-use Rattle.step_machine.specs.declared.thread.Thread.{Thread}
-use Rattle.step_machine.specs.Represents.{Represents, RepresentsWords, thread_in, thread_of}
-use Rattle.step_machine.specs.Steps.{opens, mode_left, progress_of, with_released}
+use Rattle.step_machine.proofs.Names
+use Names.{ℕ, Bool, true, false, cond, List, map, slice_get, Option, Some, None, IsSome, refl, sym, ap, subst, arith}
+use Names.{All, with_item, vec_capacity, with_value, Config, NotHeld, hold_in, without_lock, Mark, BySignal, lock_queue}
+use Names.{chan_queue, is_turnstile_queue, list_of, dealt, taken_off, Holder, Free, HeldBy, SharedBy, word_of, is_free}
+use Names.{is_turnstile, without_one, opened, side_opened, side_woken, Kind, Mode, Side, X, QueueName, State, put}
+use Names.{put_at, Lawful, MayMake, Opens, OpensSleepQueue, effective_of, bits_of_threads, IsLastHolder, MayOpen}
+use Names.{after_open, MayOpenSleep, MayWake, after_open_sleep, after_wake, put_same, put_other, put_at_other, few_bits}
+use Names.{IsHeldIn, Turnstile, SleepQueue, Place, Record, holds_of, places_of, cause_in, AreOfKind, Marked, Waiters}
+use Names.{Sleepers, RepresentsQueues, RepresentsSleepers, RepresentsRecord, queue_in, sleepers_in, record_in, mark_of}
+use Names.{IsBalanced, ChangesSleepers, woken, once_without, column_without, balanced, taken_are, turnstiles_stay}
+use Names.{sleepers_stay, open_changes, open_sleep_changes, wake_changes, Machine, Thread, Represents, RepresentsWords}
+use Names.{thread_in, thread_of, opens, mode_left, progress_of, with_released}
+use Rattle.std.proofs.Common.{◌≡◌, ◌≤◌, ◌<◌, ◌^◌, ◌∙◌}
 use Rattle.step_machine.proofs.Kit.{OthersStay, thread_changed, word_changed, record_of, shown_by}
 use Rattle.step_machine.proofs.Holding.{is_held}
 

@@ -1,20 +1,11 @@
 -- A lock is admitted to a thread behind those that it holds: the graph has their edges, and the thread has the lock to
 -- gain. Or it is refused, of which no object tells before that is noted.
-use Rattle.std.proofs.Common.{◌≡◌, ℕ, true, List, slice_get, Some, is_some, refl, sym, ap, subst}
-use Rattle.std.specs.Vec.{with_item}
-use Rattle.lock_model.specs.Config.{Config}
-use Rattle.lock_model.specs.Orders.{HaveSameEdges, IsAdmitted, edges_behind}
-use Rattle.lock_model.proofs.Orders.{same_admitted, same_back}
-use Rattle.lock_state.specs.State.{State}
-use Rattle.lock_state.specs.Steps.Orders.{MayAdmit, classes_held, after_admit, after_refuse}
-use Rattle.lock_model.specs.declared.numbers.ClassNo.{ClassNo}
-use Rattle.lock_laws.proofs.Kit.{put_same, put_other}
-use Rattle.witness_orders.specs.Graph.{Graph, RepresentsGraph, numbers_of}
-use Rattle.witness_orders.proofs.Columns.{graph_behind}
-use Rattle.step_machine.specs.declared.machine.Machine.{Machine}
-use Rattle.step_machine.specs.declared.thread.Thread.{Thread}
-use Rattle.step_machine.specs.Represents.{Represents, thread_in}
-use Rattle.step_machine.specs.Steps.{AreClasses}
+use Rattle.step_machine.proofs.Names
+use Names.{ℕ, true, List, slice_get, Some, is_some, refl, sym, ap, subst, with_item, Config, HaveSameEdges, IsAdmitted}
+use Names.{edges_behind, same_admitted, same_back, State, MayAdmit, classes_held, after_admit, after_refuse, ClassNo}
+use Names.{put_same, put_other, Graph, RepresentsGraph, numbers_of, graph_behind, Machine, Thread, Represents}
+use Names.{thread_in, AreClasses}
+use Rattle.std.proofs.Common.{◌≡◌}
 use Rattle.step_machine.proofs.Kit.{OthersStay, thread_changed, threads_stay, shown_by}
 
 -- 1. The graph

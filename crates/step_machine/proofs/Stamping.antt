@@ -1,35 +1,15 @@
 -- An entry of the history is made, with what it says of a table, of a thread's base priority, of its wait, or of its
 -- being cut.
-use Rattle.std.proofs.Common.{◌≡◌, ℕ, ◌<◌, ◌≤◌, Bool, ◌||◌, List, [], ◌∷◌, ◌++◌, length, reverse, slice_get, slice_set, Option, Some, None, option_map, refl, sym, ap, subst, ◌∙◌}
-use Rattle.std.proofs.lemmas.List.{reverse-append, length-reverse}
-use Rattle.std.specs.Box.{with_value}
-use Rattle.lock_state.specs.Facts.{Lawful, NextIsNew}
-use Rattle.lock_model.specs.History.{edited, tables_of}
-use Rattle.lock_state.specs.Steps.LockWords.{MayStamp, after_stamp, effective_of, entry_of}
-use Rattle.lock_model.specs.Config.{Config}
-use Rattle.lock_state.specs.State.{State}
-use Rattle.lock_model.specs.Events.{of_sleep, fell_asleep, new_base}
-use Rattle.lock_model.specs.Takes.{is_reversal, has_reversal}
-use Rattle.lock_state.specs.Run.{waits_on, was_cut}
-use Rattle.lock_model.specs.declared.numbers.ChanNo.{ChanNo}
-use Rattle.lock_model.specs.declared.numbers.Prio.{Prio}
-use Rattle.lock_model.specs.declared.numbers.ThreadNo.{ThreadNo}
-use Rattle.lock_model.specs.declared.event.Entry.{Entry}
-use Rattle.lock_model.specs.declared.event.Event.{Event}
-use Rattle.lock_model.specs.declared.event.Event.TheVariants.{Base}
-use Rattle.lock_laws.proofs.Kit.{put_same, put_other}
-use Rattle.thread_records.specs.Loans.{loans_for}
-use Rattle.thread_records.specs.Records.{Record, with_base, with_given_base}
-use Rattle.lock_objects.specs.Represents.{RepresentsQueues, RepresentsSleepers, RepresentsRecord, queue_in, sleepers_in, record_in, columns_of}
-use Rattle.lock_objects.proofs.Records.{with_other_base, none_beyond}
-use Rattle.step_machine.specs.declared.machine.Machine.{Machine}
-use Rattle.step_machine.specs.declared.thread.Thread.{Thread}
-use Rattle.step_machine.specs.Noted.{IsNoted}
-use Rattle.witness_orders.specs.Graph.{RepresentsGraph}
-use Rattle.step_machine.specs.Represents.{Represents, RepresentsWords, RepresentsThread, RepresentsThreads, thread_in, thread_of}
-use Rattle.step_machine.specs.Steps.{progress_of}
+use Rattle.step_machine.proofs.Names
+use Names.{ℕ, Bool, List, [], length, reverse, slice_get, slice_set, Option, Some, None, option_map, refl, sym, ap}
+use Names.{subst, reverse-append, length-reverse, with_value, Lawful, NextIsNew, edited, tables_of, MayStamp}
+use Names.{after_stamp, effective_of, entry_of, Config, State, of_sleep, fell_asleep, new_base, is_reversal}
+use Names.{has_reversal, waits_on, was_cut, ChanNo, Prio, ThreadNo, Entry, Event, Base, put_same, put_other, loans_for}
+use Names.{Record, with_base, with_given_base, RepresentsQueues, RepresentsSleepers, RepresentsRecord, queue_in}
+use Names.{sleepers_in, record_in, columns_of, with_other_base, none_beyond, Machine, Thread, IsNoted, RepresentsGraph}
+use Names.{Represents, RepresentsWords, RepresentsThread, RepresentsThreads, thread_in, thread_of, progress_of, arith}
+use Rattle.std.proofs.Common.{◌≡◌, ◌<◌, ◌≤◌, ◌||◌, ◌∷◌, ◌++◌, ◌∙◌}
 use Rattle.step_machine.proofs.Kit.{OthersStay, thread_changed, record_of, aside_stays}
-use Rattle.std.proofs.Common.{arith}
 
 -- 1. The thread
 

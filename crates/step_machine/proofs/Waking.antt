@@ -1,21 +1,11 @@
 -- A woken thread runs again, and has the lock of its wait to gain.
-use Rattle.std.proofs.Common.{◌≡◌, ℕ, Bool, ◌||◌, slice_get, Option, Some, is_some, refl, sym, ap, ◌∙◌}
-use Rattle.std.specs.Vec.{with_item}
-use Rattle.lock_model.specs.Config.{Config}
-use Rattle.lock_state.specs.State.{State, Running, Woken}
-use Rattle.lock_model.specs.Queues.{Cause, BySignal}
-use Rattle.lock_state.specs.Steps.LockWords.{is_taking_back}
-use Rattle.lock_state.specs.Steps.Turnstiles.{MayResume, after_resume, wanted_after}
-use Rattle.lock_model.specs.declared.plan.QueueName.{QueueName}
-use Rattle.lock_model.specs.declared.plan.QueueName.TheVariants.{Lock, Chan}
-use Rattle.lock_laws.proofs.Kit.{put_same, put_other}
-use Rattle.step_machine.specs.declared.machine.Machine.{Machine}
-use Rattle.step_machine.specs.declared.thread.Thread.{Thread}
-use Rattle.lock_objects.specs.declared.wait.Wait.{Wait}
+use Rattle.step_machine.proofs.Names
+use Names.{ℕ, Bool, slice_get, Option, Some, is_some, refl, sym, ap, with_item, Config, State, Running, Cause, BySignal}
+use Names.{is_taking_back, MayResume, after_resume, wanted_after, QueueName, Lock, Chan, put_same, put_other, Machine}
+use Names.{Thread, Wait, Represents, thread_in, wait_of, is_back}
+use Rattle.std.proofs.Common.{◌≡◌, ◌||◌, ◌∙◌}
+use Rattle.lock_state.specs.State.{Woken}
 use Rattle.lock_objects.specs.declared.wait.Wait.TheVariants as wait
-use Rattle.step_machine.specs.Represents.{Represents, thread_in}
-use Rattle.lock_objects.specs.Represents.{wait_of}
-use Rattle.step_machine.specs.Threads.{is_back}
 use Rattle.step_machine.proofs.Kit.{thread_changed, shown_by}
 
 -- where it was woken from a channel it has the lock of its wait to gain

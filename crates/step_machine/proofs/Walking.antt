@@ -1,30 +1,14 @@
 -- The hops of a lending walk: the owner of a lock is lent the best priority of those who wait, and one who waits is
 -- sorted anew.
-use Rattle.std.proofs.Common.{◌≡◌, ℕ, ◌<◌, List, get_or, slice_get, slice_set, Option, Some, refl, sym, ap, ◌∙◌}
-use Rattle.std.specs.Prelude.{◌==◌, not, ◌&&◌}
-use Rattle.std.specs.Box.{with_value}
-use Rattle.std.specs.Vec.{with_item}
-use Rattle.lock_model.specs.Config.{Config}
-use Rattle.lock_model.specs.Queues.{lock_queue, names_turnstile, least_of}
-use Rattle.lock_model.specs.declared.plan.QueueName.{QueueName}
-use Rattle.lock_state.specs.State.{State, Loan, put}
-use Rattle.lock_state.specs.Facts.{Lawful}
-use Rattle.lock_state.specs.Steps.LockWords.{effective_of}
-use Rattle.lock_state.specs.Steps.Turnstiles.{walk_up}
-use Rattle.lock_state.specs.Steps.Lending.{MayLend, after_lend, MayShift, after_shift, loan_of, walk_to}
-use Rattle.lock_laws.proofs.Kit.{put_other, put_at_other}
-use Rattle.lock_laws.proofs.HeadsAndNodes.{owner_thread}
-use Rattle.lock_laws.proofs.Standing.{standing_thread}
-use Rattle.turnstile_core.specs.Seen.{Turnstile}
-use Rattle.thread_records.specs.Records.{Record}
-use Rattle.prio_lending.specs.declared.walk.Walk.{Walk}
-use Rattle.lock_objects.specs.Represents.{RepresentsQueues, RepresentsRecord, queue_in, record_in, walk_of}
-use Rattle.step_machine.specs.declared.machine.Machine.{Machine}
-use Rattle.step_machine.specs.declared.thread.Thread.{Thread}
-use Rattle.step_machine.specs.Represents.{Represents, RepresentsThreads, thread_in}
-use Rattle.step_machine.specs.Steps.{KeepsProgress}
+use Rattle.step_machine.proofs.Names
+use Names.{ℕ, List, get_or, slice_get, slice_set, Option, Some, refl, sym, ap, with_value, with_item, Config}
+use Names.{lock_queue, names_turnstile, least_of, QueueName, State, Loan, put, Lawful, effective_of, walk_up, MayLend}
+use Names.{after_lend, MayShift, after_shift, loan_of, walk_to, put_other, put_at_other, owner_thread, standing_thread}
+use Names.{Turnstile, Record, Walk, RepresentsQueues, RepresentsRecord, queue_in, record_in, walk_of, Machine, Thread}
+use Names.{Represents, RepresentsThreads, thread_in, KeepsProgress, sleepers_stay, shift_changes}
+use Rattle.std.proofs.Common.{◌≡◌, ◌<◌, ◌∙◌}
+use Rattle.std.specs.Prelude.{◌==◌, ◌&&◌, not}
 use Rattle.step_machine.proofs.Kit.{OthersStay, thread_changed, read, aside_stays, shown_by}
-use Rattle.lock_objects.proofs.StepsOfSleepers.{sleepers_stay, shift_changes}
 
 -- the thread with another record in its box, and with another walk
 abbrev pub with_record : Thread → Record → Thread

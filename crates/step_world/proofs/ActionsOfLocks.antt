@@ -1,55 +1,25 @@
 -- The actions of a running thread that takes, tries or releases a lock, by what it reads.
-use Rattle.std.proofs.Common.{◌≡◌, ◌≢◌, ℕ, suc, ◌+◌, ◌-◌, ◌<◌, Bool, true, false, cond, List, [], ◌∷◌, ◌++◌, length, take, length-append, slice_get, get_or, Option, Some, None, IsSomeAnd, unwrap_or, refl, sym, ap, subst, arith, ◌∙◌}
-use Rattle.std.specs.Prelude.{IfSome, vec_len}
-use Rattle.std.proofs.lemmas.List.{take_all, take_more}
-use Rattle.std.proofs.lemmas.Option.{none-some, same_Some, slice_get-get_or}
-use Rattle.lock_model.specs.Plans.{config_of}
-use Rattle.lock_model.specs.Operations.{IsProper, hold_in, without_lock}
-use Rattle.lock_model.specs.Limits.{most_held}
-use Rattle.lock_model.specs.Config.{Config}
-use Rattle.lock_model.specs.Holds.{NotHeld, Holds}
-use Rattle.lock_model.specs.Queues.{lock_queue}
-use Rattle.lock_model.specs.Takes.{has_reversal}
-use Rattle.lock_model.specs.Words.{word_of, bits_of, IsWellFormed, admits, is_plain, is_drop, is_turnstile}
-use Rattle.lock_state.specs.State.{State, HeldLock, put_at, gained_order}
-use Rattle.lock_state.specs.Facts.{Lawful}
-use Rattle.lock_state.specs.Steps.{Step, Looks, Gains, Claims, Stamps, Readies, Enters, EntersSleepQueue, Drops, Opens, OpensSleepQueue, May as MayMake, MayAll, after, after_all}
-use Rattle.lock_state.specs.Steps.LockWords.{without_held, MayStamp, after_gain, after_drop, after_look, after_ready, after_stamp}
-use Rattle.lock_state.specs.Steps.Turnstiles.{after_enter, after_open}
-use Rattle.lock_state.specs.Steps.SleepQueues.{after_enter_sleep, after_open_sleep}
-use Rattle.lock_state.specs.Steps.Lending.{after_claim}
-use Rattle.lock_state.specs.Run.{Run, ends, does, blocks, takes, operates, mode_held, waits_on, held_now}
-use Rattle.lock_model.specs.declared.numbers.LockNo.{LockNo}
-use Rattle.lock_model.specs.declared.event.Held.{Held}
-use Rattle.lock_model.specs.declared.plan.Kind.{Kind}
-use Rattle.lock_model.specs.declared.plan.Mode.{Mode}
-use Rattle.lock_model.specs.declared.plan.Mode.TheVariants.{Excl, Shared}
-use Rattle.lock_model.specs.declared.plan.Op.{Op}
-use Rattle.lock_model.specs.declared.plan.Op.TheVariants.{Try, Release}
-use Rattle.lock_model.specs.declared.plan.Plan.{Plan}
-use Rattle.lock_model.specs.declared.plan.QueueName.TheVariants.{Lock}
-use Rattle.lock_model.specs.declared.event.Event.{Event}
+use Rattle.step_world.proofs.Names
+use Names.{ℕ, suc, Bool, true, false, cond, List, [], length, take, length-append, slice_get, get_or, Option, Some}
+use Names.{None, IsSomeAnd, refl, sym, ap, subst, arith, vec_len, take_all, take_more, none-some, same_Some}
+use Names.{slice_get-get_or, config_of, IsProper, hold_in, without_lock, most_held, Config, NotHeld, Holds, lock_queue}
+use Names.{has_reversal, word_of, bits_of, IsWellFormed, admits, is_plain, is_drop, is_turnstile, State, HeldLock}
+use Names.{put_at, gained_order, Lawful, Step, Looks, Gains, Claims, Stamps, Readies, Enters, EntersSleepQueue, Drops}
+use Names.{Opens, OpensSleepQueue, MayMake, MayAll, after, after_all, without_held, MayStamp, after_gain, after_drop}
+use Names.{after_look, after_ready, after_stamp, after_enter, after_open, after_enter_sleep, after_open_sleep}
+use Names.{after_claim, Run, ends, does, blocks, takes, operates, mode_held, waits_on, held_now, LockNo, Held, Kind}
+use Names.{Mode, Excl, Shared, Op, Try, Release, Plan, Lock, Event, StepKind, Did, Idle, IsAtOperation, well_formed}
+use Names.{keeps, put_same, held_few, try_passes, release_fits, gained_order-push, awake, before, behind, fit, IsAwake}
+use Names.{Taking, anew, back, Gaining, by_taking, by_trying, makes_operation, goes_by_wait, Finds, finds, Machine}
+use Names.{Thread, Makes, HoldsFew, Progress, progress, ChangesProgress, KeepsBooks, with_released, enters, opens, Does}
+use Names.{Ends, Skips, HasState, IsRunOf, IsTurn, IsMade, IsTake, IsGain, IsGivingUp, GivesBack, MayGiveBack}
+use Names.{MayUnlock, Unlocks, back_in, unlocks, IsAsFar, word_read}
+use Rattle.std.proofs.Common.{◌≡◌, ◌≢◌, ◌+◌, ◌-◌, ◌<◌, ◌∷◌, ◌++◌, ◌∙◌, unwrap_or}
+use Rattle.std.specs.Prelude.{IfSome}
 use Rattle.lock_model.specs.declared.event.Event.TheVariants as event
-use Rattle.lock_model.specs.declared.turn.StepKind.{StepKind}
 use Rattle.lock_model.specs.declared.turn.StepKind.TheVariants as kinds
-use Rattle.lock_model.specs.declared.turn.Turn.TheVariants.{Did, Idle}
-use Rattle.run_laws.specs.OnTrack.{IsAtOperation}
-use Rattle.lock_laws.proofs.AtTurn.{well_formed}
-use Rattle.lock_laws.proofs.Steps.{keeps}
-use Rattle.lock_laws.proofs.Kit.{put_same}
-use Rattle.lock_laws.proofs.HeldLists.{held_few, try_passes, release_fits, gained_order-push}
-use Rattle.run_laws.proofs.OnTrack.{awake, before, behind, fit, IsAwake}
-use Rattle.run_laws.proofs.Actions.{Taking, anew, back, Gaining, by_taking, by_trying, makes_operation, goes_by_wait}
-use Rattle.run_laws.proofs.TurnsOfGains.{Finds, finds}
 use Rattle.run_laws.proofs.TurnsOfReleases as releases
-use Rattle.step_machine.specs.declared.machine.Machine.{Machine}
-use Rattle.step_machine.specs.declared.thread.Thread.{Thread}
 use Rattle.step_machine.specs.Represents.{Represents}
-use Rattle.step_machine.specs.Steps.{Makes, HoldsFew, Progress, progress, ChangesProgress, KeepsBooks, with_released, enters, opens}
-use Rattle.step_world.specs.declared.turns.Made.TheVariants.{Does, Ends, Skips}
-use Rattle.step_world.specs.Runs.{HasState, IsRunOf, IsTurn, IsMade, IsTake, IsGain, IsGivingUp, GivesBack, MayGiveBack, MayUnlock, Unlocks, back_in, unlocks}
-use Rattle.step_machine.specs.Runs.{IsAsFar}
-use Rattle.step_machine.proofs.Kit.{word_read}
 use Rattle.step_world.proofs.AsFar.{waits_behind, cut_behind, awake_behind, behind_cut}
 use Rattle.step_world.proofs.Turning.{SameRoom, of_books, IsTurning, goes, all_made, Begins, begins, made, made_behind, made_still, still, stays}
 use Rattle.step_world.proofs.Ends.{aside_is}

@@ -1,35 +1,15 @@
 -- The action of a running thread's operation, and for one that only makes an entry.
-use Rattle.std.proofs.Common.{◌≡◌, ℕ, ◌<◌, Bool, true, ◌&&◌, [], length, slice_get, Option, Some, None, option_map, refl, sym, ap, subst, eq-eqb, ◌∙◌}
-use Rattle.std.specs.Prelude.{IsTrue, unwrap_or, ◌==◌}
-use Rattle.std.specs.List.{list_any}
-use Rattle.std.proofs.lemmas.Option.{none-some, slice_get-map}
-use Rattle.std.proofs.lemmas.Map.Keys.{any_passes_from_place}
-use Rattle.lock_model.specs.Plans.{config_of, operations_of}
-use Rattle.lock_model.specs.Keys.{op_names, plan_names}
-use Rattle.lock_model.specs.Operations.{IsProper}
-use Rattle.lock_state.specs.Run.{Run, notes, operates}
-use Rattle.lock_model.specs.declared.plan.Op.{Op}
-use Rattle.lock_model.specs.declared.plan.Plan.{Plan}
-use Rattle.lock_model.specs.declared.plan.ThreadDecl.{ThreadDecl}
-use Rattle.lock_model.specs.declared.event.Event.{Event}
-use Rattle.lock_model.specs.declared.turn.Turn.TheVariants.{Idle}
-use Rattle.run_laws.specs.OnTrack.{IsAtOperation}
-use Rattle.run_laws.proofs.Actions.{Notes, sets, adds, gets, changes_base, shows, makes_operation}
-use Rattle.run_laws.proofs.TurnsOfNotes.{is_noted}
-use Rattle.run_laws.proofs.OnTrack.{awake}
-use Rattle.step_machine.specs.declared.machine.Machine.{Machine}
-use Rattle.step_machine.specs.Steps.{HasKey}
-use Rattle.step_world.specs.Runs.{IsRunOf, IsNote, IsMade}
-use Rattle.step_world.specs.declared.turns.Made.TheVariants.{Does}
+use Rattle.step_world.proofs.Names
+use Names.{ℕ, Bool, true, [], length, slice_get, Option, Some, None, option_map, refl, sym, ap, subst, eq-eqb, IsTrue}
+use Names.{unwrap_or, list_any, none-some, slice_get-map, any_passes_from_place, config_of, operations_of, op_names}
+use Names.{plan_names, IsProper, Run, notes, operates, Op, Plan, ThreadDecl, Event, Idle, IsAtOperation, Notes, sets}
+use Names.{adds, gets, changes_base, shows, makes_operation, is_noted, awake, Machine, HasKey, IsRunOf, IsNote, IsMade}
+use Names.{Does, get, value_at, LockNo, Prio, EndTry, Get, Show, Thread}
+use Rattle.std.proofs.Common.{◌≡◌, ◌<◌, ◌&&◌, ◌∙◌}
+use Rattle.std.specs.Prelude.{◌==◌}
 use Rattle.step_world.proofs.Turning.{Begins, begins, made_still}
-use Rattle.std.specs.FinMap.{get}
-use Rattle.lock_model.specs.History.{value_at}
-use Rattle.lock_model.specs.declared.numbers.LockNo.{LockNo}
-use Rattle.lock_model.specs.declared.numbers.Prio.{Prio}
-use Rattle.lock_model.specs.declared.plan.Op.TheVariants.{EndTry, Get, Show}
 use Rattle.lock_model.specs.declared.event.Event.TheVariants as event
 use Rattle.lock_laws.proofs.Derived as derived
-use Rattle.step_machine.specs.declared.thread.Thread.{Thread}
 
 -- 1. Keys
 

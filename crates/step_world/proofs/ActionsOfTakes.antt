@@ -1,50 +1,23 @@
 -- The actions of the first turn of a take: its lock is admitted, and taken in the run behind that; or it is
 -- refused.
-use Rattle.std.proofs.Common.{◌≡◌, ◌⊎◌, ℕ, ◌<◌, ◌≤◌, Bool, true, false, cond, List, [], ◌∷◌, ◌++◌, length, map, reverse, slice_get, eqb, eq-eqb, Option, Some, None, is_some, IsSomeAnd, refl, sym, ap, subst, inl, inr, ◌∙◌}
+use Rattle.step_world.proofs.Names
+use Names.{ℕ, Bool, true, false, cond, List, [], length, map, reverse, slice_get, eqb, eq-eqb, Option, Some, None}
+use Names.{is_some, IsSomeAnd, refl, sym, ap, subst, inl, inr, All-nil, All-cons, All-head, All-tail, unwrap_or}
+use Names.{cases_Bool, reverse-append, reverse-reverse, map-append, Config, Holds, most_held, IsProper, hold_in}
+use Names.{IsAdmitted, IsFirstToForbid, config_of, lock_class, lock_queue, admits, is_plain, found_none, found_first}
+use Names.{same_admitted, same_first, State, HeldLock, gained_order, Gains, Claims, Admits, Stamps, MayAll, after}
+use Names.{after_all, after_stamp, MayAdmit, classes_held, after_admit, after_refuse, Run, Action, does, ends, blocks}
+use Names.{takes, turn_of, run_after, run_behind, held_now, ClassNo, LockNo, Event, Held, Mode, Take, Plan, Turn, Did}
+use Names.{Idle, Ended, IsAtOperation, BeginsTake, admitted, first_against, gain_passes, held_few, fit, is_awake, anew}
+use Names.{at_take, admitted_wants, makes_operation, numbers_of, Machine, Thread, Made, Does, May, MakesAllWhere}
+use Names.{progress, KeepsProgress, KeepsBooks, AreClasses, refuses, IsRunOf, IsAside, IsMade, IsTake, IsAdmission}
+use Names.{KeepsWhereIdle, answer_of, action_of, IsAsFar}
+use Rattle.std.proofs.Common.{◌≡◌, ◌⊎◌, ◌<◌, ◌≤◌, ◌∷◌, ◌++◌, ◌∙◌}
 use Rattle.std.specs.List.{All}
-use Rattle.std.proofs.lemmas.List.Elements.{All-nil, All-cons, All-head, All-tail}
-use Rattle.std.specs.Prelude.{unwrap_or}
-use Rattle.std.proofs.lemmas.Bool.{cases_Bool}
-use Rattle.std.proofs.lemmas.List.{reverse-append, reverse-reverse, map-append}
-use Rattle.lock_model.specs.Config.{Config}
-use Rattle.lock_model.specs.Holds.{Holds}
-use Rattle.lock_model.specs.Limits.{most_held}
-use Rattle.lock_model.specs.Operations.{IsProper, hold_in}
-use Rattle.lock_model.specs.Orders.{IsAdmitted, IsFirstToForbid}
-use Rattle.lock_model.specs.Plans.{config_of, lock_class}
-use Rattle.lock_model.specs.Queues.{lock_queue}
-use Rattle.lock_model.specs.Words.{admits, is_plain}
-use Rattle.lock_model.proofs.Orders.{found_none, found_first, same_admitted, same_first}
-use Rattle.lock_state.specs.State.{State, HeldLock, gained_order}
-use Rattle.lock_state.specs.Steps.{Gains, Claims, Admits, Stamps, MayAll, after, after_all}
-use Rattle.lock_state.specs.Steps.LockWords.{after_stamp}
-use Rattle.lock_state.specs.Steps.Orders.{MayAdmit, classes_held, after_admit, after_refuse}
-use Rattle.lock_state.specs.Run.{Run, Action, does, ends, blocks, takes, turn_of, run_after, run_behind, held_now}
-use Rattle.lock_model.specs.declared.numbers.ClassNo.{ClassNo}
-use Rattle.lock_model.specs.declared.numbers.LockNo.{LockNo}
-use Rattle.lock_model.specs.declared.event.Event.{Event}
 use Rattle.lock_model.specs.declared.event.Event.TheVariants as event
-use Rattle.lock_model.specs.declared.event.Held.{Held}
-use Rattle.lock_model.specs.declared.plan.Mode.{Mode}
-use Rattle.lock_model.specs.declared.plan.Op.TheVariants.{Take}
-use Rattle.lock_model.specs.declared.plan.Plan.{Plan}
 use Rattle.lock_model.specs.declared.turn.StepKind.TheVariants as kinds
-use Rattle.lock_model.specs.declared.turn.Turn.{Turn}
-use Rattle.lock_model.specs.declared.turn.Turn.TheVariants.{Did, Idle, Ended}
-use Rattle.run_laws.specs.OnTrack.{IsAtOperation, BeginsTake, admitted, first_against}
-use Rattle.lock_laws.proofs.HeldLists.{gain_passes, held_few}
-use Rattle.run_laws.proofs.OnTrack.{fit, is_awake}
-use Rattle.run_laws.proofs.Actions.{anew, at_take, admitted_wants, makes_operation}
 use Rattle.run_laws.proofs.TurnsOfOrders as orders
-use Rattle.witness_orders.specs.Graph.{numbers_of}
-use Rattle.step_machine.specs.declared.machine.Machine.{Machine}
-use Rattle.step_machine.specs.declared.thread.Thread.{Thread}
-use Rattle.step_world.specs.declared.turns.Made.{Made}
-use Rattle.step_world.specs.declared.turns.Made.TheVariants.{Does}
 use Rattle.step_machine.specs.Represents.{Represents}
-use Rattle.step_machine.specs.Steps.{May, MakesAllWhere, progress, KeepsProgress, KeepsBooks, AreClasses, refuses}
-use Rattle.step_world.specs.Runs.{IsRunOf, IsAside, IsMade, IsTake, IsAdmission, KeepsWhereIdle, answer_of, action_of}
-use Rattle.step_machine.specs.Runs.{IsAsFar}
 use Rattle.step_world.proofs.AsFar.{so_is, still_as_far, cut_behind, waits_behind, behind_cut}
 use Rattle.step_world.proofs.Ends.{aside_is, are_locks}
 use Rattle.step_world.proofs.Turning.{SameRoom, of_books, same_room, same_keys, IsTurning, made_all, may_by, has_room, Begins, begins, made}

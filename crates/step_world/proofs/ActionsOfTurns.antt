@@ -1,33 +1,15 @@
 -- Which action a turn is, by what the thread's objects say.
-use Rattle.std.proofs.Common.{◌≡◌, ℕ, suc, ◌+◌, ◌<◌, ◌≤◌, Bool, true, false, List, [], ◌∷◌, length, map, get_or, slice_get, Option, Some, None, refl, sym, ap, arith, ◌∙◌}
-use Rattle.std.proofs.lemmas.Option.{slice_get_read, slice_get_past}
-use Rattle.lock_model.specs.Plans.{config_of, operations_of}
-use Rattle.lock_model.specs.Operations.{IsProper}
-use Rattle.lock_state.specs.State.{State, Wait, Running, NoWalk, AtLock, AtThread}
-use Rattle.lock_model.specs.Counts.{is_empty}
-use Rattle.lock_model.specs.Queues.{Mark, BySignal}
-use Rattle.lock_state.specs.Steps.{Marks, Resumes}
-use Rattle.lock_state.specs.Run.{Run, has_ended, turn_of, does}
-use Rattle.lock_model.specs.declared.numbers.LockNo.{LockNo}
-use Rattle.lock_model.specs.declared.numbers.ThreadNo.{ThreadNo}
-use Rattle.lock_model.specs.declared.plan.Op.{Op}
-use Rattle.lock_model.specs.declared.plan.Plan.{Plan}
-use Rattle.lock_model.specs.declared.plan.QueueName.{QueueName}
+use Rattle.step_world.proofs.Names
+use Names.{ℕ, suc, Bool, true, false, List, [], length, map, get_or, slice_get, Option, Some, None, refl, sym, ap}
+use Names.{arith, slice_get_read, slice_get_past, config_of, operations_of, IsProper, State, Wait, Running, NoWalk}
+use Names.{AtLock, AtThread, is_empty, Mark, BySignal, Marks, Resumes, Run, has_ended, turn_of, does, LockNo, ThreadNo}
+use Names.{Op, Plan, QueueName, Idle, Ended, IsAtOperation, goes_by_wait, marks_first, Place, Machine, Thread, walk_of}
+use Names.{mark_of, wait_of, places_of, RepresentsThread, thread_has_ended, IsRunOf, IsTurn, IsDoneWaking, IsFree}
+use Names.{IsGivingUp, read}
+use Rattle.std.proofs.Common.{◌≡◌, ◌+◌, ◌<◌, ◌≤◌, ◌∷◌, ◌∙◌}
 use Rattle.lock_model.specs.declared.turn.StepKind.TheVariants as kinds
-use Rattle.lock_model.specs.declared.turn.Turn.TheVariants.{Idle, Ended}
-use Rattle.run_laws.specs.OnTrack.{IsAtOperation}
-use Rattle.run_laws.proofs.Actions.{goes_by_wait, marks_first}
-use Rattle.wait_objects.specs.Seen.{Place}
 use Rattle.prio_lending.specs.declared.walk.Walk.TheVariants as walk
-use Rattle.step_machine.specs.declared.machine.Machine.{Machine}
-use Rattle.step_machine.specs.declared.thread.Thread.{Thread}
 use Rattle.lock_objects.specs.declared.wait.Wait.TheVariants as wait
-use Rattle.lock_objects.specs.Represents.{walk_of, mark_of, wait_of}
-use Rattle.lock_objects.specs.Marked.{places_of}
-use Rattle.step_machine.specs.Represents.{RepresentsThread}
-use Rattle.step_machine.specs.Threads.{thread_has_ended}
-use Rattle.step_world.specs.Runs.{IsRunOf, IsTurn, IsDoneWaking, IsFree, IsGivingUp}
-use Rattle.step_machine.proofs.Kit.{read}
 use Rattle.step_world.proofs.Ends.{ends_as_said, aside_is}
 use Rattle.step_world.proofs.Turning.{Begins, begins, still}
 

@@ -1,47 +1,24 @@
 -- The actions of a thread that has gone to sleep, goes to sleep, or wakes others, by what it reads.
-use Rattle.std.proofs.Common.{◌≡◌, ◌≢◌, ℕ, suc, ◌<◌, ◌≤◌, Bool, true, false, not, cond, List, [], ◌∷◌, length, map, slice_get, Option, Some, None, option_map, refl, sym, ap, subst, eq-eqb, ◌∙◌}
-use Rattle.std.specs.Prelude.{unwrap_or, is_some}
-use Rattle.std.specs.Bool.{then_some}
-use Rattle.std.proofs.lemmas.Option.{none-some, same_Some}
-use Rattle.lock_model.specs.Config.{Config}
-use Rattle.lock_model.specs.Plans.{config_of}
-use Rattle.lock_model.specs.Operations.{IsProper, hold_in, without_lock}
-use Rattle.lock_model.specs.Holds.{Hold, NotHeld, Holds, is_unheld}
-use Rattle.lock_model.specs.Takes.{has_reversal}
-use Rattle.lock_model.specs.Queues.{Waiter, chan_queue, taken_off}
-use Rattle.lock_state.specs.State.{State, Running}
-use Rattle.lock_state.specs.Steps.{Step, Readies, Stamps, Adds, Wakes, after, after_all}
-use Rattle.lock_state.specs.Steps.LockWords.{bits_of_threads, after_ready, after_stamp}
-use Rattle.lock_state.specs.Steps.SleepQueues.{MayWake, after_add, after_wake}
-use Rattle.lock_state.specs.Run.{Run, does, ends, mode_held, waits_on, was_cut, lock_of_wait, to_release, owed_release, turn_of, run_after, held_now}
-use Rattle.lock_model.specs.declared.numbers.LockNo.{LockNo}
-use Rattle.lock_model.specs.declared.numbers.ChanNo.{ChanNo}
-use Rattle.lock_model.specs.declared.event.Held.{Held}
-use Rattle.lock_model.specs.declared.event.Event.{Event}
+use Rattle.step_world.proofs.Names
+use Names.{ℕ, suc, Bool, true, false, not, cond, List, [], length, map, slice_get, Option, Some, None, option_map, refl}
+use Names.{sym, ap, subst, eq-eqb, unwrap_or, then_some, none-some, same_Some, Config, config_of, IsProper, hold_in}
+use Names.{without_lock, Hold, NotHeld, Holds, is_unheld, has_reversal, Waiter, chan_queue, taken_off, State, Running}
+use Names.{Step, Readies, Stamps, Adds, Wakes, after, after_all, bits_of_threads, after_ready, after_stamp, MayWake}
+use Names.{after_add, after_wake, Run, does, ends, mode_held, waits_on, was_cut, lock_of_wait, to_release, owed_release}
+use Names.{turn_of, run_after, held_now, LockNo, ChanNo, Held, Event, Mode, Sleep, WakeOne, WakeAll, Plan, Chan}
+use Names.{StepKind, Did, IsAtOperation, is_awake, waits_uncut, before, behind, fit, put_at_own, IsAwake, back}
+use Names.{lock_with, mode_left, its_mode, makes_operation, gives_up_first, given_up, Machine, Thread, Does, Ends, May}
+use Names.{Progress, progress, progress_of, ChangesProgress, KeepsBooks, mode_left_by, with_released, HasState, IsRunOf}
+use Names.{IsTurn, IsMade, IsBehind, IsTake, IsWake, IsDoneWaking, GivesBack, MayGiveBack, back_in, IsAsFar, arith}
+use Rattle.std.proofs.Common.{◌≡◌, ◌≢◌, ◌<◌, ◌≤◌, ◌∷◌, ◌∙◌}
+use Rattle.std.specs.Prelude.{is_some}
 use Rattle.lock_model.specs.declared.event.Event.TheVariants as event
-use Rattle.lock_model.specs.declared.plan.Mode.{Mode}
-use Rattle.lock_model.specs.declared.plan.Op.TheVariants.{Sleep, WakeOne, WakeAll}
-use Rattle.lock_model.specs.declared.plan.Plan.{Plan}
-use Rattle.lock_model.specs.declared.plan.QueueName.TheVariants.{Chan}
-use Rattle.lock_model.specs.declared.turn.StepKind.{StepKind}
 use Rattle.lock_model.specs.declared.turn.StepKind.TheVariants as kinds
-use Rattle.lock_model.specs.declared.turn.Turn.TheVariants.{Did}
-use Rattle.run_laws.specs.OnTrack.{IsAtOperation}
-use Rattle.run_laws.proofs.OnTrack.{is_awake, waits_uncut, before, behind, fit, put_at_own, IsAwake}
-use Rattle.run_laws.proofs.Actions.{back, lock_with, mode_left, its_mode, makes_operation, gives_up_first}
 use Rattle.run_laws.proofs.TurnsOfReleases as releases
 use Rattle.run_laws.proofs.TurnsOfSleeps as sleeps
-use Rattle.run_laws.proofs.TurnsOfWaits.{given_up}
-use Rattle.step_machine.specs.declared.machine.Machine.{Machine}
-use Rattle.step_machine.specs.declared.thread.Thread.{Thread}
-use Rattle.step_world.specs.declared.turns.Made.TheVariants.{Does, Ends}
-use Rattle.step_machine.specs.Steps.{May, Progress, progress, progress_of, ChangesProgress, KeepsBooks, mode_left as mode_left_by, with_released}
-use Rattle.step_world.specs.Runs.{HasState, IsRunOf, IsTurn, IsMade, IsBehind, IsTake, IsWake, IsDoneWaking, GivesBack, MayGiveBack, back_in}
-use Rattle.step_machine.specs.Runs.{IsAsFar}
 use Rattle.step_world.proofs.AsFar.{waits_behind, cut_behind, awake_behind, that_is}
 use Rattle.step_world.proofs.Turning.{has_room, may_next, IsTurning, Begins, begins, made, made_behind, stays}
 use Rattle.step_world.proofs.ActionsOfLocks.{is_take, given, kind_is, back_keeps_log, back_puts}
-use Rattle.std.proofs.Common.{arith}
 
 -- the entry of a wake
 abbrev pub noting : ChanNo → Bool → ℕ → Event

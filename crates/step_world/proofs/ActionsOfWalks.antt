@@ -1,31 +1,15 @@
 -- The actions of a thread with a walk, and what the walk reads where it stands.
-use Rattle.std.proofs.Common.{◌≡◌, ℕ, ◌<◌, ◌≤◌, Bool, true, ltb, List, [], ◌∷◌, length, get_or, slice_get, Option, Some, None, refl, sym, ap, subst, inl, inr, arith, ◌∙◌}
-use Rattle.std.proofs.lemmas.Bool.{and_right, and_from, cases_Bool, lt-ltb}
-use Rattle.std.proofs.lemmas.Option.{slice_get_read}
-use Rattle.lock_model.specs.Plans.{config_of}
-use Rattle.lock_model.specs.Operations.{IsProper}
-use Rattle.lock_model.specs.Config.{Config}
-use Rattle.lock_state.specs.State.{State, AtLock, AtThread}
-use Rattle.lock_model.specs.Words.{owner_of, is_turnstile}
-use Rattle.lock_model.specs.Queues.{lock_queue, stands}
-use Rattle.lock_state.specs.Steps.{Lends, Shifts, EndsWalk}
-use Rattle.lock_state.specs.Facts.{Lawful}
-use Rattle.lock_state.specs.Run.{Run, does, walks_at_lock, walks_at_thread}
-use Rattle.lock_model.specs.declared.numbers.LockNo.{LockNo}
-use Rattle.lock_model.specs.declared.numbers.ThreadNo.{ThreadNo}
-use Rattle.lock_model.specs.declared.plan.Plan.{Plan}
-use Rattle.lock_model.specs.declared.plan.QueueName.{QueueName}
-use Rattle.lock_model.specs.declared.plan.QueueName.TheVariants.{Lock, Chan}
+use Rattle.step_world.proofs.Names
+use Names.{ℕ, Bool, true, ltb, List, [], length, get_or, slice_get, Option, Some, None, refl, sym, ap, subst, inl, inr}
+use Names.{arith, and_right, and_from, cases_Bool, lt-ltb, slice_get_read, config_of, IsProper, Config, State, AtLock}
+use Names.{AtThread, owner_of, is_turnstile, lock_queue, stands, Lends, Shifts, EndsWalk, Lawful, Run, does}
+use Names.{walks_at_lock, walks_at_thread, LockNo, ThreadNo, Plan, QueueName, Lock, Chan, Turnstile, head_of}
+use Names.{walks_from_lock, walks_from_thread, Machine, Thread, RepresentsQueue, RepresentsHead, queue_in, IsRunOf}
+use Names.{IsNowhere, StandsAt}
+use Rattle.std.proofs.Common.{◌≡◌, ◌<◌, ◌≤◌, ◌∷◌, ◌∙◌}
 use Rattle.lock_model.specs.declared.turn.StepKind.TheVariants as kinds
-use Rattle.turnstile_core.specs.Seen.{Turnstile}
-use Rattle.chain_table.specs.Chains.{head_of}
-use Rattle.run_laws.proofs.Actions.{walks_from_lock, walks_from_thread}
 use Rattle.lock_laws.proofs.AtTurn as at_turn
-use Rattle.step_machine.specs.declared.machine.Machine.{Machine}
-use Rattle.step_machine.specs.declared.thread.Thread.{Thread}
-use Rattle.lock_objects.specs.Represents.{RepresentsQueue, RepresentsHead, queue_in}
 use Rattle.step_machine.specs.Represents.{Represents}
-use Rattle.step_world.specs.Runs.{IsRunOf, IsNowhere, StandsAt}
 use Rattle.step_world.proofs.Turning.{Begins, begins}
 
 -- 1. What is read at a lock and at a thread

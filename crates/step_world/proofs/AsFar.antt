@@ -1,26 +1,12 @@
 -- How far a thread is where its run has gone on: as far as it was, or further.
-use Rattle.std.proofs.Common.{◌≡◌, ◌≢◌, ℕ, true, false, ◌||◌, ◌∷◌, length, take, Option, Some, None, IsSomeAnd, refl, sym, ap, subst, ◌∙◌}
-use Rattle.std.proofs.lemmas.Option.{none-some}
-use Rattle.lock_model.specs.Plans.{config_of}
-use Rattle.lock_model.specs.Config.{Config}
-use Rattle.lock_model.specs.Events.{of_sleep, fell_asleep}
-use Rattle.lock_model.specs.Takes.{is_reversal, has_reversal}
-use Rattle.lock_state.specs.State.{State, Running, Queued, OrderRefused}
-use Rattle.lock_state.specs.Steps.{Stamps, after}
-use Rattle.lock_state.specs.Steps.LockWords.{MayStamp, after_stamp, entry_of}
-use Rattle.lock_state.specs.Run.{Run, turn_of, run_behind, waits_on, was_cut}
-use Rattle.lock_model.specs.declared.event.Event.{Event}
+use Rattle.step_world.proofs.Names
+use Names.{ℕ, true, false, length, take, Option, Some, None, IsSomeAnd, refl, sym, ap, subst, none-some, config_of}
+use Names.{Config, of_sleep, fell_asleep, is_reversal, has_reversal, State, Running, Queued, OrderRefused, Stamps}
+use Names.{after, MayStamp, after_stamp, entry_of, Run, turn_of, run_behind, waits_on, was_cut, Event, Plan, put_same}
+use Names.{IsAwake, own_steps, other_next, all_leave, Progress, IsAsFar, held_at, IsBehind, arith}
+use Rattle.std.proofs.Common.{◌≡◌, ◌≢◌, ◌||◌, ◌∷◌, ◌∙◌}
 use Rattle.lock_model.specs.declared.event.Event.TheVariants as event
-use Rattle.lock_model.specs.declared.plan.Plan.{Plan}
-use Rattle.lock_laws.proofs.Kit.{put_same}
-use Rattle.run_laws.proofs.OnTrack.{IsAwake}
-use Rattle.run_laws.proofs.OtherThreads.{own_steps, other_next}
-use Rattle.run_laws.proofs.Shares.{all_leave}
 use Rattle.run_laws.proofs.Actions as actions
-use Rattle.step_machine.specs.Steps.{Progress}
-use Rattle.step_machine.specs.Runs.{IsAsFar, held_at}
-use Rattle.step_world.specs.Runs.{IsBehind}
-use Rattle.std.proofs.Common.{arith}
 
 -- 1. A value that there is
 

@@ -1,30 +1,14 @@
 -- Whether a thread's objects say that it has ended, as the run says it.
-use Rattle.std.proofs.Common.{◌≡◌, ℕ, ◌<◌, Bool, true, false, not, ◌&&◌, ◌||◌, nat_le, List, [], ◌∷◌, length, map, slice_get, Some, None, option_map, IsSomeAnd, refl, sym, ap, subst, inl, inr, eq-eqb, ◌∙◌}
-use Rattle.std.proofs.lemmas.Bool.{cases_Bool, not_from_false, leb-true, or_cases}
-use Rattle.lock_model.specs.Plans.{config_of, operations_of}
-use Rattle.lock_model.specs.Counts.{any_below, is_empty}
-use Rattle.lock_model.specs.Holds.{is_unheld, Hold, Holds}
-use Rattle.lock_model.specs.Operations.{IsProper, hold_in}
-use Rattle.lock_state.specs.Run.{Run, is_walking, has_ended, holds_none, waits_on, was_cut, held_now}
-use Rattle.lock_state.specs.Facts.{OnlyLocksAreHeld}
-use Rattle.lock_model.specs.declared.plan.Plan.{Plan}
-use Rattle.lock_model.specs.declared.plan.Mode.{Mode}
-use Rattle.lock_model.specs.declared.event.Held.{Held}
-use Rattle.lock_laws.proofs.Shown.{true-any_below}
-use Rattle.lock_laws.proofs.Best.{any_below-true}
-use Rattle.run_laws.proofs.Idle.{done_awake}
-use Rattle.run_laws.proofs.OnTrack.{cut_no_wait}
-use Rattle.lock_objects.specs.Marked.{places_of}
+use Rattle.step_world.proofs.Names
+use Names.{ℕ, Bool, true, false, not, nat_le, List, [], length, map, slice_get, Some, None, option_map, IsSomeAnd, refl}
+use Names.{sym, ap, subst, inl, inr, eq-eqb, cases_Bool, not_from_false, leb-true, or_cases, config_of, operations_of}
+use Names.{any_below, is_empty, is_unheld, Hold, Holds, IsProper, hold_in, Run, is_walking, has_ended, holds_none}
+use Names.{waits_on, was_cut, held_now, OnlyLocksAreHeld, Plan, Mode, Held, true-any_below, any_below-true, done_awake}
+use Names.{cut_no_wait, places_of, Machine, Thread, walk_of, has_no_walk, thread_has_ended, progress_of, IsRunOf}
+use Names.{IsAsFar, arith}
+use Rattle.std.proofs.Common.{◌≡◌, ◌<◌, ◌&&◌, ◌||◌, ◌∷◌, ◌∙◌}
 use Rattle.prio_lending.specs.declared.walk.Walk as walks
 use Rattle.prio_lending.specs.declared.walk.Walk.TheVariants as walk
-use Rattle.step_machine.specs.declared.machine.Machine.{Machine}
-use Rattle.step_machine.specs.declared.thread.Thread.{Thread}
-use Rattle.lock_objects.specs.Represents.{walk_of}
-use Rattle.step_machine.specs.Threads.{has_no_walk, thread_has_ended}
-use Rattle.step_machine.specs.Steps.{progress_of}
-use Rattle.step_world.specs.Runs.{IsRunOf}
-use Rattle.step_machine.specs.Runs.{IsAsFar}
-use Rattle.std.proofs.Common.{arith}
 
 -- 1. What is held
 

@@ -1,3 +1,4 @@
+pub mod Names
 pub mod Ends
 pub mod AsFar
 pub mod Turning

@@ -1,19 +1,13 @@
 -- A course behind one turn more: who still comes, whether the round is idle, who has ended and who sleeps.
-use Rattle.std.proofs.Common.{◌≡◌, ◌≢◌, ◌⊎◌, ◌↔◌, ℕ, ◌<◌, Bool, true, false, not, ◌&&◌, eqb, ltb, List, [], ◌∷◌, length, option_map, Option, Some, None, IfSome, refl, sym, ap, ap₂, subst, inl, inr, ◌∙◌}
-use Rattle.std.proofs.lemmas.Bool.{and_right, cases_eq, cases_lt, not-false, eq-eqb, ne_eqb, lt-ltb, le-ltb}
-use Rattle.std.proofs.lemmas.Option.{none-some, same_Some}
-use Rattle.lock_model.specs.Counts.{has_bit}
+use Rattle.step_world.proofs.Names
+use Names.{ℕ, Bool, true, false, not, eqb, ltb, List, [], length, option_map, Option, Some, None, IfSome, refl, sym, ap}
+use Names.{ap₂, subst, inl, inr, and_right, cases_eq, cases_lt, not-false, ne_eqb, lt-ltb, le-ltb, none-some, same_Some}
+use Names.{has_bit, Run, turn_of, run_behind, has_ended, is_idle, with_turn, first_turn, ThreadNo, Turn, Idle, Ended}
+use Names.{IsSleeping, idle_exactly, ended_exactly, changes_nothing, ends_no_other, Machine, Course, IsCourse, IsSound}
+use Names.{Sleeps, is_going, World, Represents, first_marked}
+use Rattle.std.proofs.Common.{◌≡◌, ◌≢◌, ◌⊎◌, ◌↔◌, ◌<◌, ◌&&◌, ◌∷◌, ◌∙◌}
+use Rattle.std.proofs.lemmas.Bool.{eq-eqb}
 use Rattle.lock_state.specs.Run as run
-use Rattle.lock_state.specs.Run.{Run, turn_of, run_behind, has_ended, is_idle, with_turn, first_turn}
-use Rattle.lock_model.specs.declared.numbers.ThreadNo.{ThreadNo}
-use Rattle.lock_model.specs.declared.turn.Turn.{Turn}
-use Rattle.lock_model.specs.declared.turn.Turn.TheVariants.{Idle, Ended}
-use Rattle.run_laws.specs.OnTrack.{IsSleeping}
-use Rattle.run_laws.proofs.Idle.{idle_exactly, ended_exactly, changes_nothing}
-use Rattle.run_laws.proofs.OtherThreads.{ends_no_other}
-use Rattle.step_machine.specs.declared.machine.Machine.{Machine}
-use Rattle.step_world.specs.Courses.{Course, IsCourse, IsSound, Sleeps, is_going}
-use Rattle.step_world.specs.Worlds.{World, Represents, first_marked}
 use Rattle.step_world.proofs.Sleeping.{WakesNotNext, sleeps_on, end_alike, sleep_alike}
 
 -- what a turn of the thread leaves of the world

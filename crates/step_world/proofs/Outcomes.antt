@@ -1,28 +1,12 @@
 -- What is printed of a machine is what the run that it shows leaves to be printed.
-use Rattle.std.proofs.Common.{◌≡◌, ℕ, suc, ◌+◌, ◌%◌, ◌≤◌, true, List, [], ◌∷◌, ◌++◌, length, map, flat_map, slice_get, Option, Some, None, IfSome, refl, ap, sym, inl, inr, ◌∙◌, arith}
-use Rattle.std.specs.List.{range_with_len}
-use Rattle.std.proofs.lemmas.Bool.{cases_Bool}
-use Rattle.lock_state.specs.Facts.{Lawful, HeadsFitWaiters}
-use Rattle.lock_model.specs.Plans.{config_of}
-use Rattle.lock_model.specs.Queues.{lock_queue, chan_queue, is_turnstile_queue, waiting}
-use Rattle.lock_state.specs.Run.{Run, line_of_queue, queue_lines, threads_of}
-use Rattle.lock_model.specs.Config.{Config}
-use Rattle.lock_state.specs.State.{State}
-use Rattle.lock_model.specs.Words.{is_turnstile}
-use Rattle.lock_model.specs.declared.plan.Plan.{Plan}
-use Rattle.lock_model.specs.declared.plan.QueueName.{QueueName}
-use Rattle.lock_model.specs.declared.plan.QueueName.TheVariants.{Lock, Chan}
-use Rattle.lock_laws.proofs.Beyond.{few_wait}
-use Rattle.wait_objects.specs.Seen.{Contents}
-use Rattle.wait_objects.specs.Changes.{lists_of}
-use Rattle.turnstile_core.specs.Seen.{Turnstile}
-use Rattle.sleep_queues.specs.Seen.{SleepQueue}
-use Rattle.chain_table.specs.Chains.{head_of}
-use Rattle.step_machine.specs.declared.machine.Machine.{Machine}
-use Rattle.step_machine.specs.declared.thread.Thread.{Thread}
-use Rattle.step_world.specs.Outcomes.{line_at, line_of_lock, lines_of, finals_of, IsShort, HasShortQueues}
-use Rattle.step_machine.specs.Runs.{RepresentsRun}
-use Rattle.lock_objects.specs.Represents.{RepresentsQueue, RepresentsSleepQueue, queue_in, sleepers_in}
+use Rattle.step_world.proofs.Names
+use Names.{ℕ, suc, true, List, [], length, map, flat_map, slice_get, Option, Some, None, IfSome, refl, ap, sym, inl}
+use Names.{inr, arith, range_with_len, cases_Bool, Lawful, HeadsFitWaiters, config_of, lock_queue, chan_queue}
+use Names.{is_turnstile_queue, waiting, Run, line_of_queue, queue_lines, threads_of, Config, State, is_turnstile, Plan}
+use Names.{QueueName, Lock, Chan, few_wait, Contents, lists_of, Turnstile, SleepQueue, head_of, Machine, Thread}
+use Names.{line_at, line_of_lock, lines_of, finals_of, IsShort, HasShortQueues, RepresentsRun, RepresentsQueue}
+use Names.{RepresentsSleepQueue, queue_in, sleepers_in}
+use Rattle.std.proofs.Common.{◌≡◌, ◌+◌, ◌%◌, ◌≤◌, ◌∷◌, ◌++◌, ◌∙◌}
 
 -- 1. Queues
 

@@ -1,16 +1,10 @@
 -- What a thread owes, by what its objects say.
-use Rattle.std.proofs.Common.{◌≡◌, ℕ, Bool, true, false, not, ◌||◌, slice_get, Option, Some, None, is_some, option_map, refl, sym, ap, ◌∙◌}
-use Rattle.lock_model.specs.Counts.{is_empty}
-use Rattle.lock_model.specs.Plans.{config_of}
-use Rattle.lock_model.specs.declared.plan.Plan.{Plan}
-use Rattle.lock_objects.specs.Marked.{places_of}
-use Rattle.lock_state.specs.Run.{Run, is_walking, owed_release, owes}
-use Rattle.step_machine.specs.Threads.{has_no_walk}
-use Rattle.step_machine.specs.declared.machine.Machine.{Machine}
-use Rattle.step_machine.specs.declared.thread.Thread.{Thread}
-use Rattle.step_world.specs.Runs.{IsRunOf}
+use Rattle.step_world.proofs.Names
+use Names.{ℕ, Bool, true, false, not, slice_get, Option, Some, None, is_some, option_map, refl, sym, ap, is_empty}
+use Names.{config_of, Plan, places_of, Run, is_walking, owed_release, owes, has_no_walk, Machine, Thread, IsRunOf}
+use Names.{arith}
+use Rattle.std.proofs.Common.{◌≡◌, ◌||◌, ◌∙◌}
 use Rattle.step_world.proofs.Ends.{no_walk, same_empty}
-use Rattle.std.proofs.Common.{arith}
 
 not_not : (b : Bool) → not (not b) ≡ b
 not_not true = refl

@@ -1,24 +1,12 @@
 -- What is printed of a course is what the definition prints of it.
-use Rattle.std.proofs.Common.{◌≡◌, ℕ, Bool, true, false, cond, ◌||◌, List, [], ◌∷◌, ◌++◌, reverse, map, refl, sym, ap, subst, ◌∙◌}
-use Rattle.std.proofs.lemmas.List.{reverse-append}
-use Rattle.std.specs.FinMap.{entries}
-use Rattle.lock_model.specs.History.{tables_of}
-use Rattle.lock_model.specs.Plans.{config_of}
-use Rattle.lock_model.specs.Takes.{is_reversal, has_reversal}
-use Rattle.lock_model.specs.Text.{IsReversed, IsDone}
+use Rattle.step_world.proofs.Names
+use Names.{ℕ, Bool, true, false, cond, List, [], reverse, map, refl, sym, ap, subst, reverse-append, entries, tables_of}
+use Names.{config_of, is_reversal, has_reversal, IsReversed, IsDone, Run, outcome_of, queue_lines, threads_of}
+use Names.{whole_ending, Entry, Plan, InOrder, ending_of, outcome_seen, line_seen, Outcome, InOrder-reverse, Machine}
+use Names.{finals_of, IsRunOf, World, Represents}
+use Rattle.std.proofs.Common.{◌≡◌, ◌||◌, ◌∷◌, ◌++◌, ◌∙◌}
 use Rattle.lock_state.specs.Run as run
-use Rattle.lock_state.specs.Run.{Run, outcome_of, queue_lines, threads_of, whole_ending}
-use Rattle.lock_model.specs.declared.event.Entry.{Entry}
-use Rattle.lock_model.specs.declared.plan.Plan.{Plan}
-use Rattle.lock_history.specs.Tickets.{InOrder}
-use Rattle.lock_history.specs.Endings.{ending_of, numbers_of}
-use Rattle.lock_history.specs.Outcomes.{outcome_seen, line_seen}
-use Rattle.lock_history.specs.declared.outcome.Outcome.{Outcome}
-use Rattle.lock_history.proofs.Merged.{InOrder-reverse}
-use Rattle.step_machine.specs.declared.machine.Machine.{Machine}
-use Rattle.step_world.specs.Outcomes.{finals_of}
-use Rattle.step_world.specs.Runs.{IsRunOf}
-use Rattle.step_world.specs.Worlds.{World, Represents}
+use Rattle.lock_history.specs.Endings.{numbers_of}
 use Rattle.step_world.proofs.Outcomes.{finals_are}
 
 -- whether a refusal stands among entries doesn't depend on their order

@@ -1,19 +1,11 @@
 -- Lists that are made place by place, and what is read for them.
-use Rattle.std.proofs.Common.{◌≡◌, ℕ, zero, suc, ◌≤◌, ◌<◌, ◌%◌, true, false, List, [], ◌∷◌, ◌++◌, ◌+◌, length, map, flat_map, take, slice_get, get_or, unwrap_or, option_map, Option, Some, None, refl, ap, sym, ◌∙◌, arith}
-use Rattle.std.specs.List.{range_with_len}
-use Rattle.std.proofs.lemmas.List.{append_assoc, map-append, map-id, flat_map_more, take_more, take_all, length_push}
-use Rattle.std.proofs.lemmas.List.FromFn.{map-range_with_len_more}
-use Rattle.std.proofs.lemmas.Option.{slice_get_within, slice_get_read, slice_get-map, get_or_from_slice_get}
-use Rattle.lock_model.specs.Plans.{lock_kind}
-use Rattle.lock_model.specs.Queues.{lock_queue}
-use Rattle.lock_model.specs.Words.{is_turnstile}
-use Rattle.lock_model.specs.declared.plan.Kind.{Kind}
-use Rattle.lock_model.specs.declared.plan.Kind.TheVariants.{Mtx}
-use Rattle.lock_model.specs.declared.plan.LockDecl.{LockDecl}
-use Rattle.lock_model.specs.declared.plan.Plan.{Plan}
-use Rattle.chain_table.specs.Chains.{head_of}
-use Rattle.step_machine.specs.declared.machine.Machine.{Machine}
-use Rattle.step_world.specs.Outcomes.{line_at, line_of_lock}
+use Rattle.step_world.proofs.Names
+use Names.{ℕ, zero, suc, true, false, List, [], length, map, flat_map, take, slice_get, get_or, option_map, Option}
+use Names.{Some, None, refl, ap, sym, arith, range_with_len, append_assoc, map-append, map-id, flat_map_more, take_more}
+use Names.{take_all, length_push, map-range_with_len_more, slice_get_within, slice_get_read, slice_get-map}
+use Names.{get_or_from_slice_get, lock_kind, lock_queue, is_turnstile, Kind, Mtx, LockDecl, Plan, head_of, Machine}
+use Names.{line_at, line_of_lock}
+use Rattle.std.proofs.Common.{◌≡◌, ◌≤◌, ◌<◌, ◌%◌, ◌∷◌, ◌++◌, ◌+◌, ◌∙◌, unwrap_or}
 
 -- 1. A list that is read until a place is past its end
 

@@ -1,27 +1,16 @@
 -- The course of a run: when it is over, and how it goes on.
-use Rattle.std.proofs.Common.{◌≡◌, ◌⊎◌, ℕ, suc, ◌+◌, ◌-◌, ◌<◌, ◌≤◌, Bool, true, false, ◌&&◌, ◌||◌, cond, not, eqb, ltb, List, [], ◌∷◌, ◌++◌, length, map, filter, All, Option, Some, None, IfNone, IfSome, refl, sym, ap, ap₂, subst, ◌∙◌, inl, inr, arith, append-nil}
-use Rattle.std.proofs.lemmas.Bool.{and_parts, and_right, or_parts, lt-ltb, le-ltb, ltb-true, cases_eq, cases_lt, eq-eqb, ne_eqb}
-use Rattle.std.specs.List.{list_all, range_with_len}
-use Rattle.std.specs.Option.{is_none}
-use Rattle.std.proofs.lemmas.List.Elements.{All-head, All-tail, All-nil, All-weaker}
-use Rattle.std.proofs.lemmas.List.Folds.{list_all_at}
-use Rattle.std.proofs.lemmas.List.FromFn.{length-range_with_len, get_or-range_with_len}
-use Rattle.lock_model.specs.Counts.{has_bit, is_empty}
-use Rattle.lock_model.specs.Operations.{IsProper}
-use Rattle.lock_model.specs.Plans.{config_of}
-use Rattle.lock_state.specs.Run.{first_turn, start_run, start_course, Run, turn_of, is_stuck, is_over, is_idle, go_on, course_after, all_ended, has_ended, threads_of, round_of, with_turn, after_turn}
+use Rattle.step_world.proofs.Names
+use Names.{ℕ, suc, Bool, true, false, cond, not, eqb, ltb, List, [], length, map, filter, All, Option, Some, None}
+use Names.{IfNone, IfSome, refl, sym, ap, ap₂, subst, inl, inr, arith, append-nil, and_parts, and_right, or_parts}
+use Names.{lt-ltb, le-ltb, ltb-true, cases_eq, cases_lt, ne_eqb, list_all, range_with_len, is_none, All-head, All-tail}
+use Names.{All-nil, All-weaker, list_all_at, length-range_with_len, get_or-range_with_len, has_bit, is_empty, IsProper}
+use Names.{config_of, first_turn, start_run, start_course, Run, turn_of, is_stuck, is_over, is_idle, go_on}
+use Names.{course_after, all_ended, has_ended, threads_of, round_of, with_turn, after_turn, Plan, ThreadNo, Turn, Idle}
+use Names.{IsOnTrack, IsSleeping, idle_exactly, changes_nothing, one_more, Course, IsCourse, IsSound, is_going}
+use Names.{turn_seen, members, Passes, World, Represents, ThreadSet}
+use Rattle.std.proofs.Common.{◌≡◌, ◌⊎◌, ◌+◌, ◌-◌, ◌<◌, ◌≤◌, ◌&&◌, ◌||◌, ◌∷◌, ◌++◌, ◌∙◌}
+use Rattle.std.proofs.lemmas.Bool.{eq-eqb}
 use Rattle.lock_state.specs.Run as run
-use Rattle.lock_model.specs.declared.plan.Plan.{Plan}
-use Rattle.lock_model.specs.declared.numbers.ThreadNo.{ThreadNo}
-use Rattle.lock_model.specs.declared.turn.Turn.{Turn}
-use Rattle.lock_model.specs.declared.turn.Turn.TheVariants.{Idle}
-use Rattle.run_laws.specs.OnTrack.{IsOnTrack, IsSleeping}
-use Rattle.run_laws.proofs.Idle.{idle_exactly, changes_nothing}
-use Rattle.run_laws.proofs.TurnsOfCourses.{one_more}
-use Rattle.step_world.specs.Courses.{Course, IsCourse, IsSound, is_going, turn_seen}
-use Rattle.step_world.specs.Sets.{members, Passes}
-use Rattle.step_world.specs.Worlds.{World, Represents}
-use Rattle.step_world.specs.declared.threads.ThreadSet.{ThreadSet}
 use Rattle.step_world.proofs.Sets.{keep_alike, keeps_none, apart, no_members, All-members, All-behind}
 
 -- 1. Who has ended

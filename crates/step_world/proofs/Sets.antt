@@ -1,14 +1,14 @@
 -- Sets of threads as bits: whom they have, who is the first of them, and how many stand before another.
-use Rattle.std.proofs.Common.{◌≡◌, ℕ, zero, suc, ◌+◌, ◌-◌, ◌*◌, ◌/◌, ◌%◌, ◌^◌, ◌<◌, ◌≤◌, min, Bool, true, false, cond, not, ◌&&◌, ◌||◌, eqb, List, [], ◌∷◌, ◌++◌, length, filter, All, bit_and, bit_or, w32, length-append, suc-add, add-zero, zero-add, refl, sym, ap, ap₂, subst, ◌∙◌, inl, inr, arith}
-use Rattle.std.specs.Int.{bit_at, bit_not, trailing_zeros}
-use Rattle.std.specs.List.{range_with_len}
-use Rattle.std.specs.Int.Count.{ones, ones_in}
-use Rattle.std.proofs.lemmas.Bool.{and_right, cases_Bool, cases_eq, cases_lt, eq-eqb, eqb-true, ne_eqb}
-use Rattle.std.proofs.lemmas.List.Elements.{filter-append, All-nil, All-cons, All-tail}
-use Rattle.std.proofs.lemmas.Nat.{pow_pos, and_mask, shr_split, shr-shr, mod-pow-add, one_shl, ones_cat}
-use Rattle.std.proofs.lemmas.Nat.Bits.{bit_at-lt, bit_at_above, bit_at_and, bit_at_not, bit_at-trailing_zeros, bit_at_set_same, bit_at_set_other, bit_at_clear_same, bit_at_clear_other, bit_at_cat_low, bit_at_cat_high, bit_at-zero, shr_and_one}
-use Rattle.lock_model.specs.Counts.{has_bit, is_empty}
-use Rattle.step_world.specs.Sets.{members, Passes, IsBelow}
+use Rattle.step_world.proofs.Names
+use Names.{ℕ, zero, suc, min, Bool, true, false, cond, not, eqb, List, [], length, filter, All, bit_and, bit_or, w32}
+use Names.{length-append, suc-add, add-zero, zero-add, refl, sym, ap, ap₂, subst, inl, inr, arith, bit_at, bit_not}
+use Names.{trailing_zeros, range_with_len, ones, ones_in, and_right, cases_Bool, cases_eq, cases_lt, eqb-true, ne_eqb}
+use Names.{filter-append, All-nil, All-cons, All-tail, pow_pos, and_mask, shr_split, shr-shr, mod-pow-add, one_shl}
+use Names.{ones_cat, bit_at-lt, bit_at_above, bit_at_and, bit_at_not, bit_at-trailing_zeros, bit_at_set_same}
+use Names.{bit_at_set_other, bit_at_clear_same, bit_at_clear_other, bit_at_cat_low, bit_at_cat_high, bit_at-zero}
+use Names.{shr_and_one, has_bit, is_empty, members, Passes, IsBelow}
+use Rattle.std.proofs.Common.{◌≡◌, ◌+◌, ◌-◌, ◌*◌, ◌/◌, ◌%◌, ◌^◌, ◌<◌, ◌≤◌, ◌&&◌, ◌||◌, ◌∷◌, ◌++◌, ◌∙◌}
+use Rattle.std.proofs.lemmas.Bool.{eq-eqb}
 
 -- 1. What a test keeps of a range
 

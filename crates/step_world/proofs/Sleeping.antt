@@ -1,34 +1,17 @@
 -- Whoever sleeps does so until somebody wakes it: another thread's turn leaves it asleep, save the one that gives it
 -- its object back. And a world's threads sleep alike in all runs that it represents.
-use Rattle.std.proofs.Common.{◌≡◌, ◌≢◌, ℕ, ◌<◌, length, List, [], ◌∷◌, option_map, slice_get, Option, Some, None, IsSomeAnd, refl, sym, ap, ap₂, ◌∙◌}
-use Rattle.std.specs.Prelude.{⊤}
-use Rattle.lock_model.specs.Config.{Config}
-use Rattle.lock_model.specs.Plans.{config_of}
-use Rattle.lock_model.specs.Operations.{IsProper}
-use Rattle.lock_model.specs.Holds.{Hold}
-use Rattle.lock_model.specs.Queues.{Mark}
-use Rattle.lock_model.specs.declared.event.Entry.{Entry}
-use Rattle.lock_model.specs.declared.plan.Plan.{Plan}
-use Rattle.lock_state.specs.State.{State, Running, Queued, Woken}
-use Rattle.lock_state.specs.Steps.{Step, Readies, Unreadies, Marks, Resumes, after, after_all, maker}
-use Rattle.lock_state.specs.Steps.Items.{after_take, after_give}
-use Rattle.lock_state.specs.Steps.LockWords.{after_seek, after_look, after_gain, after_drop, after_stamp, after_ready, after_unready}
-use Rattle.lock_state.specs.Steps.Turnstiles.{after_enter, after_open, after_mark, after_resume}
-use Rattle.lock_state.specs.Steps.SleepQueues.{after_enter_sleep, after_open_sleep, after_add, after_wake, after_abort}
-use Rattle.lock_state.specs.Steps.Lending.{after_claim, after_lend, after_shift, after_end_walk}
-use Rattle.lock_state.specs.Steps.Orders.{after_admit, after_refuse}
-use Rattle.lock_state.specs.Steps.Counting.{after_count_out, after_count_in, after_count_self_in, after_count_end, after_halt}
-use Rattle.lock_state.specs.Run.{Run, Action, turn_of, run_behind, has_ended, to_release, waits_on}
-use Rattle.lock_laws.proofs.Kit.{put_other}
-use Rattle.run_laws.specs.OnTrack.{IsSleeping, admitted}
+use Rattle.step_world.proofs.Names
+use Names.{ℕ, length, List, [], option_map, slice_get, Option, Some, None, IsSomeAnd, refl, sym, ap, ap₂, ⊤, Config}
+use Names.{config_of, IsProper, Hold, Mark, Entry, Plan, State, Running, Queued, Woken, Step, Readies, Unreadies, Marks}
+use Names.{Resumes, after, after_all, maker, after_take, after_give, after_seek, after_look, after_gain, after_drop}
+use Names.{after_stamp, after_ready, after_unready, after_enter, after_open, after_mark, after_resume}
+use Names.{after_enter_sleep, after_open_sleep, after_add, after_wake, after_abort, after_claim, after_lend}
+use Names.{after_shift, after_end_walk, after_admit, after_refuse, after_count_out, after_count_in, after_count_self_in}
+use Names.{after_count_end, after_halt, Run, Action, turn_of, run_behind, has_ended, to_release, waits_on, put_other}
+use Names.{IsSleeping, admitted, own_steps, ends_no_other, AllBy, all_leave, Thread, thread_in, IsAsFar, progress_of}
+use Names.{World, Represents}
+use Rattle.std.proofs.Common.{◌≡◌, ◌≢◌, ◌<◌, ◌∷◌, ◌∙◌}
 use Rattle.run_laws.proofs.Actions as actions
-use Rattle.run_laws.proofs.OtherThreads.{own_steps, ends_no_other}
-use Rattle.run_laws.proofs.Shares.{AllBy, all_leave}
-use Rattle.step_machine.specs.declared.thread.Thread.{Thread}
-use Rattle.step_machine.specs.Represents.{thread_in}
-use Rattle.step_machine.specs.Runs.{IsAsFar}
-use Rattle.step_machine.specs.Steps.{progress_of}
-use Rattle.step_world.specs.Worlds.{World, Represents}
 use Rattle.step_world.proofs.Ends.{ends_as_said}
 
 -- 1. Steps

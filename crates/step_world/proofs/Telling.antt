@@ -1,33 +1,13 @@
 -- What a world tells of its threads and queues is what the columns say.
-use Rattle.std.proofs.Common.{◌≡◌, ◌↔◌, ℕ, ◌<◌, Bool, true, false, ltb, List, Result, Ok, Err, IfOk, length, map, slice_get, Option, Some, None, sym, ap, subst, arith, ◌∙◌}
-use Rattle.std.specs.Bool.{then_some}
-use Rattle.std.specs.Global.{Vec}
-use Rattle.std.specs.Option.{option_map_or}
-use Rattle.std.proofs.lemmas.Bool.{ltb-true, lt-ltb}
-use Rattle.std.proofs.lemmas.Option.{same_Some}
-use Rattle.lock_history.specs.Outcomes.{line_seen}
-use Rattle.lock_history.specs.declared.outcome.QueueLine.{QueueLine}
-use Rattle.lock_model.specs.Config.{Config}
-use Rattle.lock_model.specs.Plans.{config_of}
-use Rattle.lock_model.specs.Queues.{is_turnstile_queue, stands}
+use Rattle.step_world.proofs.Names
+use Names.{ℕ, Bool, true, false, ltb, List, Result, Ok, Err, IfOk, length, map, slice_get, Option, Some, None, sym, ap}
+use Names.{subst, arith, then_some, Vec, option_map_or, ltb-true, lt-ltb, same_Some, line_seen, QueueLine, Config}
+use Names.{config_of, is_turnstile_queue, stands, Plan, QueueName, Lock, Chan, none_stands, at_queue_one, gained_order}
+use Names.{State, RepresentsQueue, RepresentsSleepQueue, queue_in, sleepers_in, Lawful, StandsOnce, Run, queue_lines}
+use Names.{head_of, SleepQueue, Turnstile, waits, Machine, Thread, IsRunOf}
+use Rattle.std.proofs.Common.{◌≡◌, ◌↔◌, ◌<◌, ◌∙◌}
 use Rattle.lock_model.specs.Text as text
-use Rattle.lock_model.specs.declared.plan.Plan.{Plan}
-use Rattle.lock_model.specs.declared.plan.QueueName.{QueueName}
-use Rattle.lock_model.specs.declared.plan.QueueName.TheVariants.{Lock, Chan}
-use Rattle.lock_laws.proofs.AtTurn.{none_stands}
-use Rattle.lock_laws.proofs.Kit.{at_queue_one}
-use Rattle.lock_state.specs.State.{gained_order, State}
-use Rattle.lock_objects.specs.Represents.{RepresentsQueue, RepresentsSleepQueue, queue_in, sleepers_in}
-use Rattle.lock_state.specs.Facts.{Lawful, StandsOnce}
-use Rattle.lock_state.specs.Run.{Run, queue_lines}
-use Rattle.chain_table.specs.Chains.{head_of}
-use Rattle.sleep_queues.specs.Seen.{SleepQueue}
-use Rattle.turnstile_core.specs.Seen.{Turnstile}
-use Rattle.wait_objects.specs.Changes.{waits}
-use Rattle.step_machine.specs.declared.machine.Machine.{Machine}
-use Rattle.step_machine.specs.declared.thread.Thread.{Thread}
 use Rattle.step_machine.specs.Represents.{Represents}
-use Rattle.step_world.specs.Runs.{IsRunOf}
 use Rattle.step_world.specs.Worlds as worlds
 use Rattle.step_world.proofs.Ends.{aside_is}
 

@@ -1,38 +1,16 @@
 -- A thread's turn under way: while a machine has made the first steps of the turn's action, it represents the lawful
 -- state behind them, and the next step may be made. So behind the last it represents the run behind the turn.
-use Rattle.std.proofs.Common.{◌≡◌, ◌≢◌, ℕ, ◌+◌, ◌<◌, ◌≤◌, ◌==◌, Bool, true, false, cond, List, [], ◌∷◌, length, Option, Some, None, IsSomeAnd, option_map, refl, sym, ap, subst, inl, inr, arith, eq-eqb, ◌∙◌}
-use Rattle.std.specs.Prelude.{vec_len}
-use Rattle.std.specs.List.{Contains}
-use Rattle.std.proofs.lemmas.Bool.{ne_eqb, cases_eq}
-use Rattle.std.proofs.lemmas.List.{length-reverse}
-use Rattle.lock_model.specs.Plans.{config_of, operations_of}
-use Rattle.lock_model.specs.Operations.{IsProper, next_at}
-use Rattle.lock_model.specs.Config.{Config}
-use Rattle.lock_state.specs.State.{State}
-use Rattle.lock_state.specs.Facts.{Lawful}
-use Rattle.lock_state.specs.Steps.{Step, Looks, Stamps, May as MayMake, MayAll, after, after_all}
-use Rattle.lock_state.specs.Run.{Run, Action, turn_of, next_ops, run_after, run_behind, was_cut, nothing, does}
-use Rattle.lock_model.specs.declared.event.Event.{Event}
-use Rattle.lock_model.specs.declared.plan.Op.{Op}
-use Rattle.lock_model.specs.declared.plan.Plan.{Plan}
-use Rattle.lock_model.specs.declared.turn.StepKind.{StepKind}
-use Rattle.lock_model.specs.declared.turn.Turn.{Turn}
-use Rattle.lock_model.specs.declared.turn.Turn.TheVariants.{Did}
-use Rattle.run_laws.specs.OnTrack.{IsAtOperation}
-use Rattle.lock_laws.proofs.Kit.{put_same}
-use Rattle.lock_laws.proofs.Steps.{keeps, all_keep}
-use Rattle.run_laws.proofs.Turning.{action_may, turned}
-use Rattle.run_laws.proofs.Entries.{entries_below, cut_entries_below}
-use Rattle.lock_laws.proofs.HeldLists.{next_holds}
-use Rattle.run_laws.proofs.OnTrack.{left, IsAwake}
-use Rattle.step_machine.specs.declared.machine.Machine.{Machine}
+use Rattle.step_world.proofs.Names
+use Names.{ℕ, Bool, true, false, cond, List, [], length, Option, Some, None, IsSomeAnd, option_map, refl, sym, ap}
+use Names.{subst, inl, inr, arith, eq-eqb, vec_len, Contains, ne_eqb, cases_eq, length-reverse, config_of}
+use Names.{operations_of, IsProper, next_at, Config, State, Lawful, Step, Looks, Stamps, MayMake, MayAll, after}
+use Names.{after_all, Run, Action, turn_of, next_ops, run_after, run_behind, was_cut, nothing, does, Event, Op, Plan}
+use Names.{StepKind, Turn, Did, IsAtOperation, put_same, keeps, all_keep, action_may, turned, entries_below}
+use Names.{cut_entries_below, next_holds, left, IsAwake, Machine, Progress, progress, May, Makes, MakesWhere}
+use Names.{MakesAllWhere, KeepsProgress, ChangesProgress, KeepsBooks, looked, Made, Does, RepresentsRun, IsAsFar}
+use Names.{HasRoom, HasKeys, held_at, IsRunOf, IsTurn, IsBehind, IsMade, answer_of, next_of, action_of}
+use Rattle.std.proofs.Common.{◌≡◌, ◌≢◌, ◌+◌, ◌<◌, ◌≤◌, ◌==◌, ◌∷◌, ◌∙◌}
 use Rattle.step_machine.specs.Represents.{Represents}
-use Rattle.step_machine.specs.Steps.{Progress, progress, May, Makes, MakesWhere, MakesAllWhere, KeepsProgress, ChangesProgress, KeepsBooks}
-use Rattle.step_machine.proofs.Kit.{looked}
-use Rattle.step_world.specs.declared.turns.Made.{Made}
-use Rattle.step_world.specs.declared.turns.Made.TheVariants.{Does}
-use Rattle.step_machine.specs.Runs.{RepresentsRun, IsAsFar, HasRoom, HasKeys, held_at}
-use Rattle.step_world.specs.Runs.{IsRunOf, IsTurn, IsBehind, IsMade, answer_of, next_of, action_of}
 use Rattle.step_world.proofs.AsFar.{that_is, is_such, so_is, still_as_far, behind_still, behind_made, others_still}
 
 -- 1. Room

@@ -1,14 +1,7 @@
 -- A world shows a run on track from its begin on, and each turn of it is the run's.
-use Rattle.std.proofs.Common.{◌≡◌, ℕ, ◌<◌, false, length}
-use Rattle.lock_model.specs.Operations.{IsProper}
-use Rattle.lock_model.specs.Plans.{config_of}
-use Rattle.lock_state.specs.Run.{Run, start_run, run_behind, has_ended}
-use Rattle.lock_model.specs.declared.plan.Plan.{Plan}
-use Rattle.lock_model.specs.declared.turn.Turn.{Turn}
-use Rattle.run_laws.proofs.Turning.{begins_on_track, turned}
-use Rattle.step_machine.specs.Runs.{RepresentsRun}
-use Rattle.step_world.specs.Runs.{IsRunOf, Follows}
-use Rattle.step_machine.specs.declared.machine.Machine.{Machine}
+use Rattle.step_world.proofs.Names.{ℕ, false, length, IsProper, config_of, Run, start_run, run_behind, has_ended, Plan}
+use Rattle.step_world.proofs.Names.{Turn, begins_on_track, turned, RepresentsRun, IsRunOf, Follows, Machine}
+use Rattle.std.proofs.Common.{◌≡◌, ◌<◌}
 
 -- what a machine shows at the begin
 pub at_begin : (plan : Plan) (m : Machine) → IsProper plan → RepresentsRun plan m (start_run (config_of plan)) → IsRunOf plan m (start_run (config_of plan))

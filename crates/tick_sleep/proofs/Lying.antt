@@ -61,7 +61,6 @@ module _ (a : Table) (sound : IsSound a) (t key : ℕ) (k : Kept) (home : home_a
           (no_more h.contents.exclusive h.contents.shared found.0, grind (arith, nat_tests, n, none, shared))
 
   module _ (w : Waiter) (mine : w.thread ≡ t) where
-
     within : t < length a.homes
     within = home_within a.homes t k home
 

@@ -1,20 +1,11 @@
 -- An admission and a refusal keep the facts of orders.
-use Rattle.std.proofs.Common.{ℕ, List, [], ◌∷◌, Option, Some, sym, ap, inl, inr, subst, ◌∙◌}
-use Rattle.std.proofs.lemmas.Bool.{cases_eq}
-use Rattle.std.proofs.lemmas.Option.{same_Some}
-use Rattle.lock_model.specs.Config.{Config}
-use Rattle.lock_model.specs.Holds.{Hold}
-use Rattle.lock_model.specs.Orders.{edges_behind}
-use Rattle.lock_model.proofs.Orders.{Grows, old_stays, stays_without_cycle}
-use Rattle.lock_state.specs.State.{State, HeldLock, OrderRefused, put}
-use Rattle.lock_state.specs.Steps.LockWords.{is_woken}
-use Rattle.lock_state.specs.Steps.Orders.{MayAdmit, held_classes, after_admit, after_refuse}
-use Rattle.lock_state.specs.Facts.{Lawful, Ordered, HeldAreListed, WantsAreOrdered, HoldsAreOrdered, SleepersAreOrdered, WokenAreOrdered, AbortedWant, HaltsAreOrdered, TakesAreInGraph}
-use Rattle.lock_state.specs.Facts.Orders.{LeadTo, TakeIsInGraph}
-use Rattle.lock_model.specs.declared.event.Event.{Event}
-use Rattle.lock_model.specs.declared.event.Event.TheVariants.{Locked, HaltedLock}
-use Rattle.lock_model.specs.declared.event.Entry.{Entry}
-use Rattle.lock_laws.proofs.Kit.{put_same, put_other}
+use Rattle.order_laws.proofs.Names
+use Names.{ℕ, List, [], Option, Some, sym, ap, inl, inr, subst, cases_eq, same_Some, Config, Hold, edges_behind, Grows}
+use Names.{old_stays, stays_without_cycle, State, HeldLock, OrderRefused, put, is_woken, MayAdmit, held_classes}
+use Names.{after_admit, after_refuse, Lawful, Ordered, HeldAreListed, WantsAreOrdered, HoldsAreOrdered}
+use Names.{SleepersAreOrdered, WokenAreOrdered, AbortedWant, HaltsAreOrdered, TakesAreInGraph, LeadTo, TakeIsInGraph}
+use Names.{Event, Locked, HaltedLock, Entry, put_same, put_other}
+use Rattle.std.proofs.Common.{◌∷◌, ◌∙◌}
 use Rattle.order_laws.proofs.OrderFacts.Lists.{listed_held, ordered_grow, held_lead}
 use Rattle.order_laws.proofs.OrderFacts.Entries.{noted}
 

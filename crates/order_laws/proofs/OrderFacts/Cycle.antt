@@ -1,14 +1,9 @@
 -- Where waiting is ordered, no threads wait in a cycle: each wait leads on in the class graph, which has no cycle.
-use Rattle.std.proofs.Common.{◌≡◌, ◌≢◌, ◌⊎◌, ℕ, ◌<◌, List, [], ◌∷◌, ◌++◌, Some, sym, inl, inr, subst, ◌∙◌}
-use Rattle.std.proofs.lemmas.Option.{same_Some}
-use Rattle.lock_model.specs.Config.{Config}
-use Rattle.lock_model.specs.Holds.{NotHeld}
-use Rattle.lock_model.specs.Orders.{IsEdge, Reaches, edge, then, HasNoCycle}
-use Rattle.lock_state.specs.State.{State}
-use Rattle.lock_state.specs.Facts.{Lawful, Ordered, WantsAreOrdered}
-use Rattle.lock_state.specs.Best.{WaitsAlong, HasCycle, NobodyWalks, best_behind}
+use Rattle.order_laws.proofs.Names
+use Names.{ℕ, List, [], Some, sym, inl, inr, subst, same_Some, Config, NotHeld, IsEdge, Reaches, edge, then, HasNoCycle}
+use Names.{State, Lawful, Ordered, WantsAreOrdered, WaitsAlong, HasCycle, NobodyWalks, best_behind, arith}
+use Rattle.std.proofs.Common.{◌≡◌, ◌≢◌, ◌⊎◌, ◌<◌, ◌∷◌, ◌++◌, ◌∙◌}
 use Rattle.lock_laws.proofs.Derived as derived
-use Rattle.std.proofs.Common.{arith}
 
 module _ (c : Config) (s : State) (h : Ordered c s) where
   wants_some : (t : ℕ) (us : List ℕ) (v : ℕ) → WaitsAlong s t (us ++ v ∷ []) → (l : ℕ) × (s.wanted t ≡ Some l)

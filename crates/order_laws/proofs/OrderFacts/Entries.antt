@@ -1,19 +1,10 @@
 -- An entry keeps the facts of orders: that of a take is in the graph.
-use Rattle.std.proofs.Common.{◌≡◌, ℕ, true, false, ◌∷◌, Option, Some, None, refl, sym, ap, inl, inr, subst, ◌∙◌}
-use Rattle.std.proofs.lemmas.Bool.{cases_eq, ne_eqb}
-use Rattle.lock_model.specs.Config.{Config}
-use Rattle.lock_model.specs.Holds.{NotHeld, Holds}
-use Rattle.lock_model.specs.History.{open_in}
-use Rattle.lock_model.specs.Queues.{lock_queue}
-use Rattle.lock_state.specs.State.{State, Note, SleepHalted, put}
-use Rattle.lock_state.specs.Steps.LockWords.{MayStamp, IsGainedLast, entry_of, after_stamp}
-use Rattle.lock_state.specs.Facts.{Lawful, Ordered, HeldAreListed, SectionsAreHeld, HoldsAreOrdered, HaltsAreOrdered, TakesAreInGraph}
-use Rattle.lock_state.specs.Facts.Words.{is_listed}
-use Rattle.lock_state.specs.Facts.Orders.{LeadTo, AreOrdered, TakeIsInGraph}
-use Rattle.lock_model.specs.declared.plan.Mode.{Mode}
-use Rattle.lock_model.specs.declared.event.Event.{Event}
-use Rattle.lock_model.specs.declared.event.Event.TheVariants.{Locked, HaltedLock}
-use Rattle.lock_laws.proofs.Kit.{put_same, put_other}
+use Rattle.order_laws.proofs.Names
+use Names.{ℕ, true, false, Option, Some, None, refl, sym, ap, inl, inr, subst, cases_eq, ne_eqb, Config, NotHeld, Holds}
+use Names.{open_in, lock_queue, State, Note, SleepHalted, put, MayStamp, IsGainedLast, entry_of, after_stamp, Lawful}
+use Names.{Ordered, HeldAreListed, SectionsAreHeld, HoldsAreOrdered, HaltsAreOrdered, TakesAreInGraph, is_listed}
+use Names.{LeadTo, AreOrdered, TakeIsInGraph, Mode, Event, Locked, HaltedLock, put_same, put_other}
+use Rattle.std.proofs.Common.{◌≡◌, ◌∷◌, ◌∙◌}
 use Rattle.order_laws.proofs.OrderFacts.Lists.{listed_held, each_at}
 
 module _ (c : Config) (s : State) (t : ℕ) (f : Lawful c s) (h : Ordered c s) where

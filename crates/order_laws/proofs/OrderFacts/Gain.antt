@@ -1,19 +1,11 @@
 -- A gain and a claim that keep to the order keep the facts of orders.
-use Rattle.std.proofs.Common.{◌≡◌, ℕ, Bool, false, List, ◌∷◌, Option, Some, None, sym, ap, subst, inl, inr, ◌∙◌}
-use Rattle.std.proofs.lemmas.Bool.{cases_eq}
-use Rattle.lock_model.specs.Config.{Config}
-use Rattle.lock_model.specs.Holds.{Hold, Holds}
-use Rattle.lock_model.specs.Queues.{Cause, ByAbort, lock_queue, chan_queue}
-use Rattle.lock_state.specs.State.{State, Woken, HeldLock, put, put_at}
-use Rattle.lock_state.specs.Steps.LockWords.{IsActing, is_woken, after_gain}
-use Rattle.lock_state.specs.Steps.Lending.{after_claim}
-use Rattle.lock_state.specs.Steps.{GainsInOrder}
-use Rattle.lock_state.specs.Facts.{Lawful, Ordered, HeldAreListed, WantsAreOrdered, HoldsAreOrdered, SleepersAreOrdered, WokenAreOrdered, AbortedWant, HaltsAreOrdered}
-use Rattle.lock_state.specs.Facts.Orders.{EachLeads}
-use Rattle.lock_model.specs.declared.plan.Mode.{Mode}
-use Rattle.lock_model.specs.declared.plan.Mode.TheVariants.{Excl}
-use Rattle.lock_model.specs.declared.plan.QueueName.{QueueName}
-use Rattle.lock_laws.proofs.Kit.{put_same, put_other, put_at_other}
+use Rattle.order_laws.proofs.Names
+use Names.{ℕ, Bool, false, List, Option, Some, None, sym, ap, subst, inl, inr, cases_eq, Config, Hold, Holds, Cause}
+use Names.{ByAbort, lock_queue, chan_queue, State, Woken, HeldLock, put, put_at, IsActing, is_woken, after_gain}
+use Names.{after_claim, GainsInOrder, Lawful, Ordered, HeldAreListed, WantsAreOrdered, HoldsAreOrdered}
+use Names.{SleepersAreOrdered, WokenAreOrdered, AbortedWant, HaltsAreOrdered, EachLeads, Mode, Excl, QueueName}
+use Names.{put_same, put_other, put_at_other}
+use Rattle.std.proofs.Common.{◌≡◌, ◌∷◌, ◌∙◌}
 use Rattle.order_laws.proofs.OrderFacts.Lists.{is_held, each_from}
 
 module _ (c : Config) (s : State) (t l : ℕ) (mode : Mode) (by_try : Bool) (a : IsActing s t) (k : GainsInOrder s t l by_try) (f : Lawful c s) (h : Ordered c s) where

@@ -1,19 +1,9 @@
 -- Lists of held locks, and the edges of the class graph between their classes.
-use Rattle.std.proofs.Common.{◌≡◌, ℕ, true, false, not, cond, eqb, List, [], ◌∷◌, ◌++◌, refl, sym, ap, inl, inr, eq-eqb, subst}
-use Rattle.std.specs.Prelude.{reverse, map}
-use Rattle.std.proofs.lemmas.Bool.{cases_eq, ne_eqb, or_right}
-use Rattle.std.proofs.lemmas.List.{reverse-append}
-use Rattle.lock_model.specs.Config.{Config}
-use Rattle.lock_model.specs.Holds.{Hold, Holds, is_unheld}
-use Rattle.lock_model.specs.Orders.{IsEdge, edges_behind}
-use Rattle.lock_model.proofs.Orders.{IsAmong, Grows, new_stands}
-use Rattle.lock_state.specs.State.{HeldLock}
-use Rattle.lock_state.specs.Steps.LockWords.{without_held}
-use Rattle.lock_state.specs.Steps.Orders.{held_classes}
-use Rattle.lock_state.specs.Facts.Words.{is_listed}
-use Rattle.lock_state.specs.Facts.Orders.{EachLeads, AreOrdered}
-use Rattle.lock_model.specs.declared.plan.Mode.{Mode}
-use Rattle.std.proofs.Common.{arith}
+use Rattle.order_laws.proofs.Names
+use Names.{ℕ, true, false, not, cond, eqb, List, [], refl, sym, ap, inl, inr, eq-eqb, subst, reverse, map, cases_eq}
+use Names.{ne_eqb, or_right, reverse-append, Config, Hold, Holds, is_unheld, IsEdge, edges_behind, IsAmong, Grows}
+use Names.{new_stands, HeldLock, without_held, held_classes, is_listed, EachLeads, AreOrdered, Mode, arith}
+use Rattle.std.proofs.Common.{◌≡◌, ◌∷◌, ◌++◌}
 
 -- 1. A lock that is held
 

@@ -1,14 +1,9 @@
 -- The facts of orders hold in one way, so a ghost field or a model's invariant may keep them.
-use Rattle.std.proofs.Common.{ℕ, List, [], ◌∷◌}
-use Rattle.std.proofs.Props.{props}
-use Rattle.lock_model.specs.Config.{Config}
-use Rattle.lock_model.specs.Orders.{HasNoCycle}
-use Rattle.lock_state.specs.State.{State, HeldLock}
-use Rattle.lock_state.specs.Facts.{Ordered, WantsAreOrdered, HoldsAreOrdered, SleepersAreOrdered, WokenAreOrdered, AbortedWant, HaltsAreOrdered, TakesAreInGraph}
-use Rattle.lock_state.specs.Facts.Orders.{EachLeads, AreOrdered, TakeIsInGraph}
-use Rattle.lock_model.specs.declared.event.Event.{Event}
-use Rattle.lock_model.specs.declared.event.Event.TheVariants.{Locked, HaltedLock}
-use Rattle.lock_model.specs.declared.event.Entry.{Entry}
+use Rattle.order_laws.proofs.Names
+use Names.{ℕ, List, [], props, Config, HasNoCycle, State, HeldLock, Ordered, WantsAreOrdered, HoldsAreOrdered}
+use Names.{SleepersAreOrdered, WokenAreOrdered, AbortedWant, HaltsAreOrdered, TakesAreInGraph, EachLeads, AreOrdered}
+use Names.{TakeIsInGraph, Event, Locked, HaltedLock, Entry}
+use Rattle.std.proofs.Common.{◌∷◌}
 
 EachLeads-prop : (c : Config) (es : List (ℕ × ℕ)) (hs : List HeldLock) (w : ℕ) → IsProp (EachLeads c es hs w)
 EachLeads-prop c es [] w = hlevel

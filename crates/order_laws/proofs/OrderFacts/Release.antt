@@ -1,15 +1,9 @@
 -- A release keeps the facts of orders.
-use Rattle.std.proofs.Common.{◌≡◌, ℕ, List, sym, inl, inr, ◌∙◌}
-use Rattle.std.proofs.lemmas.Bool.{cases_eq}
-use Rattle.lock_model.specs.Config.{Config}
-use Rattle.lock_model.specs.Holds.{Hold, NotHeld, Holds}
-use Rattle.lock_state.specs.State.{State, HeldLock, put, put_at}
-use Rattle.lock_state.specs.Steps.LockWords.{without_held, after_drop}
-use Rattle.lock_state.specs.Steps.Turnstiles.{after_open}
-use Rattle.lock_state.specs.Steps.SleepQueues.{after_open_sleep}
-use Rattle.lock_state.specs.Facts.{Ordered, WantsAreOrdered, HoldsAreOrdered, SleepersAreOrdered, WokenAreOrdered, HaltsAreOrdered}
-use Rattle.lock_model.specs.declared.plan.Mode.{Mode}
-use Rattle.lock_laws.proofs.Kit.{put_same, put_other, put_at_same, put_at_other, put_at_beside}
+use Rattle.order_laws.proofs.Names
+use Names.{ℕ, List, sym, inl, inr, cases_eq, Config, Hold, NotHeld, Holds, State, HeldLock, put, put_at, without_held}
+use Names.{after_drop, after_open, after_open_sleep, Ordered, WantsAreOrdered, HoldsAreOrdered, SleepersAreOrdered}
+use Names.{WokenAreOrdered, HaltsAreOrdered, Mode, put_same, put_other, put_at_same, put_at_other, put_at_beside}
+use Rattle.std.proofs.Common.{◌≡◌, ◌∙◌}
 use Rattle.order_laws.proofs.OrderFacts.Lists.{ordered_without}
 
 module _ (c : Config) (s : State) (t l : ℕ) (h : Ordered c s) where

@@ -1,14 +1,11 @@
 -- Each step that keeps to the order keeps the facts of orders, and so does each list of such steps.
-use Rattle.std.proofs.Common.{List, [], ◌∷◌}
-use Rattle.lock_model.specs.Config.{Config}
-use Rattle.lock_state.specs.State.{State}
-use Rattle.lock_state.specs.Facts.{Lawful, Ordered}
-use Rattle.lock_state.specs.Steps.LockWords.{after_seek, after_look}
-use Rattle.lock_state.specs.Steps.SleepQueues.{after_wake, after_abort}
-use Rattle.lock_state.specs.Steps.Lending.{after_lend, after_shift, after_end_walk}
-use Rattle.lock_state.specs.Steps.Items.{after_take, after_give}
-use Rattle.lock_state.specs.Steps.Counting.{after_count_out, after_count_in, after_count_self_in, after_count_end, after_halt}
-use Rattle.lock_state.specs.Steps.{Step, Gains, Drops, Stamps, Readies, Unreadies, Enters, Opens, EntersSleepQueue, OpensSleepQueue, Adds, Marks, Resumes, Claims, Admits, Refuses, May, MayAll, KeepsToOrder, KeepToOrder, after, after_all}
+use Rattle.order_laws.proofs.Names
+use Names.{List, [], Config, State, Lawful, Ordered, after_seek, after_look, after_wake, after_abort, after_lend}
+use Names.{after_shift, after_end_walk, after_take, after_give, after_count_out, after_count_in, after_count_self_in}
+use Names.{after_count_end, after_halt, Step, Gains, Drops, Stamps, Readies, Unreadies, Enters, Opens, EntersSleepQueue}
+use Names.{OpensSleepQueue, Adds, Marks, Resumes, Claims, Admits, Refuses, May, MayAll, KeepsToOrder, KeepToOrder}
+use Names.{after, after_all}
+use Rattle.std.proofs.Common.{◌∷◌}
 use Rattle.lock_laws.proofs.Steps as lawful
 use Rattle.order_laws.proofs.OrderFacts.Admit as admit
 use Rattle.order_laws.proofs.OrderFacts.Entries as entries

@@ -1,26 +1,16 @@
 -- Coming to stand on a queue, being woken and running again keep the facts of orders.
-use Rattle.std.proofs.Common.{◌≡◌, ℕ, Bool, true, false, cond, List, ◌∷◌, Option, Some, None, refl, sym, ap, inl, inr, subst, ◌∙◌}
-use Rattle.std.proofs.lemmas.Bool.{cases_eq, ne_eqb}
-use Rattle.std.proofs.lemmas.Option.{same_Some}
-use Rattle.lock_model.specs.Config.{Config}
-use Rattle.lock_model.specs.Holds.{NotHeld, Holds}
-use Rattle.lock_model.specs.Orders.{IsEdge}
-use Rattle.lock_model.specs.Queues.{Cause, BySignal, ByAbort, Mark, lock_queue, chan_queue}
-use Rattle.lock_state.specs.State.{State, HeldLock, Wait, Running, Queued, Woken, Note, OrderRefused, SleepHalted, put}
-use Rattle.lock_state.specs.Steps.LockWords.{IsGainedLast, is_woken, is_taking_back, after_ready, after_unready}
-use Rattle.lock_state.specs.Steps.Turnstiles.{MayMark, MayResume, HasReleased, wanted_after, noted_after, after_enter, after_mark, after_resume}
-use Rattle.lock_state.specs.Steps.SleepQueues.{after_enter_sleep, after_add}
-use Rattle.lock_state.specs.Facts.{Lawful, Ordered, HeldAreListed, StandingWants, WantsAreOrdered, HoldsAreOrdered, SleepersAreOrdered, WokenAreOrdered, AbortedWant, HaltsAreOrdered}
-use Rattle.lock_state.specs.Facts.Words.{is_listed}
-use Rattle.lock_state.specs.Facts.Orders.{LeadTo, OthersLeadTo, AreOrdered}
-use Rattle.lock_model.specs.declared.numbers.ChanNo.{ChanNo}
-use Rattle.lock_model.specs.declared.plan.Mode.{Mode}
-use Rattle.lock_model.specs.declared.plan.QueueName.{QueueName}
-use Rattle.lock_model.specs.declared.plan.QueueName.TheVariants.{Lock, Chan}
-use Rattle.lock_laws.proofs.Kit.{put_same, put_other}
+use Rattle.order_laws.proofs.Names
+use Names.{ℕ, Bool, true, false, cond, List, Option, Some, None, refl, sym, ap, inl, inr, subst, cases_eq, ne_eqb}
+use Names.{same_Some, Config, NotHeld, Holds, IsEdge, Cause, BySignal, ByAbort, Mark, lock_queue, chan_queue, State}
+use Names.{HeldLock, Wait, Running, Queued, Woken, Note, OrderRefused, SleepHalted, put, IsGainedLast, is_woken}
+use Names.{is_taking_back, after_ready, after_unready, MayMark, MayResume, HasReleased, wanted_after, noted_after}
+use Names.{after_enter, after_mark, after_resume, after_enter_sleep, after_add, Lawful, Ordered, HeldAreListed}
+use Names.{StandingWants, WantsAreOrdered, HoldsAreOrdered, SleepersAreOrdered, WokenAreOrdered, AbortedWant}
+use Names.{HaltsAreOrdered, is_listed, LeadTo, OthersLeadTo, AreOrdered, ChanNo, Mode, QueueName, Lock, Chan, put_same}
+use Names.{put_other, arith}
+use Rattle.std.proofs.Common.{◌≡◌, ◌∷◌, ◌∙◌}
 use Rattle.lock_laws.proofs.Mark as mark
 use Rattle.order_laws.proofs.OrderFacts.Lists.{listed_held, each_at}
-use Rattle.std.proofs.Common.{arith}
 
 -- 1. An enter of the wanted lock
 

@@ -1,24 +1,13 @@
 -- An admission and a refusal keep the facts of takes.
-use Rattle.std.proofs.Common.{◌≡◌, ℕ, true, eqb, List, [], ◌∷◌, Option, Some, None, refl, sym, ap, inl, inr, eq-eqb, subst, ◌∙◌}
-use Rattle.std.specs.Prelude.{map}
-use Rattle.std.proofs.lemmas.Bool.{cases_eq, or_cases, or_left, or_right}
-use Rattle.std.proofs.lemmas.List.{reverse-reverse}
-use Rattle.lock_model.specs.Config.{Config}
-use Rattle.lock_model.specs.Holds.{Holds}
-use Rattle.lock_model.specs.History.{open_in}
-use Rattle.lock_model.specs.Orders.{is_edge, IsFirstToForbid, edges_behind, forbids}
-use Rattle.lock_model.specs.Takes.{take_edges, has_open, ReversalHasCause}
-use Rattle.lock_model.proofs.Orders.{IsAmong, Grows, new_or_old, old_stays, forbids_none, first_forbids, says_forbids}
-use Rattle.lock_state.specs.State.{State, HeldLock, Note, OrderRefused, SleepHalted, put}
-use Rattle.lock_state.specs.Steps.Orders.{MayAdmit, MayRefuse, held_classes, after_admit, after_refuse}
-use Rattle.lock_state.specs.Facts.{Lawful, Taken, HeldAreListed, OnlyLocksAreHeld, EdgesAreOfTakes, TakersAreOpen, RefusalsHaveCause, ReversalsHaveCause}
-use Rattle.lock_state.specs.Facts.Words.{is_listed}
-use Rattle.lock_state.specs.Facts.Takes.{in_progress}
-use Rattle.lock_model.specs.declared.plan.Mode.{Mode}
-use Rattle.lock_model.specs.declared.event.Event.{Event}
-use Rattle.lock_model.specs.declared.event.Event.TheVariants.{Reversed}
-use Rattle.lock_model.specs.declared.event.Entry.{Entry}
-use Rattle.lock_laws.proofs.Kit.{put_same, put_other}
+use Rattle.order_laws.proofs.Names
+use Names.{ℕ, true, eqb, List, [], Option, Some, None, refl, sym, ap, inl, inr, eq-eqb, subst, map, cases_eq, or_cases}
+use Names.{or_left, or_right, reverse-reverse, Config, Holds, open_in, is_edge, IsFirstToForbid, edges_behind, forbids}
+use Names.{take_edges, has_open, ReversalHasCause, IsAmong, Grows, new_or_old, old_stays, forbids_none, first_forbids}
+use Names.{says_forbids, State, HeldLock, Note, OrderRefused, SleepHalted, put, MayAdmit, MayRefuse, held_classes}
+use Names.{after_admit, after_refuse, Lawful, Taken, HeldAreListed, OnlyLocksAreHeld, EdgesAreOfTakes, TakersAreOpen}
+use Names.{RefusalsHaveCause, ReversalsHaveCause, is_listed, in_progress, Mode, Event, Reversed, Entry, put_same}
+use Names.{put_other}
+use Rattle.std.proofs.Common.{◌≡◌, ◌∷◌, ◌∙◌}
 use Rattle.order_laws.proofs.OrderFacts.Lists.{is_held, among_reverse}
 use Rattle.order_laws.proofs.TakeFacts.Tests.{InProgress, says_progress, progress_says, open_says, forbids_on}
 

@@ -1,22 +1,10 @@
 -- A gain, a claim and a release that keep to the order keep the facts of takes.
-use Rattle.std.proofs.Common.{◌≡◌, ◌⊎◌, ℕ, ◌<◌, Bool, List, Option, Some, None, sym, ap, inl, inr, subst, ◌∙◌}
-use Rattle.std.proofs.lemmas.Bool.{cases_eq, or_cases, or_left, or_right}
-use Rattle.lock_model.specs.Config.{Config}
-use Rattle.lock_model.specs.Holds.{Hold, NotHeld, Holds}
-use Rattle.lock_model.specs.Orders.{is_edge, IsEdge}
-use Rattle.lock_model.specs.Takes.{take_edges}
-use Rattle.lock_model.proofs.Orders.{Grows}
-use Rattle.lock_state.specs.State.{State, put_at}
-use Rattle.lock_state.specs.Steps.LockWords.{after_gain, after_drop}
-use Rattle.lock_state.specs.Steps.Turnstiles.{after_open}
-use Rattle.lock_state.specs.Steps.SleepQueues.{after_open_sleep}
-use Rattle.lock_state.specs.Steps.Lending.{after_claim}
-use Rattle.lock_state.specs.Facts.{Taken, OnlyLocksAreHeld, EdgesAreOfTakes, TakersAreOpen}
-use Rattle.lock_state.specs.Facts.Takes.{in_progress}
-use Rattle.lock_model.specs.declared.plan.Mode.{Mode}
-use Rattle.lock_model.specs.declared.plan.Mode.TheVariants.{Excl}
-use Rattle.lock_model.specs.declared.event.Entry.{Entry}
-use Rattle.lock_laws.proofs.Kit.{put_at_same, put_at_other, put_at_beside}
+use Rattle.order_laws.proofs.Names
+use Names.{ℕ, Bool, List, Option, Some, None, sym, ap, inl, inr, subst, cases_eq, or_cases, or_left, or_right, Config}
+use Names.{Hold, NotHeld, Holds, is_edge, IsEdge, take_edges, Grows, State, put_at, after_gain, after_drop, after_open}
+use Names.{after_open_sleep, after_claim, Taken, OnlyLocksAreHeld, EdgesAreOfTakes, TakersAreOpen, in_progress, Mode}
+use Names.{Excl, Entry, put_at_same, put_at_other, put_at_beside}
+use Rattle.std.proofs.Common.{◌≡◌, ◌⊎◌, ◌<◌, ◌∙◌}
 use Rattle.order_laws.proofs.TakeFacts.Tests.{InProgress, says_progress, progress_says}
 
 -- where each take that was in progress is noted, or still in progress

@@ -1,29 +1,15 @@
 -- The begin of a round, a resume and an entry that keep to the order keep the facts of takes.
-use Rattle.std.proofs.Common.{◌≡◌, ◌⊎◌, ℕ, Bool, true, false, not, ◌&&◌, eqb, List, [], ◌∷◌, Option, Some, None, refl, sym, ap, inl, inr, subst, ◌∙◌}
-use Rattle.std.proofs.lemmas.Bool.{cases_eq}
-use Rattle.lock_model.specs.Config.{Config}
-use Rattle.lock_model.specs.Counts.{any_below}
-use Rattle.lock_model.specs.Holds.{Holds, is_unheld}
-use Rattle.lock_model.specs.History.{open_in}
-use Rattle.lock_model.specs.Orders.{IsEdge}
-use Rattle.lock_model.specs.Takes.{taken_by, take_edges, has_open, ReversalHasCause}
-use Rattle.lock_model.specs.Queues.{Cause}
-use Rattle.lock_state.specs.State.{State, Note, OrderRefused, put}
-use Rattle.lock_state.specs.Steps.{EndsTake, IsBackFrom, IsTakenInOrder}
-use Rattle.lock_state.specs.Steps.LockWords.{MayStamp, is_taking_back, taking_from, taking_after, entry_of, after_seek, after_stamp}
-use Rattle.lock_state.specs.Steps.Turnstiles.{taking_by, noted_after, after_resume}
-use Rattle.lock_state.specs.Facts.{Lawful, Taken, HeldAreListed, EdgesAreOfTakes, TakersAreOpen, RefusalsHaveCause, ReversalsHaveCause}
-use Rattle.lock_model.specs.declared.plan.QueueName.{QueueName}
-use Rattle.lock_model.specs.declared.event.Event.{Event}
-use Rattle.lock_model.specs.declared.event.Entry.{Entry}
-use Rattle.lock_state.specs.Facts.Words.{is_listed}
-use Rattle.lock_model.specs.declared.plan.Mode.{Mode}
-use Rattle.lock_laws.proofs.Kit.{put_same, put_other}
+use Rattle.order_laws.proofs.Names
+use Names.{ℕ, Bool, true, false, not, eqb, List, [], Option, Some, None, refl, sym, ap, inl, inr, subst, cases_eq}
+use Names.{Config, any_below, Holds, is_unheld, open_in, IsEdge, taken_by, take_edges, has_open, ReversalHasCause}
+use Names.{Cause, State, Note, OrderRefused, put, EndsTake, IsBackFrom, IsTakenInOrder, MayStamp, is_taking_back}
+use Names.{taking_from, taking_after, entry_of, after_seek, after_stamp, taking_by, noted_after, after_resume, Lawful}
+use Names.{Taken, HeldAreListed, EdgesAreOfTakes, TakersAreOpen, RefusalsHaveCause, ReversalsHaveCause, QueueName}
+use Names.{Event, Entry, is_listed, Mode, put_same, put_other, other_sections, arith}
+use Rattle.std.proofs.Common.{◌≡◌, ◌⊎◌, ◌&&◌, ◌∷◌, ◌∙◌}
 use Rattle.order_laws.proofs.OrderFacts.Lists.{listed_held}
-use Rattle.lock_laws.proofs.OwnEntries.{other_sections}
 use Rattle.order_laws.proofs.TakeFacts.Tests.{InProgress, take_stays, take_gives}
 use Rattle.order_laws.proofs.TakeFacts.Holds.{carried}
-use Rattle.std.proofs.Common.{arith}
 
 -- 1. The begin of a round. In order a blocking call seeks the lock that it wants, and so takes already; or its thread
 -- holds nothing, so that its take gives no edge

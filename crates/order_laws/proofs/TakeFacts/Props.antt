@@ -1,13 +1,8 @@
 -- The facts of takes hold in one way, so a ghost field or a model's invariant may keep them.
-use Rattle.std.proofs.Common.{ℕ, List, [], ◌∷◌}
-use Rattle.std.proofs.Props.{props}
-use Rattle.lock_model.specs.Config.{Config}
-use Rattle.lock_model.specs.Takes.{ReversalHasCause}
-use Rattle.lock_state.specs.State.{State}
-use Rattle.lock_state.specs.Facts.{Taken, OnlyLocksAreHeld, EdgesAreOfTakes, TakersAreOpen, RefusalsHaveCause, ReversalsHaveCause}
-use Rattle.lock_model.specs.declared.event.Event.{Event}
-use Rattle.lock_model.specs.declared.event.Event.TheVariants.{Reversed}
-use Rattle.lock_model.specs.declared.event.Entry.{Entry}
+use Rattle.order_laws.proofs.Names
+use Names.{ℕ, List, [], props, Config, ReversalHasCause, State, Taken, OnlyLocksAreHeld, EdgesAreOfTakes, TakersAreOpen}
+use Names.{RefusalsHaveCause, ReversalsHaveCause, Event, Reversed, Entry}
+use Rattle.std.proofs.Common.{◌∷◌}
 
 ReversalHasCause-prop : (c : Config) (es : List (ℕ × ℕ)) (e : Event) (history : List Entry) (t : ℕ) → IsProp (ReversalHasCause c es e history t)
 ReversalHasCause-prop c es (Reversed l held) history t = hlevel props

@@ -1,15 +1,11 @@
 -- Each step that keeps to the order keeps the facts of takes, and so does each list of such steps.
-use Rattle.std.proofs.Common.{List, [], ◌∷◌}
-use Rattle.lock_model.specs.Config.{Config}
-use Rattle.lock_state.specs.State.{State}
-use Rattle.lock_state.specs.Facts.{Lawful, Taken}
-use Rattle.lock_state.specs.Steps.LockWords.{after_look, after_ready, after_unready}
-use Rattle.lock_state.specs.Steps.Turnstiles.{after_enter, after_mark}
-use Rattle.lock_state.specs.Steps.SleepQueues.{after_enter_sleep, after_add, after_wake, after_abort}
-use Rattle.lock_state.specs.Steps.Lending.{after_lend, after_shift, after_end_walk}
-use Rattle.lock_state.specs.Steps.Items.{after_take, after_give}
-use Rattle.lock_state.specs.Steps.Counting.{after_count_out, after_count_in, after_count_self_in, after_count_end, after_halt}
-use Rattle.lock_state.specs.Steps.{Step, Seeks, Gains, Drops, Stamps, Opens, OpensSleepQueue, Resumes, Claims, Admits, Refuses, May, MayAll, KeepsToOrder, KeepToOrder, after, after_all}
+use Rattle.order_laws.proofs.Names
+use Names.{List, [], Config, State, Lawful, Taken, after_look, after_ready, after_unready, after_enter, after_mark}
+use Names.{after_enter_sleep, after_add, after_wake, after_abort, after_lend, after_shift, after_end_walk, after_take}
+use Names.{after_give, after_count_out, after_count_in, after_count_self_in, after_count_end, after_halt, Step, Seeks}
+use Names.{Gains, Drops, Stamps, Opens, OpensSleepQueue, Resumes, Claims, Admits, Refuses, May, MayAll, KeepsToOrder}
+use Names.{KeepToOrder, after, after_all}
+use Rattle.std.proofs.Common.{◌∷◌}
 use Rattle.lock_laws.proofs.Steps as lawful
 use Rattle.order_laws.proofs.TakeFacts.Admit as admit
 use Rattle.order_laws.proofs.TakeFacts.Holds as holds

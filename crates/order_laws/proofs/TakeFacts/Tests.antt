@@ -1,19 +1,12 @@
 -- The tests in the facts of takes, and what they say: an edge of a take in progress, an open section of a class, and
 -- the edges of noted takes.
-use Rattle.std.proofs.Common.{◌≡◌, ℕ, zero, suc, ◌<◌, Bool, true, false, not, cond, ◌&&◌, eqb, List, ◌∷◌, Option, Some, None, refl, sym, ap, inl, inr, arith, eq-eqb, ◌∙◌}
-use Rattle.std.proofs.lemmas.Bool.{cases_eq, ne_eqb, eqb-true, or_cases, and_from, and_parts}
-use Rattle.lock_model.specs.Config.{Config}
-use Rattle.lock_model.specs.Counts.{any_below}
-use Rattle.lock_model.specs.Holds.{Hold, Holds, is_unheld}
-use Rattle.lock_model.specs.History.{open_in}
-use Rattle.lock_model.specs.Orders.{IsEdge, forbids}
-use Rattle.lock_model.specs.Takes.{taken_by, classes_open, edges_by, take_edges, has_open}
-use Rattle.lock_model.proofs.Orders.{IsAmong, Grows, old_stays, new_stands, paths_grow, forbids_says, says_forbids}
-use Rattle.lock_state.specs.Facts.Takes.{gives_edge, in_progress}
-use Rattle.lock_state.specs.Steps.LockWords.{is_taking_back}
-use Rattle.lock_model.specs.declared.plan.Mode.{Mode}
-use Rattle.lock_model.specs.declared.event.Entry.{Entry}
-use Rattle.lock_laws.proofs.Shown.{true-any_below}
+use Rattle.order_laws.proofs.Names
+use Names.{ℕ, zero, suc, Bool, true, false, not, cond, eqb, List, Option, Some, None, refl, sym, ap, inl, inr, arith}
+use Names.{eq-eqb, cases_eq, ne_eqb, eqb-true, or_cases, and_from, and_parts, Config, any_below, Hold, Holds, is_unheld}
+use Names.{open_in, IsEdge, forbids, taken_by, classes_open, edges_by, take_edges, has_open, IsAmong, Grows, old_stays}
+use Names.{new_stands, paths_grow, forbids_says, says_forbids, gives_edge, in_progress, is_taking_back, Mode, Entry}
+use Names.{true-any_below}
+use Rattle.std.proofs.Common.{◌≡◌, ◌<◌, ◌&&◌, ◌∷◌, ◌∙◌}
 use Rattle.order_laws.proofs.OrderFacts.Lists.{is_held, listed_held}
 
 -- where a test is true somewhere below n
@@ -86,7 +79,6 @@ module _ (c : Config) (taking : ℕ → Option ℕ) (log : ℕ → List Entry) (
 -- 2. An open section of a class
 
 module _ (c : Config) (es : List Entry) (t : ℕ) where
-
   pub open_says : (l k : ℕ) (mode : Mode) → l < c.locks → c.class l ≡ k → open_in c es t l ≡ Holds mode → has_open c es t k ≡ true
   open_says l k mode lt e o =
       true-any_below c.locks (λ j. eqb (c.class j) k && not (is_unheld (open_in c es t j))) l lt

@@ -1,18 +1,10 @@
 -- Where no take is in progress, the history has the part of the law that speaks of lock orders.
-use Rattle.std.proofs.Common.{◌≡◌, ℕ, List, [], ◌∷◌, Some, None, sym, inl, inr, subst, ◌∙◌}
-use Rattle.std.proofs.lemmas.Bool.{or_cases}
-use Rattle.lock_model.specs.Config.{Config}
-use Rattle.lock_model.specs.Orders.{is_edge, IsEdge, HasNoCycle, edges_behind}
-use Rattle.lock_model.specs.Takes.{classes_open, edges_by, take_edges, taken_by, OrdersAreLegal}
-use Rattle.lock_model.proofs.Orders.{Grows, new_or_old, paths_grow}
-use Rattle.lock_state.specs.State.{State}
-use Rattle.lock_state.specs.Facts.{Ordered, Taken, TakesAreInGraph, EdgesAreOfTakes}
-use Rattle.lock_state.specs.Facts.Orders.{LeadTo, TakeIsInGraph}
-use Rattle.lock_state.specs.Facts.Takes.{in_progress}
-use Rattle.lock_model.specs.History.{open_in}
-use Rattle.lock_model.specs.declared.event.Event.{Event}
-use Rattle.lock_model.specs.declared.event.Event.TheVariants.{Locked, HaltedLock}
-use Rattle.lock_model.specs.declared.event.Entry.{Entry}
+use Rattle.order_laws.proofs.Names
+use Names.{ℕ, List, [], Some, None, sym, inl, inr, subst, or_cases, Config, is_edge, IsEdge, HasNoCycle, edges_behind}
+use Names.{classes_open, edges_by, take_edges, taken_by, OrdersAreLegal, Grows, new_or_old, paths_grow, State, Ordered}
+use Names.{Taken, TakesAreInGraph, EdgesAreOfTakes, LeadTo, TakeIsInGraph, in_progress, open_in, Event, Locked}
+use Names.{HaltedLock, Entry}
+use Rattle.std.proofs.Common.{◌≡◌, ◌∷◌, ◌∙◌}
 use Rattle.order_laws.proofs.TakeFacts.Admit.{reversals_on}
 use Rattle.order_laws.proofs.TakeFacts.Tests.{says_progress, among_open}
 

@@ -1,25 +1,17 @@
 -- Each step of a running floor that keeps to the order keeps that wants fit takes.
-use Rattle.std.proofs.Common.{◌≡◌, ◌≢◌, ℕ, Bool, false, Option, Some, None, refl, sym, ap, inl, inr, arith, subst, ◌∙◌}
-use Rattle.std.proofs.lemmas.Bool.{cases_eq}
-use Rattle.lock_model.specs.Config.{Config}
-use Rattle.lock_model.specs.Holds.{NotHeld, Holds}
-use Rattle.lock_model.specs.Queues.{Cause, Mark, lock_queue, chan_queue}
-use Rattle.lock_model.specs.declared.plan.QueueName.{QueueName}
-use Rattle.lock_model.specs.declared.event.Event.{Event}
-use Rattle.lock_model.specs.declared.event.Event.TheVariants.{Locked, HaltedLock, Woke, HaltedChan}
-use Rattle.lock_state.specs.State.{State, Wait, Running, Queued, Woken, OrderRefused, SleepHalted, put}
-use Rattle.lock_state.specs.Facts.{Lawful, Ordered, WantsFitTakes, WantedIsTaken, HaltedWantNothing}
-use Rattle.lock_state.specs.Steps.{Step, Seeks, Gains, Stamps, Readies, Unreadies, Enters, EntersSleepQueue, Adds, Marks, Resumes, Claims, Admits, Refuses, FitsFloor, KeepsToOrder, EndsItsTake, after}
-use Rattle.lock_state.specs.Steps.LockWords.{MayStamp, is_woken, is_taking_back, taking_from, taking_after, after_seek, after_look, after_gain, after_drop, after_stamp, after_ready, after_unready}
-use Rattle.lock_state.specs.Steps.Turnstiles.{MayResume, wanted_after, taking_by, noted_after, after_enter, after_open, after_mark, after_resume}
-use Rattle.lock_state.specs.Steps.SleepQueues.{after_enter_sleep, after_open_sleep, after_add, after_wake, after_abort}
-use Rattle.lock_state.specs.Steps.Lending.{after_claim, after_lend, after_shift, after_end_walk}
-use Rattle.lock_state.specs.Steps.Items.{after_take, after_give}
-use Rattle.lock_state.specs.Steps.Orders.{after_admit, after_refuse}
-use Rattle.lock_state.specs.Steps.Counting.{after_count_out, after_count_in, after_count_self_in, after_count_end, after_halt}
-use Rattle.lock_laws.proofs.Kit.{columns, put_same, put_other}
-use Rattle.lock_laws.proofs.Resume.{unnamed}
-use Rattle.lock_laws.proofs.Standing.{marked_named}
+use Rattle.order_laws.proofs.Names
+use Names.{ℕ, Bool, false, Option, Some, None, refl, sym, ap, inl, inr, arith, subst, cases_eq, Config, NotHeld, Holds}
+use Names.{Cause, Mark, lock_queue, chan_queue, QueueName, Event, Locked, HaltedLock, Woke, HaltedChan, State, Wait}
+use Names.{Running, Queued, Woken, OrderRefused, SleepHalted, put, Lawful, Ordered, WantsFitTakes, WantedIsTaken}
+use Names.{HaltedWantNothing, Step, Seeks, Gains, Stamps, Readies, Unreadies, Enters, EntersSleepQueue, Adds, Marks}
+use Names.{Resumes, Claims, Admits, Refuses, FitsFloor, KeepsToOrder, EndsItsTake, after, MayStamp, is_woken}
+use Names.{is_taking_back, taking_from, taking_after, after_seek, after_look, after_gain, after_drop, after_stamp}
+use Names.{after_ready, after_unready, MayResume, wanted_after, taking_by, noted_after, after_enter, after_open}
+use Names.{after_mark, after_resume, after_enter_sleep, after_open_sleep, after_add, after_wake, after_abort}
+use Names.{after_claim, after_lend, after_shift, after_end_walk, after_take, after_give, after_admit, after_refuse}
+use Names.{after_count_out, after_count_in, after_count_self_in, after_count_end, after_halt, columns, put_same}
+use Names.{put_other, unnamed, marked_named}
+use Rattle.std.proofs.Common.{◌≡◌, ◌≢◌, ◌∙◌}
 use Rattle.order_laws.proofs.OrderFacts.Cycle.{unheld}
 
 module _ (c : Config) (s : State) (x : WantsFitTakes s) (t : ℕ) where

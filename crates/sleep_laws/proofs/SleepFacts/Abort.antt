@@ -1,28 +1,15 @@
 -- An abort keeps the facts of sleepers: who was taken off a channel by it sleeps in the history on, and stands there no
 -- more. And the halt word: until it is set nobody is aborted.
-use Rattle.std.proofs.Common.{◌≡◌, ℕ, ◌+◌, ◌<◌, ◌≤◌, Bool, true, false, List, [], ◌∷◌, Option, Some, None, refl, sym, ap, arith, ◌∙◌, subst}
-use Rattle.std.proofs.lemmas.Bool.Decides.{nat_tests}
-use Rattle.lock_model.specs.Config.{Config}
-use Rattle.lock_model.specs.Law.{is_asleep, goes_before}
-use Rattle.lock_model.specs.Queues.{Waiter, Lists, Mark, lock_queue, chan_queue, times_waiting, without, dealt}
-use Rattle.lock_model.specs.declared.plan.Side.{Side}
-use Rattle.lock_model.specs.declared.plan.Side.TheVariants.{X, S}
-use Rattle.lock_model.specs.declared.plan.QueueName.{QueueName}
-use Rattle.lock_model.specs.declared.plan.QueueName.TheVariants.{Lock, Chan}
-use Rattle.lock_state.specs.State.{State, put, put_queue}
-use Rattle.lock_state.specs.Steps.SleepQueues.{MayAbort, sleeper, by_abort, after_abort}
-use Rattle.lock_state.specs.Steps.Counting.{after_halt}
-use Rattle.lock_state.specs.Facts.{Lawful, StandsOnce}
-use Rattle.lock_state.specs.Facts.Loans.{Each}
-use Rattle.lock_state.specs.Facts.Waits.{times_marked}
-use Rattle.lock_state.specs.Facts.Sleeps.{signals, aborts, aborted, InOrder, LeavesNobodyBefore}
-use Rattle.sleep_laws.specs.Sleepers.{SleepersFit, NamedAreWoken, AbortedSleep, MarksAreSignals, WokenBySignal, NoSleepIsHalted, SleepersSlept, AsleepStandThere, AsleepAreOnTheirWay, SleepersInOrder, LatecomersAreLater, SleepersKeepBase, SleepersAreExclusive, UnnotedAreMarked, UnnotedIsFair, PassedOverAreAborted, off}
-use Rattle.lock_laws.proofs.Kit.{columns, sum_below-put, sum_below-at, is_queue_same}
-use Rattle.lock_laws.proofs.Standing.{standing_named}
-use Rattle.lock_laws.proofs.Queues.{times_marked-dealt}
-use Rattle.lock_laws.proofs.TakingOff.{fits}
-use Rattle.lock_laws.proofs.Dealt.{marked_sum}
-use Rattle.lock_laws.proofs.Abort.{may_take_off}
+use Rattle.sleep_laws.proofs.Names
+use Names.{ℕ, Bool, true, false, List, [], Option, Some, None, refl, sym, ap, arith, subst, nat_tests, Config}
+use Names.{is_asleep, goes_before, Waiter, Lists, Mark, lock_queue, chan_queue, times_waiting, without, dealt, Side, X}
+use Names.{S, QueueName, Lock, Chan, State, put, put_queue, MayAbort, sleeper, by_abort, after_abort, after_halt}
+use Names.{Lawful, StandsOnce, Each, times_marked, signals, aborts, aborted, InOrder, LeavesNobodyBefore, SleepersFit}
+use Names.{NamedAreWoken, AbortedSleep, MarksAreSignals, WokenBySignal, NoSleepIsHalted, SleepersSlept}
+use Names.{AsleepStandThere, AsleepAreOnTheirWay, SleepersInOrder, LatecomersAreLater, SleepersKeepBase}
+use Names.{SleepersAreExclusive, UnnotedAreMarked, UnnotedIsFair, PassedOverAreAborted, off, columns, sum_below-put}
+use Names.{sum_below-at, is_queue_same, standing_named, times_marked-dealt, fits, marked_sum, may_take_off}
+use Rattle.std.proofs.Common.{◌≡◌, ◌+◌, ◌<◌, ◌≤◌, ◌∷◌, ◌∙◌}
 use Rattle.sleep_laws.proofs.SleepFacts.Best.{SleptLonger, KeepsBase, at_put_chan, each-without, in_order-without}
 use Rattle.sleep_laws.proofs.SleepFacts.Entries.{asleep_unnamed, slept_back}
 use Rattle.sleep_laws.proofs.SleepFacts.Found.{stander_asleep}

@@ -1,22 +1,14 @@
 -- An add to a channel's queue keeps the facts of sleepers: its thread sleeps in the history, and stands last.
-use Rattle.std.proofs.Common.{◌≡◌, ℕ, true, List, [], Option, Some, None, refl, sym, ap, arith, ◌∙◌}
-use Rattle.lock_model.specs.Config.{Config}
-use Rattle.lock_model.specs.Law.{is_asleep}
-use Rattle.lock_model.specs.Queues.{Waiter, Lists, chan_queue, with_last}
-use Rattle.lock_model.specs.declared.plan.QueueName.{QueueName}
-use Rattle.lock_state.specs.State.{State, put, put_queue}
-use Rattle.lock_state.specs.Steps.SleepQueues.{MayAdd, after_add}
-use Rattle.lock_state.specs.Facts.{Lawful}
-use Rattle.lock_state.specs.Facts.Loans.{Each}
-use Rattle.lock_state.specs.Facts.Sleeps.{is_signalled, is_chan_halt, InOrder}
-use Rattle.lock_state.specs.Steps.LockWords.{is_woken}
-use Rattle.lock_state.specs.Steps.{AddsAtWork}
-use Rattle.sleep_laws.specs.Sleepers.{SleepersFit, SleepersSlept, SleepersWantNothing, SleepersAreUnwoken, SleepersAreUnhalted, AsleepStandThere, AsleepAreOnTheirWay, SleepersInOrder, LatecomersAreLater, SleepersKeepBase, SleepersAreExclusive, UnnotedIsFair, off}
-use Rattle.lock_laws.proofs.Kit.{columns, put_chan_other}
+use Rattle.sleep_laws.proofs.Names
+use Names.{ℕ, true, List, [], Option, Some, None, refl, sym, ap, arith, Config, is_asleep, Waiter, Lists, chan_queue}
+use Names.{with_last, QueueName, State, put, put_queue, MayAdd, after_add, Lawful, Each, is_signalled, is_chan_halt}
+use Names.{InOrder, is_woken, AddsAtWork, SleepersFit, SleepersSlept, SleepersWantNothing, SleepersAreUnwoken}
+use Names.{SleepersAreUnhalted, AsleepStandThere, AsleepAreOnTheirWay, SleepersInOrder, LatecomersAreLater}
+use Names.{SleepersKeepBase, SleepersAreExclusive, UnnotedIsFair, off, columns, put_chan_other, signals_nowhere}
+use Rattle.std.proofs.Common.{◌≡◌, ◌∙◌}
 use Rattle.sleep_laws.proofs.SleepFacts.Best.{KeepsBase, at_put_chan, each-last, in_order-last}
 use Rattle.sleep_laws.proofs.SleepFacts.Entries.{one_channel}
 use Rattle.sleep_laws.proofs.SleepFacts.Known.{asleep, slept, is_at_work, its_thread}
-use Rattle.lock_laws.proofs.Dealt.{signals_nowhere}
 use Rattle.sleep_laws.proofs.SleepFacts.Off.{off_acting, unnoted_unhalted}
 
 module _ {at_work : ℕ → Option ℕ} {c : Config} {s : State} (l : Lawful c s)

@@ -1,18 +1,10 @@
 -- Lists of sleepers in the order of their sleeps, and the best of them.
-use Rattle.std.proofs.Common.{◌≡◌, ◌⊎◌, ℕ, ◌<◌, ◌≤◌, Bool, true, false, cond, eqb, nat_lt, List, [], ◌∷◌, map, refl, sym, inl, inr, arith, subst}
-use Rattle.std.proofs.lemmas.Bool.{cases_eq}
-use Rattle.std.proofs.lemmas.Bool.Decides.{nat_tests}
-use Rattle.lock_model.specs.Config.{Config}
-use Rattle.lock_model.specs.History.{base_in}
-use Rattle.lock_model.specs.Law.{entries_up_to, goes_before}
-use Rattle.lock_model.specs.Queues.{Waiter, Lists, chan_queue, times_waiting, without, with_last, better, best_of, taken_off, left_on}
-use Rattle.lock_model.specs.declared.plan.QueueName.{QueueName}
-use Rattle.lock_model.specs.declared.event.Entry.{Entry}
-use Rattle.lock_state.specs.State.{put_queue}
-use Rattle.lock_state.specs.Facts.Loans.{Each}
-use Rattle.lock_state.specs.Facts.Sleeps.{InOrder, LeavesNobodyBefore}
-use Rattle.lock_laws.proofs.Kit.{put_chan_same, put_chan_other}
-use Rattle.lock_laws.proofs.Lending.{each-map}
+use Rattle.sleep_laws.proofs.Names
+use Names.{ℕ, Bool, true, false, cond, eqb, nat_lt, List, [], map, refl, sym, inl, inr, arith, subst, cases_eq}
+use Names.{nat_tests, Config, base_in, entries_up_to, goes_before, Waiter, Lists, chan_queue, times_waiting, without}
+use Names.{with_last, better, best_of, taken_off, left_on, QueueName, Entry, put_queue, Each, InOrder}
+use Names.{LeavesNobodyBefore, put_chan_same, put_chan_other, each-map}
+use Rattle.std.proofs.Common.{◌≡◌, ◌⊎◌, ◌<◌, ◌≤◌, ◌∷◌}
 
 -- a fact of each channel and its queue, where one changes
 pub at_put_chan : (P : ℕ → Lists → Type 0) (f : QueueName → Lists) (k : ℕ) (v : Lists) → P k v

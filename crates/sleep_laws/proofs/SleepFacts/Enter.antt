@@ -1,17 +1,10 @@
 -- An enter on a lock's queue, of either sort, keeps the facts of sleepers: its thread doesn't sleep on a channel.
-use Rattle.std.proofs.Common.{◌≡◌, ℕ, true, Option, Some, None, arith}
-use Rattle.lock_model.specs.Config.{Config}
-use Rattle.lock_model.specs.Law.{is_asleep}
-use Rattle.lock_model.specs.Queues.{lock_queue}
-use Rattle.lock_model.specs.declared.plan.Mode.{Mode}
-use Rattle.lock_model.specs.declared.plan.QueueName.{QueueName}
-use Rattle.lock_state.specs.State.{State, put, put_queue}
-use Rattle.lock_state.specs.Steps.Turnstiles.{after_enter}
-use Rattle.lock_state.specs.Steps.SleepQueues.{after_enter_sleep}
-use Rattle.lock_state.specs.Steps.Items.{IsOnItsWay}
-use Rattle.lock_state.specs.Facts.{Lawful}
-use Rattle.sleep_laws.specs.Sleepers.{SleepersFit, SleepersSlept, SleepersWantNothing, SleepersAreUnwoken, SleepersAreUnhalted, AsleepStandThere, AsleepAreOnTheirWay, SleepersInOrder, LatecomersAreLater, SleepersKeepBase, SleepersAreExclusive, UnnotedIsFair, off}
-use Rattle.lock_laws.proofs.Kit.{columns}
+use Rattle.sleep_laws.proofs.Names
+use Names.{ℕ, true, Option, Some, None, arith, Config, is_asleep, lock_queue, Mode, QueueName, State, put, put_queue}
+use Names.{after_enter, after_enter_sleep, IsOnItsWay, Lawful, SleepersFit, SleepersSlept, SleepersWantNothing}
+use Names.{SleepersAreUnwoken, SleepersAreUnhalted, AsleepStandThere, AsleepAreOnTheirWay, SleepersInOrder}
+use Names.{LatecomersAreLater, SleepersKeepBase, SleepersAreExclusive, UnnotedIsFair, off, columns}
+use Rattle.std.proofs.Common.{◌≡◌}
 use Rattle.sleep_laws.proofs.SleepFacts.Known.{on_its_way}
 
 module _ {at_work : ℕ → Option ℕ} {c : Config} {s : State} (l : Lawful c s)

@@ -1,10 +1,7 @@
 -- What an entry changes of who sleeps behind a history, who was named, and whose sleep is longer.
-use Rattle.std.proofs.Common.{◌≡◌, ℕ, ◌≤◌, true, false, not, ◌&&◌, List, [], ◌∷◌, length, refl, arith, ◌∙◌}
-use Rattle.lock_model.specs.History.{entries_of}
-use Rattle.lock_model.specs.Law.{is_asleep, is_named, entries_up_to}
-use Rattle.lock_model.specs.declared.event.Entry.{Entry}
-use Rattle.lock_state.specs.Steps.LockWords.{is_taking_back}
-use Rattle.lock_state.specs.Steps.SleepQueues.{has_slept}
+use Rattle.sleep_laws.proofs.Names.{ℕ, true, false, not, List, [], length, refl, arith, entries_of, is_asleep, is_named}
+use Rattle.sleep_laws.proofs.Names.{entries_up_to, Entry, is_taking_back, has_slept}
+use Rattle.std.proofs.Common.{◌≡◌, ◌≤◌, ◌&&◌, ◌∷◌, ◌∙◌}
 
 -- a thread sleeps where its newest entry is the Sleeps entry and no waking names it since
 asleep_is : (es : List Entry) (d t : ℕ)

@@ -1,24 +1,16 @@
 -- On a running floor who has a channel's chain out is at work on it: each step of a thread of the floor asks of
 -- sleepers what it must, and only where a chain is taken or given back another is at work.
-use Rattle.std.proofs.Common.{◌≡◌, ◌⊎◌, ℕ, ◌%◌, ◌≤◌, Bool, true, false, Some, None, refl, sym, ap, inl, inr, arith, ◌∙◌, subst}
-use Rattle.lock_model.specs.Config.{Config}
-use Rattle.lock_model.specs.Counts.{one, some}
-use Rattle.lock_model.specs.Law.{is_halted_chan}
-use Rattle.lock_model.specs.declared.event.Event.{Event}
-use Rattle.lock_model.specs.declared.event.Event.TheVariants.{Woke, HaltedChan}
-use Rattle.lock_state.specs.State.{State}
-use Rattle.lock_state.specs.Facts.{Lawful}
-use Rattle.lock_state.specs.Facts.Sleeps.{is_chan_halt, aborted}
-use Rattle.lock_state.specs.Steps.LockWords.{is_taking_back, MayStamp, after_seek, after_look, after_gain, after_drop, after_stamp, after_ready, after_unready}
-use Rattle.lock_state.specs.Steps.Turnstiles.{after_enter, after_open, after_mark, after_resume}
-use Rattle.lock_state.specs.Steps.SleepQueues.{after_enter_sleep, after_open_sleep, after_add, after_wake, after_abort}
-use Rattle.lock_state.specs.Steps.Lending.{after_claim, after_lend, after_shift, after_end_walk}
-use Rattle.lock_state.specs.Steps.Items.{Item, SleepChain, IsDoneWith, MayTake, MayGive, item_with, after_take, after_give}
-use Rattle.lock_state.specs.Steps.Orders.{after_admit, after_refuse}
-use Rattle.lock_state.specs.Steps.Counting.{after_count_out, after_count_in, after_count_self_in, after_count_end, after_halt}
-use Rattle.lock_state.specs.Steps.{Step, TakesItem, GivesItem, Stamps, May, HasOut, HasSeen, AsksOfThread, ends_sleep, after, IsFloorStep, AsksOfSleepers}
-use Rattle.sleep_laws.specs.Sleepers.{SleepersFit, NamedAreWoken, AbortedSleep, AsleepAreOnTheirWay, by_chain, off}
-use Rattle.lock_laws.proofs.Items.{beside}
+use Rattle.sleep_laws.proofs.Names
+use Names.{ℕ, Bool, true, false, Some, None, refl, sym, ap, inl, inr, arith, subst, Config, one, some, is_halted_chan}
+use Names.{Event, Woke, HaltedChan, State, Lawful, is_chan_halt, aborted, is_taking_back, MayStamp, after_seek}
+use Names.{after_look, after_gain, after_drop, after_stamp, after_ready, after_unready, after_enter, after_open}
+use Names.{after_mark, after_resume, after_enter_sleep, after_open_sleep, after_add, after_wake, after_abort}
+use Names.{after_claim, after_lend, after_shift, after_end_walk, Item, SleepChain, IsDoneWith, MayTake, MayGive}
+use Names.{item_with, after_take, after_give, after_admit, after_refuse, after_count_out, after_count_in}
+use Names.{after_count_self_in, after_count_end, after_halt, Step, TakesItem, GivesItem, Stamps, May, HasOut, HasSeen}
+use Names.{AsksOfThread, ends_sleep, after, IsFloorStep, AsksOfSleepers, SleepersFit, NamedAreWoken, AbortedSleep}
+use Names.{AsleepAreOnTheirWay, by_chain, off, beside}
+use Rattle.std.proofs.Common.{◌≡◌, ◌⊎◌, ◌%◌, ◌≤◌, ◌∙◌}
 use Rattle.sleep_laws.proofs.SleepFacts.Moves.{moves}
 use Rattle.sleep_laws.proofs.SleepFacts.Steps as core
 

@@ -1,22 +1,14 @@
 -- Who stands on a channel's queue sleeps in the history, and who sleeps in the history is found there, or is at work on
 -- the channel, or was taken off by the thread that is.
-use Rattle.std.proofs.Common.{◌≡◌, ◌⊎◌, ℕ, zero, suc, ◌<◌, ◌≤◌, true, Option, Some, None, refl, sym, ap, inl, inr, arith, ◌∙◌}
-use Rattle.std.proofs.lemmas.Bool.{cases_eq}
-use Rattle.lock_model.specs.Config.{Config}
-use Rattle.lock_model.specs.Counts.{sum_below}
-use Rattle.lock_model.specs.Law.{is_asleep}
-use Rattle.lock_model.specs.Queues.{chan_queue, stands}
-use Rattle.lock_model.specs.declared.plan.QueueName.{QueueName}
-use Rattle.lock_state.specs.State.{State, Wake}
-use Rattle.lock_state.specs.Facts.{Lawful, StandsOnce}
-use Rattle.lock_state.specs.Facts.Waits.{times_marked}
-use Rattle.lock_state.specs.Facts.Sleeps.{signals_noted, aborts, aborted}
-use Rattle.sleep_laws.specs.Sleepers.{SleepersFit, WasTakenBy, IsWithChannel, WasAborted, NamedAreWoken, SleepersWantNothing, AsleepStandThere, UnnotedAreMarked, UnnotedIsAtWork, off}
-use Rattle.lock_laws.proofs.Kit.{sum_below-at, is_queue_same}
-use Rattle.lock_laws.proofs.Standing.{standing_named, times_named}
+use Rattle.sleep_laws.proofs.Names
+use Names.{ℕ, zero, suc, true, Option, Some, None, refl, sym, ap, inl, inr, arith, cases_eq, Config, sum_below}
+use Names.{is_asleep, chan_queue, stands, QueueName, State, Wake, Lawful, StandsOnce, times_marked, signals_noted}
+use Names.{aborts, aborted, SleepersFit, WasTakenBy, IsWithChannel, WasAborted, NamedAreWoken, SleepersWantNothing}
+use Names.{AsleepStandThere, UnnotedAreMarked, UnnotedIsAtWork, off, sum_below-at, is_queue_same, standing_named}
+use Names.{times_named, signals_named}
+use Rattle.std.proofs.Common.{◌≡◌, ◌⊎◌, ◌<◌, ◌≤◌, ◌∙◌}
 use Rattle.sleep_laws.proofs.SleepFacts.Entries.{asleep_unnamed}
 use Rattle.sleep_laws.proofs.SleepFacts.Known.{named_asleep, is_at_work}
-use Rattle.lock_laws.proofs.Dealt.{signals_named}
 use Rattle.sleep_laws.proofs.SleepFacts.Off.{marks_split}
 
 -- a sum that isn't 0 has an entry that isn't

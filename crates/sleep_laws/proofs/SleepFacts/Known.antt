@@ -1,23 +1,13 @@
 -- What the facts say of a thread that sleeps, and of a wake that is not noted yet: whom it took is in its thread's
 -- marked list, and sleeps on in the history until the wake is noted.
-use Rattle.std.proofs.Common.{◌≡◌, ℕ, ◌<◌, ◌≤◌, true, false, Option, Some, None, sym, ap, arith, ◌∙◌}
-use Rattle.lock_model.specs.Config.{Config}
-use Rattle.lock_model.specs.Counts.{one, times, has_bit}
-use Rattle.lock_model.specs.Law.{is_asleep, is_named}
-use Rattle.lock_model.specs.Queues.{chan_queue}
-use Rattle.lock_state.specs.State.{State, Wake}
-use Rattle.lock_state.specs.Steps.LockWords.{bits_of_threads}
-use Rattle.lock_state.specs.Steps.Items.{IsOnItsWay}
-use Rattle.lock_state.specs.Steps.SleepQueues.{has_slept}
-use Rattle.lock_state.specs.Facts.{Lawful, StandingIsQueued, LogsAreParts}
-use Rattle.lock_state.specs.Facts.Waits.{times_marked}
-use Rattle.lock_state.specs.Facts.Sleeps.{signals, signals_noted, is_signalled, is_chan_halt, aborted}
-use Rattle.sleep_laws.specs.Sleepers.{SleepersFit, NamedAreWoken, SleepersSlept, SleepersAreUnwoken, AsleepAreOnTheirWay, UnnotedAreMarked, UnnotedIsAtWork, off}
-use Rattle.lock_laws.proofs.Kit.{sum_below-zero}
-use Rattle.lock_laws.proofs.Standing.{times_named}
-use Rattle.lock_laws.proofs.Bits.{bit_of}
+use Rattle.sleep_laws.proofs.Names
+use Names.{ℕ, true, false, Option, Some, None, sym, ap, arith, Config, one, times, has_bit, is_asleep, is_named}
+use Names.{chan_queue, State, Wake, bits_of_threads, IsOnItsWay, has_slept, Lawful, StandingIsQueued, LogsAreParts}
+use Names.{times_marked, signals, signals_noted, is_signalled, is_chan_halt, aborted, SleepersFit, NamedAreWoken}
+use Names.{SleepersSlept, SleepersAreUnwoken, AsleepAreOnTheirWay, UnnotedAreMarked, UnnotedIsAtWork, off}
+use Names.{sum_below-zero, times_named, bit_of, signals_named, marked_once, marked_nowhere_else}
+use Rattle.std.proofs.Common.{◌≡◌, ◌<◌, ◌≤◌, ◌∙◌}
 use Rattle.sleep_laws.proofs.SleepFacts.Entries.{asleep_slept, slept_asleep, asleep_unnamed, slept_back}
-use Rattle.lock_laws.proofs.Dealt.{signals_named, marked_once, marked_nowhere_else}
 
 module _ {at_work : ℕ → Option ℕ} {c : Config} {s : State} (l : Lawful c s)
     (h : SleepersFit at_work c s) where

@@ -1,20 +1,14 @@
 -- A mark keeps the facts of sleepers: who was taken off a channel and is woken was named by its waking.
-use Rattle.std.proofs.Common.{◌≡◌, ℕ, ◌+◌, ◌≤◌, true, false, List, ◌∷◌, Option, Some, None, ap, arith, subst}
-use Rattle.std.proofs.lemmas.Bool.Decides.{nat_tests}
-use Rattle.lock_model.specs.Config.{Config}
-use Rattle.lock_model.specs.Law.{is_asleep}
-use Rattle.lock_model.specs.Queues.{BySignal, Mark, chan_queue}
-use Rattle.lock_model.specs.declared.plan.QueueName.{QueueName}
-use Rattle.lock_state.specs.State.{State, Wait, Woken, put}
-use Rattle.lock_state.specs.Steps.Turnstiles.{MayMark, after_mark}
-use Rattle.lock_state.specs.Facts.{Lawful, StandingIsQueued}
-use Rattle.lock_state.specs.Facts.Sleeps.{AreSignals, signals, signals_noted, is_signalled, aborts, is_aborted, is_chan_halt, aborted}
-use Rattle.lock_model.specs.Counts.{sum_below}
-use Rattle.sleep_laws.specs.Sleepers.{SleepersFit, NamedAreWoken, AbortedSleep, MarksAreSignals, WokenBySignal, SleepersSlept, WokenSlept, SleepersWantNothing, SleepersAreUnwoken, SleepersAreUnhalted, AsleepStandThere, AsleepAreOnTheirWay, LatecomersAreLater, UnnotedAreMarked, PassedOverAreAborted, off}
-use Rattle.lock_laws.proofs.Kit.{columns, at_put, sum_below-at, sum_below-put}
-use Rattle.lock_laws.proofs.Standing.{marked_named}
+use Rattle.sleep_laws.proofs.Names
+use Names.{ℕ, true, false, List, Option, Some, None, ap, arith, subst, nat_tests, Config, is_asleep, BySignal, Mark}
+use Names.{chan_queue, QueueName, State, Wait, Woken, put, MayMark, after_mark, Lawful, StandingIsQueued, AreSignals}
+use Names.{signals, signals_noted, is_signalled, aborts, is_aborted, is_chan_halt, aborted, sum_below, SleepersFit}
+use Names.{NamedAreWoken, AbortedSleep, MarksAreSignals, WokenBySignal, SleepersSlept, WokenSlept, SleepersWantNothing}
+use Names.{SleepersAreUnwoken, SleepersAreUnhalted, AsleepStandThere, AsleepAreOnTheirWay, LatecomersAreLater}
+use Names.{UnnotedAreMarked, PassedOverAreAborted, off, columns, at_put, sum_below-at, sum_below-put, marked_named}
+use Names.{marked_sum}
+use Rattle.std.proofs.Common.{◌≡◌, ◌+◌, ◌≤◌, ◌∷◌}
 use Rattle.sleep_laws.proofs.SleepFacts.Entries.{asleep_unnamed}
-use Rattle.lock_laws.proofs.Dealt.{marked_sum}
 
 module _ {at_work : ℕ → Option ℕ} {c : Config} {s : State} (l : Lawful c s)
     (h : SleepersFit at_work c s) (t : ℕ) (m : Mark) (ms : List Mark) (g : MayMark c s t m ms) where

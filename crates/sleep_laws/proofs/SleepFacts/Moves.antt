@@ -1,9 +1,7 @@
 -- Who is at work on the channels may change, where each thread that is on its way there or has a wake to note goes on.
-use Rattle.std.proofs.Common.{◌≡◌, ℕ, true, Option, Some, None}
-use Rattle.lock_model.specs.Config.{Config}
-use Rattle.lock_model.specs.Law.{is_asleep}
-use Rattle.lock_state.specs.State.{State, Wake}
-use Rattle.sleep_laws.specs.Sleepers.{SleepersFit, AsleepAreOnTheirWay, UnnotedIsAtWork, off}
+use Rattle.sleep_laws.proofs.Names.{ℕ, true, Option, Some, None, Config, is_asleep, State, Wake, SleepersFit}
+use Rattle.sleep_laws.proofs.Names.{AsleepAreOnTheirWay, UnnotedIsAtWork, off}
+use Rattle.std.proofs.Common.{◌≡◌}
 
 module _ (was is : ℕ → Option ℕ) (c : Config) (s : State) (h : SleepersFit was c s)
     (on_way : (t d : ℕ) → is_asleep s.history d t ≡ true → off c s t ≡ 0 → s.blocked_on t ≡ None

@@ -1,19 +1,11 @@
 -- How often threads were aborted off channels: what changes it, and whom it speaks of.
-use Rattle.std.proofs.Common.{◌≡◌, ℕ, ◌+◌, ◌<◌, ◌≤◌, Bool, false, eqb, not, ◌&&◌, List, [], ◌∷◌, Option, Some, None, refl, ap, arith}
-use Rattle.std.proofs.lemmas.Bool.Decides.{nat_tests}
-use Rattle.lock_model.specs.Config.{Config}
-use Rattle.lock_model.specs.Counts.{one, sum_below}
-use Rattle.lock_model.specs.Queues.{Waiter, Mark, is_queue, chan_queue, dealt}
-use Rattle.lock_model.specs.declared.plan.QueueName.{QueueName}
-use Rattle.lock_state.specs.State.{State, Wait, Note, put}
-use Rattle.lock_state.specs.Steps.LockWords.{is_woken}
-use Rattle.lock_state.specs.Facts.{Lawful, StandingIsQueued}
-use Rattle.lock_state.specs.Facts.Waits.{is_signal, times_marked}
-use Rattle.lock_state.specs.Facts.Sleeps.{is_chan, signals, aborts, is_aborted, is_chan_halt, aborted}
-use Rattle.sleep_laws.specs.Sleepers.{SleepersFit, SleepersAreUnhalted, off}
-use Rattle.lock_laws.proofs.Kit.{columns, is_queue_same, sum_below-put, sum_below-zero}
-use Rattle.lock_laws.proofs.Standing.{times_named}
-use Rattle.lock_laws.proofs.Dealt.{marked_once, marked_nowhere_else}
+use Rattle.sleep_laws.proofs.Names
+use Names.{ℕ, Bool, false, eqb, not, List, [], Option, Some, None, refl, ap, arith, nat_tests, Config, one, sum_below}
+use Names.{Waiter, Mark, is_queue, chan_queue, dealt, QueueName, State, Wait, Note, put, is_woken, Lawful}
+use Names.{StandingIsQueued, is_signal, times_marked, is_chan, signals, aborts, is_aborted, is_chan_halt, aborted}
+use Names.{SleepersFit, SleepersAreUnhalted, off, columns, is_queue_same, sum_below-put, sum_below-zero, times_named}
+use Names.{marked_once, marked_nowhere_else}
+use Rattle.std.proofs.Common.{◌≡◌, ◌+◌, ◌<◌, ◌≤◌, ◌&&◌, ◌∷◌}
 
 -- 1. Marks
 

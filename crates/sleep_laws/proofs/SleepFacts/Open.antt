@@ -1,18 +1,13 @@
 -- An open of a lock, of either sort, keeps the facts of sleepers: the marked list was empty, and gets no mark of a
 -- channel.
-use Rattle.std.proofs.Common.{◌≡◌, ℕ, ◌<◌, List, [], Option, refl, sym, ap, arith, ◌∙◌}
-use Rattle.lock_model.specs.Config.{Config}
-use Rattle.lock_model.specs.Queues.{Waiter, Mark, lock_queue, chan_queue, list_of, dealt}
-use Rattle.lock_model.specs.Words.{side_woken}
-use Rattle.lock_state.specs.State.{State, put, put_queue}
-use Rattle.lock_state.specs.Steps.Turnstiles.{after_open}
-use Rattle.lock_state.specs.Steps.SleepQueues.{after_open_sleep}
-use Rattle.lock_state.specs.Facts.Waits.{times_marked}
-use Rattle.lock_state.specs.Facts.Sleeps.{AreSignals, signals, aborts, aborted}
-use Rattle.sleep_laws.specs.Sleepers.{SleepersFit, NamedAreWoken, AbortedSleep, MarksAreSignals, AsleepStandThere, AsleepAreOnTheirWay, SleepersInOrder, LatecomersAreLater, SleepersKeepBase, SleepersAreExclusive, UnnotedAreMarked, UnnotedIsFair, PassedOverAreAborted, off}
-use Rattle.lock_laws.proofs.Kit.{columns, at_put}
-use Rattle.lock_laws.proofs.Queues.{times_marked-elsewhere}
-use Rattle.lock_laws.proofs.Dealt.{marked_sum, no_signals_of_lock, all_signals-dealt}
+use Rattle.sleep_laws.proofs.Names
+use Names.{ℕ, List, [], Option, refl, sym, ap, arith, Config, Waiter, Mark, lock_queue, chan_queue, list_of, dealt}
+use Names.{side_woken, State, put, put_queue, after_open, after_open_sleep, times_marked, AreSignals, signals, aborts}
+use Names.{aborted, SleepersFit, NamedAreWoken, AbortedSleep, MarksAreSignals, AsleepStandThere, AsleepAreOnTheirWay}
+use Names.{SleepersInOrder, LatecomersAreLater, SleepersKeepBase, SleepersAreExclusive, UnnotedAreMarked, UnnotedIsFair}
+use Names.{PassedOverAreAborted, off, columns, at_put, times_marked-elsewhere, marked_sum, no_signals_of_lock}
+use Names.{all_signals-dealt}
+use Rattle.std.proofs.Common.{◌≡◌, ◌<◌, ◌∙◌}
 use Rattle.sleep_laws.proofs.SleepFacts.Off.{off_marked, no_aborts-dealt}
 
 module _ {at_work : ℕ → Option ℕ} {c : Config} {s : State} (h : SleepersFit at_work c s)

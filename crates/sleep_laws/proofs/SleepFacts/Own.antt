@@ -1,19 +1,13 @@
 -- Gains, claims, the steps on a thread's own wait word that put it on no queue, and those that check the order of
 -- locks, keep the facts of sleepers.
-use Rattle.std.proofs.Common.{◌≡◌, ℕ, Bool, true, false, Option, Some, None, refl, sym, ap, arith, ◌∙◌}
-use Rattle.lock_model.specs.Config.{Config}
-use Rattle.lock_model.specs.Law.{is_asleep}
-use Rattle.lock_model.specs.declared.plan.Mode.{Mode}
-use Rattle.lock_model.specs.declared.plan.QueueName.{QueueName}
-use Rattle.lock_state.specs.State.{State, Wait, Running, Queued, Note, OrderRefused, put}
-use Rattle.lock_state.specs.Steps.LockWords.{is_woken, MayReady, MayUnready, after_gain, after_ready, after_unready}
-use Rattle.lock_state.specs.Steps.Lending.{after_claim}
-use Rattle.lock_state.specs.Steps.Items.{IsOnItsWay}
-use Rattle.lock_state.specs.Steps.Orders.{IsFreeToTake, MayRefuse, after_admit, after_refuse}
-use Rattle.lock_state.specs.Facts.{Lawful, StandingIsQueued}
-use Rattle.sleep_laws.specs.Sleepers.{SleepersFit, NamedAreWoken, AbortedSleep, WokenBySignal, WokenSlept, SleepersWantNothing, SleepersAreUnhalted, AsleepStandThere, AsleepAreOnTheirWay, LatecomersAreLater, PassedOverAreAborted, NoSleepIsHalted, off}
-use Rattle.lock_state.specs.Facts.Sleeps.{aborted}
-use Rattle.lock_laws.proofs.Kit.{columns}
+use Rattle.sleep_laws.proofs.Names
+use Names.{ℕ, Bool, true, false, Option, Some, None, refl, sym, ap, arith, Config, is_asleep, Mode, QueueName, State}
+use Names.{Wait, Running, Queued, Note, OrderRefused, put, is_woken, MayReady, MayUnready, after_gain, after_ready}
+use Names.{after_unready, after_claim, IsOnItsWay, IsFreeToTake, MayRefuse, after_admit, after_refuse, Lawful}
+use Names.{StandingIsQueued, SleepersFit, NamedAreWoken, AbortedSleep, WokenBySignal, WokenSlept, SleepersWantNothing}
+use Names.{SleepersAreUnhalted, AsleepStandThere, AsleepAreOnTheirWay, LatecomersAreLater, PassedOverAreAborted}
+use Names.{NoSleepIsHalted, off, aborted, columns}
+use Rattle.std.proofs.Common.{◌≡◌, ◌∙◌}
 use Rattle.sleep_laws.proofs.SleepFacts.Known.{on_its_way}
 use Rattle.sleep_laws.proofs.SleepFacts.Off.{off_waits, off_noted, unnoted_unhalted}
 

@@ -1,16 +1,12 @@
 -- The facts of sleepers hold in one way, so a ghost field or a model's invariant may keep them.
-use Rattle.std.proofs.Common.{ℕ, Bool, true, false, List, [], ◌∷◌, Option}
-use Rattle.std.proofs.Props.{props}
-use Rattle.lock_model.specs.Config.{Config}
-use Rattle.lock_model.specs.Law.{FitsSleepers, WakingsNameSleepers}
-use Rattle.lock_model.specs.Queues.{Waiter, Mark}
-use Rattle.lock_model.specs.declared.event.Event.{Event}
-use Rattle.lock_model.specs.declared.event.Event.TheVariants.{Woke, HaltedChan, WokeOne, WokeAll}
-use Rattle.lock_model.specs.declared.event.Entry.{Entry}
-use Rattle.lock_state.specs.State.{State}
-use Rattle.lock_state.specs.Facts.Sleeps.{AreSignals, InOrder, LeavesNobodyBefore}
-use Rattle.sleep_laws.specs.Sleepers.{SleepersFit, NamedAreWoken, MarksAreSignals, WokenBySignal, NoSleepIsHalted, SleepersSlept, WokenSlept, ResumedSlept, SleepersWantNothing, SleepersAreUnwoken, AsleepStandThere, AsleepAreOnTheirWay, SleepersInOrder, LatecomersAreLater, SleepersKeepBase, SleepersAreExclusive, UnnotedAreMarked, UnnotedIsAtWork, UnnotedIsFair, AbortedSleep, SleepersAreUnhalted, PassedOverAreAborted}
-use Rattle.lock_laws.proofs.Props.{Each-prop}
+use Rattle.sleep_laws.proofs.Names
+use Names.{ℕ, Bool, true, false, List, [], Option, props, Config, FitsSleepers, WakingsNameSleepers, Waiter, Mark}
+use Names.{Event, Woke, HaltedChan, WokeOne, WokeAll, Entry, State, AreSignals, InOrder, LeavesNobodyBefore}
+use Names.{SleepersFit, NamedAreWoken, MarksAreSignals, WokenBySignal, NoSleepIsHalted, SleepersSlept, WokenSlept}
+use Names.{ResumedSlept, SleepersWantNothing, SleepersAreUnwoken, AsleepStandThere, AsleepAreOnTheirWay}
+use Names.{SleepersInOrder, LatecomersAreLater, SleepersKeepBase, SleepersAreExclusive, UnnotedAreMarked}
+use Names.{UnnotedIsAtWork, UnnotedIsFair, AbortedSleep, SleepersAreUnhalted, PassedOverAreAborted, Each-prop}
+use Rattle.std.proofs.Common.{◌∷◌}
 
 AreSignals-prop : (ms : List Mark) → IsProp (AreSignals ms)
 AreSignals-prop [] = hlevel

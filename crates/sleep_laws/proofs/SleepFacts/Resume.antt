@@ -1,19 +1,13 @@
 -- A resume keeps the facts of sleepers: who was woken from a channel says so until its next entry.
-use Rattle.std.proofs.Common.{◌≡◌, ℕ, ◌+◌, ◌≤◌, Bool, true, false, cond, Option, Some, refl, ap, arith, subst}
-use Rattle.lock_model.specs.Config.{Config}
-use Rattle.lock_model.specs.Counts.{some, one, sum_below}
-use Rattle.lock_model.specs.Queues.{Cause, BySignal, ByAbort, chan_queue}
-use Rattle.lock_model.specs.declared.plan.QueueName.{QueueName}
-use Rattle.lock_model.specs.declared.plan.QueueName.TheVariants.{Lock, Chan}
-use Rattle.lock_state.specs.State.{State, Running, Woken, Note, SleepHalted, put}
-use Rattle.lock_state.specs.Steps.LockWords.{is_taking_back}
-use Rattle.lock_state.specs.Steps.Turnstiles.{MayResume, after_resume, wanted_after, noted_after, woken_from_by}
-use Rattle.lock_state.specs.Steps.SleepQueues.{has_slept}
-use Rattle.lock_state.specs.Facts.{Lawful}
-use Rattle.lock_state.specs.Facts.Sleeps.{aborts, is_signalled, is_aborted, is_chan_halt, aborted}
-use Rattle.sleep_laws.specs.Sleepers.{SleepersFit, NamedAreWoken, AbortedSleep, WokenBySignal, NoSleepIsHalted, WokenSlept, ResumedSlept, SleepersWantNothing, SleepersAreUnwoken, SleepersAreUnhalted, AsleepStandThere, AsleepAreOnTheirWay, LatecomersAreLater, PassedOverAreAborted, off}
-use Rattle.lock_laws.proofs.Kit.{columns, at_put}
-use Rattle.lock_laws.proofs.Resume.{unnamed}
+use Rattle.sleep_laws.proofs.Names
+use Names.{ℕ, Bool, true, false, cond, Option, Some, refl, ap, arith, subst, Config, some, one, sum_below, Cause}
+use Names.{BySignal, ByAbort, chan_queue, QueueName, Lock, Chan, State, Running, Woken, Note, SleepHalted, put}
+use Names.{is_taking_back, MayResume, after_resume, wanted_after, noted_after, woken_from_by, has_slept, Lawful, aborts}
+use Names.{is_signalled, is_aborted, is_chan_halt, aborted, SleepersFit, NamedAreWoken, AbortedSleep, WokenBySignal}
+use Names.{NoSleepIsHalted, WokenSlept, ResumedSlept, SleepersWantNothing, SleepersAreUnwoken, SleepersAreUnhalted}
+use Names.{AsleepStandThere, AsleepAreOnTheirWay, LatecomersAreLater, PassedOverAreAborted, off, columns, at_put}
+use Names.{unnamed}
+use Rattle.std.proofs.Common.{◌≡◌, ◌+◌, ◌≤◌}
 use Rattle.sleep_laws.proofs.SleepFacts.Own.{by_signal, woken_slept}
 
 module _ {at_work : ℕ → Option ℕ} {c : Config} {s : State} (l : Lawful c s)

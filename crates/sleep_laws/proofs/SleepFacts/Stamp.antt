@@ -1,28 +1,20 @@
 -- An entry keeps the facts of sleepers: who goes to sleep is on its way to its channel, and a waking names whom its
 -- wake took.
-use Rattle.std.proofs.Common.{◌≡◌, ◌≢◌, ℕ, ◌+◌, ◌≤◌, Bool, true, false, ◌||◌, List, [], ◌∷◌, Option, Some, None, refl, sym, ap, inl, inr, arith, eq-eqb, ◌∙◌, subst}
-use Rattle.std.proofs.lemmas.Bool.{cases_eq, ne_eqb}
-use Rattle.std.proofs.lemmas.Bool.Decides.{nat_tests}
-use Rattle.lock_model.specs.Config.{Config}
-use Rattle.lock_model.specs.Counts.{one, times, has_bit}
-use Rattle.lock_model.specs.Law.{is_asleep, is_named, is_passed_over, entries_up_to, goes_before, wakes, sleeps_on, is_halted_chan, WakingsNameSleepers}
-use Rattle.lock_model.specs.Queues.{Waiter, chan_queue, times_waiting}
-use Rattle.lock_model.specs.declared.event.Event.{Event}
-use Rattle.lock_model.specs.declared.event.Event.TheVariants.{Base, WokeOne, WokeAll}
-use Rattle.lock_model.specs.declared.event.Entry.{Entry}
-use Rattle.lock_state.specs.State.{State, Queued, Wake, put}
-use Rattle.lock_state.specs.Steps.LockWords.{MayStamp, is_taking_back, bits_of_threads, entry_of, base_after, unstamped_after, after_stamp}
-use Rattle.lock_state.specs.Steps.SleepQueues.{has_slept}
-use Rattle.lock_state.specs.Facts.{Lawful}
-use Rattle.lock_state.specs.Facts.Sleeps.{signals, signals_noted, LeavesNobodyBefore, is_chan_halt, aborted}
-use Rattle.sleep_laws.specs.Sleepers.{SleepersFit, NamedAreWoken, AbortedSleep, NoSleepIsHalted, SleepersSlept, WokenSlept, ResumedSlept, SleepersAreUnwoken, SleepersAreUnhalted, AsleepStandThere, AsleepAreOnTheirWay, SleepersInOrder, LatecomersAreLater, SleepersKeepBase, UnnotedAreMarked, UnnotedIsAtWork, UnnotedIsFair, PassedOverAreAborted, off}
-use Rattle.lock_laws.proofs.Kit.{columns, at_put, put_other, sum_below-zero}
-use Rattle.lock_laws.proofs.Lending.{each-map}
-use Rattle.lock_laws.proofs.Standing.{standing_named}
+use Rattle.sleep_laws.proofs.Names
+use Names.{ℕ, Bool, true, false, List, [], Option, Some, None, refl, sym, ap, inl, inr, arith, eq-eqb, subst, cases_eq}
+use Names.{ne_eqb, nat_tests, Config, one, times, has_bit, is_asleep, is_named, is_passed_over, entries_up_to}
+use Names.{goes_before, wakes, sleeps_on, is_halted_chan, WakingsNameSleepers, Waiter, chan_queue, times_waiting, Event}
+use Names.{Base, WokeOne, WokeAll, Entry, State, Queued, Wake, put, MayStamp, is_taking_back, bits_of_threads, entry_of}
+use Names.{base_after, unstamped_after, after_stamp, has_slept, Lawful, signals, signals_noted, LeavesNobodyBefore}
+use Names.{is_chan_halt, aborted, SleepersFit, NamedAreWoken, AbortedSleep, NoSleepIsHalted, SleepersSlept, WokenSlept}
+use Names.{ResumedSlept, SleepersAreUnwoken, SleepersAreUnhalted, AsleepStandThere, AsleepAreOnTheirWay}
+use Names.{SleepersInOrder, LatecomersAreLater, SleepersKeepBase, UnnotedAreMarked, UnnotedIsAtWork, UnnotedIsFair}
+use Names.{PassedOverAreAborted, off, columns, at_put, put_other, sum_below-zero, each-map, standing_named, in_lists}
+use Names.{unstamped_sum, signals_nowhere}
+use Rattle.std.proofs.Common.{◌≡◌, ◌≢◌, ◌+◌, ◌≤◌, ◌||◌, ◌∷◌, ◌∙◌}
 use Rattle.sleep_laws.proofs.SleepFacts.Best.{SleptLonger, KeepsBase, each_all, in_order-map}
 use Rattle.sleep_laws.proofs.SleepFacts.Entries.{asleep_unnamed, slept_back, up_to_most}
 use Rattle.sleep_laws.proofs.SleepFacts.Known.{taken_named, taken_asleep, taken_bits}
-use Rattle.lock_laws.proofs.Dealt.{in_lists, unstamped_sum, signals_nowhere}
 use Rattle.sleep_laws.proofs.SleepFacts.Waking.{the_wake, fits, over_nobody}
 use Rattle.sleep_laws.proofs.SleepFacts.Off.{off_acting, off_signalled}
 

@@ -1,24 +1,17 @@
 -- Each step that asks of sleepers what it must keeps the facts of sleepers, and so does each list of such steps in
 -- which none sets the halt word.
-use Rattle.std.proofs.Common.{◌≡◌, ℕ, ◌≤◌, true, false, List, [], ◌∷◌, Option, refl, arith, ◌∙◌}
-use Rattle.std.specs.Prelude.{⊤}
-use Rattle.lock_model.specs.Config.{Config}
-use Rattle.lock_state.specs.State.{State, put_queue}
-use Rattle.lock_state.specs.Facts.{Lawful}
-use Rattle.lock_state.specs.Steps.LockWords.{after_seek, after_look, after_drop}
-use Rattle.lock_state.specs.Steps.Lending.{after_lend, after_shift, after_end_walk}
-use Rattle.lock_state.specs.Steps.Items.{after_take, after_give}
-use Rattle.lock_state.specs.Steps.{Step, Seeks, Looks, TakesItem, GivesItem, Gains, Drops, Stamps, Readies, Unreadies, Enters, Opens, EntersSleepQueue, OpensSleepQueue, Adds, Wakes, Marks, Resumes, Claims, Lends, Shifts, EndsWalk, Admits, Refuses, CountsOut, CountsIn, CountsSelfIn, CountsEnd, Halts, Aborts, May, MayAll, after, after_all, AsksOfSleepers}
-use Rattle.lock_model.specs.Law.{is_halted_chan}
-use Rattle.lock_state.specs.State.{Note}
-use Rattle.lock_state.specs.Steps.LockWords.{after_gain, after_stamp, after_ready, after_unready}
-use Rattle.lock_state.specs.Steps.Turnstiles.{after_enter, after_open, after_mark, after_resume}
-use Rattle.lock_state.specs.Steps.SleepQueues.{after_enter_sleep, after_open_sleep, after_add, after_wake, after_abort}
-use Rattle.lock_state.specs.Steps.Lending.{after_claim}
-use Rattle.lock_state.specs.Steps.Orders.{after_admit, after_refuse}
-use Rattle.lock_state.specs.Steps.Counting.{after_count_out, after_count_in, after_count_self_in, after_count_end, after_halt}
-use Rattle.lock_state.specs.Facts.Sleeps.{is_chan_halt}
-use Rattle.sleep_laws.specs.Sleepers.{SleepersFit, AsksOfSleepersAll, IsNoHalt, HaltNobody, SleepersInOrder, LatecomersAreLater, SleepersKeepBase, SleepersAreExclusive, UnnotedIsFair, NoSleepIsHalted}
+use Rattle.sleep_laws.proofs.Names
+use Names.{ℕ, true, false, List, [], Option, refl, arith, ⊤, Config, State, put_queue, Lawful, after_seek, after_look}
+use Names.{after_drop, after_lend, after_shift, after_end_walk, after_take, after_give, Step, Seeks, Looks, TakesItem}
+use Names.{GivesItem, Gains, Drops, Stamps, Readies, Unreadies, Enters, Opens, EntersSleepQueue, OpensSleepQueue, Adds}
+use Names.{Wakes, Marks, Resumes, Claims, Lends, Shifts, EndsWalk, Admits, Refuses, CountsOut, CountsIn, CountsSelfIn}
+use Names.{CountsEnd, Halts, Aborts, May, MayAll, after, after_all, AsksOfSleepers, is_halted_chan, Note, after_gain}
+use Names.{after_stamp, after_ready, after_unready, after_enter, after_open, after_mark, after_resume}
+use Names.{after_enter_sleep, after_open_sleep, after_add, after_wake, after_abort, after_claim, after_admit}
+use Names.{after_refuse, after_count_out, after_count_in, after_count_self_in, after_count_end, after_halt}
+use Names.{is_chan_halt, SleepersFit, AsksOfSleepersAll, IsNoHalt, HaltNobody, SleepersInOrder, LatecomersAreLater}
+use Names.{SleepersKeepBase, SleepersAreExclusive, UnnotedIsFair, NoSleepIsHalted}
+use Rattle.std.proofs.Common.{◌≡◌, ◌≤◌, ◌∷◌, ◌∙◌}
 use Rattle.lock_laws.proofs.Steps as lawful
 use Rattle.sleep_laws.proofs.SleepFacts.Abort as abort
 use Rattle.sleep_laws.proofs.SleepFacts.Add as add

@@ -1,11 +1,7 @@
 -- In a turn of a scheduled run its thread is at work on all channels, and between turns nobody is.
-use Rattle.std.proofs.Common.{◌≡◌, ◌≢◌, ℕ, true, false, List, None}
-use Rattle.lock_model.specs.Config.{Config}
-use Rattle.lock_model.specs.Law.{is_asleep}
-use Rattle.lock_state.specs.State.{State}
-use Rattle.lock_state.specs.Facts.{Lawful}
-use Rattle.lock_state.specs.Steps.{Step, MayAll, after_all}
-use Rattle.sleep_laws.specs.Sleepers.{SleepersFit, AsksOfSleepersAll, HaltNobody, by_turn, nobody, off}
+use Rattle.sleep_laws.proofs.Names.{ℕ, true, false, List, None, Config, is_asleep, State, Lawful, Step, MayAll}
+use Rattle.sleep_laws.proofs.Names.{after_all, SleepersFit, AsksOfSleepersAll, HaltNobody, by_turn, nobody, off}
+use Rattle.std.proofs.Common.{◌≡◌, ◌≢◌}
 use Rattle.sleep_laws.proofs.SleepFacts.Moves.{moves}
 use Rattle.sleep_laws.proofs.SleepFacts.Steps.{all_keep}
 

@@ -1,27 +1,17 @@
 -- A wake keeps the facts of sleepers: whom it took is in the marked list, and the wake is to be noted.
-use Rattle.std.proofs.Common.{◌≡◌, ℕ, ◌+◌, ◌<◌, ◌≤◌, Bool, true, List, [], map, length, Option, Some, sym, ap, arith, ◌∙◌, subst}
-use Rattle.lock_model.specs.Config.{Config}
-use Rattle.lock_model.specs.Counts.{some, times}
-use Rattle.lock_model.specs.History.{base_in}
-use Rattle.lock_model.specs.Law.{is_asleep}
-use Rattle.lock_model.specs.Queues.{Waiter, Lists, Mark, chan_queue, dealt, taken_off, left_on}
-use Rattle.lock_model.specs.declared.plan.QueueName.{QueueName}
-use Rattle.lock_model.specs.declared.plan.Side.TheVariants.{X}
-use Rattle.lock_state.specs.State.{State, Wake, put, put_queue}
-use Rattle.lock_state.specs.Steps.SleepQueues.{MayWake, after_wake}
-use Rattle.lock_state.specs.Facts.{Lawful, BasesReplay}
-use Rattle.lock_state.specs.Facts.Loans.{Each}
-use Rattle.lock_state.specs.Facts.Waits.{times_marked}
-use Rattle.lock_state.specs.Facts.Sleeps.{AreSignals, signals, aborts, aborted, InOrder, LeavesNobodyBefore}
-use Rattle.sleep_laws.specs.Sleepers.{SleepersFit, NamedAreWoken, AbortedSleep, MarksAreSignals, AsleepStandThere, AsleepAreOnTheirWay, SleepersInOrder, LatecomersAreLater, SleepersKeepBase, SleepersAreExclusive, UnnotedAreMarked, UnnotedIsAtWork, UnnotedIsFair, PassedOverAreAborted, off}
-use Rattle.lock_laws.proofs.Kit.{columns, at_put, put_same, put_other, put_chan_same, put_chan_other}
-use Rattle.lock_laws.proofs.Lending.{each-map}
-use Rattle.lock_laws.proofs.Queues.{times_marked-dealt}
+use Rattle.sleep_laws.proofs.Names
+use Names.{ℕ, Bool, true, List, [], map, length, Option, Some, sym, ap, arith, subst, Config, some, times, base_in}
+use Names.{is_asleep, Waiter, Lists, Mark, chan_queue, dealt, taken_off, left_on, QueueName, X, State, Wake, put}
+use Names.{put_queue, MayWake, after_wake, Lawful, BasesReplay, Each, times_marked, AreSignals, signals, aborts}
+use Names.{aborted, InOrder, LeavesNobodyBefore, SleepersFit, NamedAreWoken, AbortedSleep, MarksAreSignals}
+use Names.{AsleepStandThere, AsleepAreOnTheirWay, SleepersInOrder, LatecomersAreLater, SleepersKeepBase}
+use Names.{SleepersAreExclusive, UnnotedAreMarked, UnnotedIsAtWork, UnnotedIsFair, PassedOverAreAborted, off, columns}
+use Names.{at_put, put_same, put_other, put_chan_same, put_chan_other, each-map, times_marked-dealt, objects_enough}
+use Names.{signals-dealt, all_signals-dealt, times-map, marked_sum, unstamped_sum}
+use Rattle.std.proofs.Common.{◌≡◌, ◌+◌, ◌<◌, ◌≤◌, ◌∙◌}
 use Rattle.sleep_laws.proofs.SleepFacts.Best.{SleptLonger, KeepsBase, at_put_chan, each-left, in_order-left, wake_fair}
 use Rattle.sleep_laws.proofs.SleepFacts.Known.{its_thread}
 use Rattle.sleep_laws.proofs.SleepFacts.Off.{off_marked, no_aborts-dealt}
-use Rattle.lock_laws.proofs.Taken.{objects_enough}
-use Rattle.lock_laws.proofs.Dealt.{signals-dealt, all_signals-dealt, times-map, marked_sum, unstamped_sum}
 
 module _ {at_work : ℕ → Option ℕ} {c : Config} {s : State} (l : Lawful c s)
     (h : SleepersFit at_work c s) (t d : ℕ) (all : Bool) (g : MayWake c s t d all)

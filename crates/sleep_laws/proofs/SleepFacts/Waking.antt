@@ -1,20 +1,12 @@
 -- Each entry of a waking, and of a woken thread, fits the sleepers behind the history, and nobody is passed over.
-use Rattle.std.proofs.Common.{◌≡◌, ◌≢◌, ℕ, zero, suc, ◌+◌, ◌<◌, ◌≤◌, Bool, true, false, eqb, ◌&&◌, List, [], ◌∷◌, Option, Some, refl, sym, ap, inl, inr, arith, ◌∙◌, subst}
-use Rattle.std.proofs.lemmas.Bool.{ne_eqb}
-use Rattle.std.proofs.lemmas.Bool.Decides.{nat_tests}
-use Rattle.lock_model.specs.Config.{Config}
-use Rattle.lock_model.specs.Counts.{any_below, one, times, has_bit}
-use Rattle.lock_model.specs.Law.{is_asleep, is_named, passes_over, goes_before, comes_before_named, leaves_asleep, Fits, FitsSleepers}
-use Rattle.lock_model.specs.Events.{WakesOne, WakesAll}
-use Rattle.lock_model.specs.Queues.{Waiter, chan_queue, times_waiting}
-use Rattle.lock_model.specs.declared.event.Event.{Event}
-use Rattle.lock_model.specs.declared.event.Event.TheVariants.{Woke, HaltedChan, WokeOne, WokeAll}
-use Rattle.lock_state.specs.State.{State, Wake}
-use Rattle.lock_state.specs.Steps.LockWords.{MayStamp, IsTheWake, bits_of_threads, is_taking_back}
-use Rattle.lock_state.specs.Facts.{Lawful}
-use Rattle.lock_state.specs.Facts.Sleeps.{LeavesNobodyBefore, is_chan_halt, aborted}
-use Rattle.sleep_laws.specs.Sleepers.{SleepersFit, IsWithChannel, NamedAreWoken, AbortedSleep, SleepersAreExclusive, UnnotedAreMarked, UnnotedIsAtWork, UnnotedIsFair, off}
-use Rattle.lock_laws.proofs.Bits.{no_bits}
+use Rattle.sleep_laws.proofs.Names
+use Names.{ℕ, zero, suc, Bool, true, false, eqb, List, [], Option, Some, refl, sym, ap, inl, inr, arith, subst, ne_eqb}
+use Names.{nat_tests, Config, any_below, one, times, has_bit, is_asleep, is_named, passes_over, goes_before}
+use Names.{comes_before_named, leaves_asleep, Fits, FitsSleepers, WakesOne, WakesAll, Waiter, chan_queue, times_waiting}
+use Names.{Event, Woke, HaltedChan, WokeOne, WokeAll, State, Wake, MayStamp, IsTheWake, bits_of_threads, is_taking_back}
+use Names.{Lawful, LeavesNobodyBefore, is_chan_halt, aborted, SleepersFit, IsWithChannel, NamedAreWoken, AbortedSleep}
+use Names.{SleepersAreExclusive, UnnotedAreMarked, UnnotedIsAtWork, UnnotedIsFair, off, no_bits}
+use Rattle.std.proofs.Common.{◌≡◌, ◌≢◌, ◌+◌, ◌<◌, ◌≤◌, ◌&&◌, ◌∷◌, ◌∙◌}
 use Rattle.sleep_laws.proofs.SleepFacts.Best.{each_at}
 use Rattle.sleep_laws.proofs.SleepFacts.Found.{sleeper_found}
 use Rattle.sleep_laws.proofs.SleepFacts.Known.{taken_asleep, taken_bits}

@@ -1,4 +1,4 @@
-use Rattle.std.proofs.Common.{Ok, Err}
+use Rattle.floor_calls.proofs.Names.{Ok, Err}
 use Rattle.floor_calls.proofs.Standing.{made}
 use Rattle.floor_calls.proofs.at_once.set_base.Goals as goal
 

@@ -1,13 +1,6 @@
-use Rattle.std.proofs.Common.{◌≡◌, List, [], ◌∷◌, ◌++◌, All, length, map, sym, ap, subst, ◌∙◌, append_assoc, arith}
-use Rattle.std.proofs.lemmas.List.Elements.{All-tail}
-use Rattle.std.specs.Arc.{arc_value}
-use Rattle.std.specs.Vec.Iter.{into_iter_items}
-use Rattle.floor_table.specs.Views.{Knowledge}
-use Rattle.lock_floor.specs.Floors.{Pass}
-use Rattle.floor_calls.specs.Openings.{thread_at_rest}
-use Rattle.floor_calls.specs.Threads.{Stands, Thread}
-use Rattle.floor_calls.specs.declared.stages.Stage.TheVariants.{AtRest}
-use Rattle.floor_calls.specs.declared.shared.Shared.{Shared}
+use Rattle.floor_calls.proofs.Names.{List, [], length, map, sym, ap, subst, append_assoc, arith, All-tail, arc_value}
+use Rattle.floor_calls.proofs.Names.{into_iter_items, Knowledge, Pass, thread_at_rest, Stands, Thread, AtRest, Shared}
+use Rattle.std.proofs.Common.{◌≡◌, ◌∷◌, ◌++◌, ◌∙◌, All}
 use Rattle.floor_calls.proofs.opening.hand_out.Goals as goal
 
 pub loop-pass-preserved : goal.loop-pass-preserved

@@ -1,11 +1,6 @@
-use Rattle.std.proofs.Common.{◌≡◌, ◌++◌, length, map, All}
-use Rattle.std.specs.Arc.{arc_value}
-use Rattle.std.specs.Vec.Iter.{into_iter_items, into_iter_len}
-use Rattle.floor_table.specs.Views.{Knowledge}
-use Rattle.lock_floor.specs.Floors.{Pass}
-use Rattle.floor_calls.specs.Openings.{thread_at_rest}
-use Rattle.floor_calls.specs.Threads.{Stands}
-use Rattle.floor_calls.specs.declared.stages.Stage.TheVariants.{AtRest}
+use Rattle.floor_calls.proofs.Names.{length, map, arc_value, into_iter_items, into_iter_len, Knowledge, Pass}
+use Rattle.floor_calls.proofs.Names.{thread_at_rest, Stands, AtRest}
+use Rattle.std.proofs.Common.{◌≡◌, ◌++◌, All}
 use Rattle.floor_calls.proofs.opening.hand_out.Given as goal
 
 -- those that were handed out and those that are left are all

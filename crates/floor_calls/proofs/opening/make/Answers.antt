@@ -1,8 +1,5 @@
-use Rattle.std.proofs.Common.{◌≡◌, List, sym, ap, subst, arith}
-use Rattle.std.specs.Arc.{arc_value}
-use Rattle.std.specs.Prelude.{slice_index_or}
-use Rattle.floor_calls.specs.Openings.{first_thread}
-use Rattle.floor_calls.specs.Threads.{Thread}
+use Rattle.floor_calls.proofs.Names.{List, sym, ap, subst, arith, arc_value, slice_index_or, first_thread, Thread}
+use Rattle.std.proofs.Common.{◌≡◌}
 use Rattle.floor_calls.proofs.Opened.{are_first, stand_all, threads_all}
 use Rattle.floor_calls.proofs.opening.make.Goals as goal
 

@@ -1,5 +1,4 @@
-use Rattle.floor_calls.specs.Stages.{told_of_try}
-use Rattle.floor_calls.specs.declared.stages.Stage.TheVariants.{Tries}
+use Rattle.floor_calls.proofs.Names.{told_of_try, Tries}
 use Rattle.floor_calls.proofs.Standing.{both, is_told, stands_behind, try_begins}
 use Rattle.floor_calls.proofs.parts.attempt.Goals as goal
 

@@ -1,5 +1,5 @@
-use Rattle.std.proofs.Common.{ap, ◌∙◌}
-use Rattle.halting.specs.Halts.{Kept as HaltKept}
+use Rattle.floor_calls.proofs.Names.{ap, HaltKept}
+use Rattle.std.proofs.Common.{◌∙◌}
 use Rattle.floor_calls.proofs.parts.end.Goals as goal
 
 pub finish-requires-clause-takes_nothing : goal.finish-requires-clause-takes_nothing

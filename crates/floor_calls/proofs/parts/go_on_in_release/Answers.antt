@@ -1,5 +1,4 @@
-use Rattle.floor_calls.specs.Stages.{told}
-use Rattle.floor_calls.specs.declared.stages.Stage.TheVariants.{Releases}
+use Rattle.floor_calls.proofs.Names.{told, Releases}
 use Rattle.floor_calls.proofs.Standing.{is_told, stands_behind, release_goes_on}
 use Rattle.floor_calls.proofs.parts.go_on_in_release.Goals as goal
 

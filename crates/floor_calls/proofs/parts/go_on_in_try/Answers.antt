@@ -1,5 +1,4 @@
-use Rattle.floor_calls.specs.Stages.{told_of_try}
-use Rattle.floor_calls.specs.declared.stages.Stage.TheVariants.{Tries}
+use Rattle.floor_calls.proofs.Names.{told_of_try, Tries}
 use Rattle.floor_calls.proofs.Standing.{is_told, stands_behind, try_goes_on}
 use Rattle.floor_calls.proofs.parts.go_on_in_try.Goals as goal
 

@@ -1,5 +1,4 @@
-use Rattle.floor_calls.specs.Stages.{told}
-use Rattle.floor_calls.specs.declared.stages.Stage.TheVariants.{Releases}
+use Rattle.floor_calls.proofs.Names.{told, Releases}
 use Rattle.floor_calls.proofs.Standing.{both, is_told, stands_behind, release_begins}
 use Rattle.floor_calls.proofs.parts.release.Goals as goal
 

@@ -1,5 +1,4 @@
-use Rattle.floor_calls.specs.Stages.{told}
-use Rattle.floor_calls.specs.declared.stages.Stage.TheVariants.{Takes}
+use Rattle.floor_calls.proofs.Names.{told, Takes}
 use Rattle.floor_calls.proofs.Standing.{both, is_told, stands_behind, take_begins}
 use Rattle.floor_calls.proofs.parts.take.Goals as goal
 

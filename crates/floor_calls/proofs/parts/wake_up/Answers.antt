@@ -1,4 +1,4 @@
-use Rattle.std.proofs.Common.{None}
+use Rattle.floor_calls.proofs.Names.{None}
 use Rattle.floor_calls.proofs.Standing.{wake_begins}
 use Rattle.floor_calls.proofs.parts.wake_up.Goals as goal
 

@@ -1,9 +1,6 @@
-use Rattle.std.proofs.Common.{◌≡◌, ◌<◌, true, false, List, length, get_or, Some, None, sym, subst, ◌∙◌, arith}
-use Rattle.std.proofs.lemmas.List.{drop_all, drop_more}
-use Rattle.floor_calls.specs.First.{IsFirst, none, here, later}
-use Rattle.floor_calls.specs.Fitting.{Spoils}
-use Rattle.floor_calls.specs.declared.unfit.Unfit.{Unfit}
-use Rattle.floor_calls.specs.declared.unfit.Unfit.TheVariants.{ManyThreads}
+use Rattle.floor_calls.proofs.Names.{true, false, List, length, get_or, Some, None, sym, subst, arith, drop_all}
+use Rattle.floor_calls.proofs.Names.{drop_more, IsFirst, none, here, later, Spoils, Unfit, ManyThreads}
+use Rattle.std.proofs.Common.{◌≡◌, ◌<◌, ◌∙◌}
 use Rattle.floor_calls.proofs.unfit.first_unfit.Goals as goal
 
 pub returns-then-spoils : goal.returns-then-spoils

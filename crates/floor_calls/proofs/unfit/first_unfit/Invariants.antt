@@ -1,7 +1,4 @@
-use Rattle.std.proofs.Common.{Option, drop}
-use Rattle.floor_calls.specs.First.{IsFirst}
-use Rattle.floor_calls.specs.Fitting.{Spoils}
-use Rattle.floor_calls.specs.declared.unfit.Unfit.{Unfit}
+use Rattle.floor_calls.proofs.Names.{Option, drop, IsFirst, Spoils, Unfit}
 use Rattle.floor_calls.proofs.unfit.first_unfit.Given as goal
 
 -- what is the first of those that are left is the first of all

@@ -1,8 +1,6 @@
-use Rattle.std.proofs.Common.{◌≡◌, ℕ, ◌+◌, ◌<◌, ◌≤◌, ◌^◌, List, length, get_or, map, sum, take, refl, subst, arith}
-use Rattle.std.proofs.lemmas.List.{get_or-map, length-map, take-map}
-use Rattle.std.proofs.lemmas.List.Sums.{sum_by_more_le}
-use Rattle.floor_table.specs.Descriptions.{room_in_all}
-use Rattle.floor_table.specs.declared.description.ThreadPart.{ThreadPart}
+use Rattle.floor_calls.proofs.Names.{ℕ, List, length, get_or, map, sum, take, refl, subst, arith, get_or-map}
+use Rattle.floor_calls.proofs.Names.{length-map, take-map, sum_by_more_le, room_in_all, ThreadPart}
+use Rattle.std.proofs.Common.{◌≡◌, ◌+◌, ◌<◌, ◌≤◌, ◌^◌}
 use Rattle.floor_calls.proofs.unfit.has_much_room.Goals as goal
 
 -- the room of the threads so far and of the next one are within that of all

@@ -1,4 +1,5 @@
-use Rattle.std.proofs.Common.{◌≡◌, ◌<◌, ◌^◌, map, sum, take}
+use Rattle.floor_calls.proofs.Names.{map, sum, take}
+use Rattle.std.proofs.Common.{◌≡◌, ◌<◌, ◌^◌}
 use Rattle.floor_calls.proofs.unfit.has_much_room.Given as goal
 
 -- the room of the threads so far, which is less

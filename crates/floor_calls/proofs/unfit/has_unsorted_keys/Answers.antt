@@ -1,8 +1,6 @@
-use Rattle.std.proofs.Common.{◌≡◌, ℕ, ◌+◌, ◌-◌, ◌<◌, ◌≤◌, List, length, get_or, refl, ap, subst, ◌∙◌, arith}
-use Rattle.std.proofs.lemmas.List.{get_or_default}
-use Rattle.std.specs.declared.cmp.Ordering.TheVariants.{Less}
-use Rattle.lock_model.specs.History.{place_cmp}
-use Rattle.floor_calls.specs.Fitting.{IsUnsorted}
+use Rattle.floor_calls.proofs.Names.{ℕ, List, length, get_or, refl, ap, subst, arith, get_or_default, Less, place_cmp}
+use Rattle.floor_calls.proofs.Names.{IsUnsorted}
+use Rattle.std.proofs.Common.{◌≡◌, ◌+◌, ◌-◌, ◌<◌, ◌≤◌, ◌∙◌}
 use Rattle.floor_calls.proofs.unfit.has_unsorted_keys.Goals as goal
 
 less_there : (keys : List (ℕ × ℕ)) (i : ℕ) (d : ℕ × ℕ) → 1 ≤ i → i < length keys

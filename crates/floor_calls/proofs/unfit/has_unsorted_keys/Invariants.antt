@@ -1,7 +1,5 @@
-use Rattle.std.proofs.Common.{◌≡◌, ℕ, ◌+◌, ◌<◌}
-use Rattle.std.specs.Prelude.{slice_index_or}
-use Rattle.std.specs.declared.cmp.Ordering.TheVariants.{Less}
-use Rattle.lock_model.specs.History.{place_cmp}
+use Rattle.floor_calls.proofs.Names.{ℕ, slice_index_or, Less, place_cmp}
+use Rattle.std.proofs.Common.{◌≡◌, ◌+◌, ◌<◌}
 use Rattle.floor_calls.proofs.unfit.has_unsorted_keys.Given as goal
 
 -- each key below comes before the next

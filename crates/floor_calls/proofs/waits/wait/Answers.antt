@@ -1,6 +1,4 @@
-use Rattle.std.proofs.Common.{sym, subst}
-use Rattle.cond_vars.specs.Waits.{MayWait}
-use Rattle.lock_model.specs.declared.numbers.ChanNo.{ChanNo}
+use Rattle.floor_calls.proofs.Names.{sym, subst, MayWait, ChanNo}
 use Rattle.floor_calls.proofs.waits.wait.Goals as goal
 
 pub go_on_in_wait-requires : goal.go_on_in_wait-requires

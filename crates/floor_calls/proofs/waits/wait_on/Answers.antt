@@ -1,8 +1,6 @@
-use Rattle.std.proofs.Common.{◌≡◌, sym, ap, ◌∙◌, subst}
-use Rattle.cond_vars.proofs.HeldLocks.{last_held, last_lock}
-use Rattle.cond_vars.specs.Waits.{lock_of}
-use Rattle.lock_model.specs.Holds.{NotHeld}
-use Rattle.lock_model.specs.Operations.{hold_in, is_last}
+use Rattle.floor_calls.proofs.Names.{sym, ap, subst, last_held, last_lock, lock_of, NotHeld, hold_in}
+use Rattle.std.proofs.Common.{◌≡◌, ◌∙◌}
+use Rattle.lock_model.specs.Operations.{is_last}
 use Rattle.floor_calls.proofs.waits.wait_on.Goals as goal
 
 pub unreachable-requires-in-None-mode : goal.unreachable-requires-in-None-mode

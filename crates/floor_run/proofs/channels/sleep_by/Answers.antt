@@ -1,7 +1,4 @@
-use Rattle.std.proofs.lemmas.Result.{IfErr-weaker, IfOk-weaker}
-use Rattle.lock_model.specs.Queues.{ByAbort, BySignal}
-use Rattle.cond_vars.specs.Waits.{Waits}
-use Rattle.floor_run.specs.Sleeps.{HasSlept}
+use Rattle.floor_run.proofs.Names.{IfErr-weaker, IfOk-weaker, ByAbort, BySignal, Waits, HasSlept}
 use Rattle.floor_run.proofs.Waiting.{has_slept}
 use Rattle.floor_run.proofs.channels.sleep_by.Goals as goal
 

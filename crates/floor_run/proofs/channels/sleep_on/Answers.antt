@@ -1,6 +1,5 @@
-use Rattle.std.proofs.Common.{◌≡◌, ◌<◌, length, sym, ap, subst, ◌∙◌}
-use Rattle.cond_vars.specs.Waits.{lock_of}
-use Rattle.floor_table.specs.Descriptions.{config_in}
+use Rattle.floor_run.proofs.Names.{length, sym, ap, subst, lock_of, config_in}
+use Rattle.std.proofs.Common.{◌≡◌, ◌<◌, ◌∙◌}
 use Rattle.floor_run.proofs.Operating.{same_lock}
 use Rattle.floor_run.proofs.channels.sleep_on.Goals as goal
 

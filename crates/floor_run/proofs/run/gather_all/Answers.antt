@@ -1,9 +1,6 @@
-use Rattle.std.proofs.Common.{◌≡◌, List, [], ◌∷◌, ◌++◌, All, length, sym, ap, subst, ◌∙◌, append_assoc, arith}
-use Rattle.std.specs.Vec.Iter.{into_iter_items}
-use Rattle.std.proofs.lemmas.List.Elements.{All-tail}
-use Rattle.floor_table.specs.Views.{Knowledge}
-use Rattle.lock_floor.specs.Floors.{Pass}
-use Rattle.lock_floor.specs.Passes.{IsFinished}
+use Rattle.floor_run.proofs.Names.{List, [], All, length, sym, ap, subst, append_assoc, arith, into_iter_items}
+use Rattle.floor_run.proofs.Names.{All-tail, Knowledge, Pass, IsFinished}
+use Rattle.std.proofs.Common.{◌≡◌, ◌∷◌, ◌++◌, ◌∙◌}
 use Rattle.floor_run.proofs.Running.{parts}
 use Rattle.floor_run.proofs.run.gather_all.Goals as goal
 

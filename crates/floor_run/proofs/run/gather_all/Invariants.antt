@@ -1,8 +1,5 @@
-use Rattle.std.proofs.Common.{◌≡◌, ◌++◌, length, All}
-use Rattle.std.specs.Vec.Iter.{into_iter_items, into_iter_len}
-use Rattle.floor_table.specs.Views.{Knowledge}
-use Rattle.lock_floor.specs.Floors.{Pass}
-use Rattle.lock_floor.specs.Passes.{IsKeeperOf, IsFinished}
+use Rattle.floor_run.proofs.Names.{length, All, into_iter_items, into_iter_len, Knowledge, Pass, IsKeeperOf, IsFinished}
+use Rattle.std.proofs.Common.{◌≡◌, ◌++◌}
 use Rattle.floor_run.proofs.Running.{parts}
 use Rattle.floor_run.proofs.run.gather_all.Given as goal
 

@@ -1,15 +1,8 @@
 use Rattle.std.proofs.Common.{◌≡◌, ◌∙◌}
-use Rattle.std.specs.declared.alloc.AllocError.{AllocError}
-use Rattle.std.specs.Prelude.{Result, Ok, Err, IfOk}
-use Rattle.lock_history.specs.Outcomes.{outcome_seen}
+use Rattle.floor_run.proofs.Names
+use Names.{AllocError, Result, Ok, Err, IfOk, outcome_seen, IsClosing, threads_of, description_of, IsMerged}
+use Names.{outcome_left, few_entries, tickets_once, logs_merged, outcome_of}
 use Rattle.lock_history.specs.declared.outcome.Outcome.{Outcome}
-use Rattle.lock_floor.specs.Closings.{IsClosing}
-use Rattle.lock_state.specs.Run.{threads_of}
-use Rattle.floor_table.specs.Descriptions.{description_of}
-use Rattle.floor_ends.specs.Outcomes.{IsMerged, outcome_left}
-use Rattle.floor_ends.proofs.Mergeable.{few_entries, tickets_once}
-use Rattle.floor_ends.proofs.Merging.{logs_merged}
-use Rattle.floor_run.specs.Runs.{outcome_of}
 use Rattle.floor_run.proofs.Running.{left_same}
 use Rattle.floor_run.proofs.run.outcome_of.Goals as goal
 

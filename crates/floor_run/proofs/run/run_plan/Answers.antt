@@ -1,8 +1,5 @@
-use Rattle.std.proofs.Common.{ℕ, ◌++◌, List, length, take, drop, ap, sym, ◌∙◌, arith}
-use Rattle.floor_table.specs.Shares.{Share}
-use Rattle.floor_table.specs.Views.{Knowledge}
-use Rattle.lock_floor.specs.Floors.{Pass}
-use Rattle.lock_history.specs.Outcomes.{outcome_seen}
+use Rattle.floor_run.proofs.Names.{ℕ, List, length, take, drop, ap, sym, arith, Share, Knowledge, Pass, outcome_seen}
+use Rattle.std.proofs.Common.{◌++◌, ◌∙◌}
 use Rattle.floor_run.proofs.Ordered.{ordered_done}
 use Rattle.floor_run.proofs.Running.{parts, written_back, all_done, is_closing, left_legal, is_run}
 use Rattle.floor_run.proofs.run.run_plan.Goals as goal

@@ -1,7 +1,6 @@
 use denote.Param.Send.{sendable}
-use Rattle.std.proofs.Crossing.{crosses}
+use Rattle.floor_run.proofs.Names.{crosses, pass_send}
 use Rattle.lock_model.proofs.plan.Plan.TheSendSync as plan
-use Rattle.lock_floor.proofs.Crossing.{pass_send}
 use Rattle.floor_run.proofs.Crossing.{floor_sync}
 use Rattle.floor_run.proofs.run.work_all.Goals as goal
 

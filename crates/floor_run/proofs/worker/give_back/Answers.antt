@@ -1,6 +1,5 @@
-use Rattle.std.proofs.Common.{◌≡◌, suc, ◌-◌, List, [], ◌∷◌, ◌++◌, length, slice_get, Some, sym, ap, ◌∙◌, arith}
-use Rattle.std.proofs.lemmas.Option.{same_Some}
-use Rattle.lock_model.specs.declared.event.Held.{Held}
+use Rattle.floor_run.proofs.Names.{suc, List, [], length, slice_get, Some, sym, ap, arith, same_Some, Held}
+use Rattle.std.proofs.Common.{◌≡◌, ◌-◌, ◌∷◌, ◌++◌, ◌∙◌}
 use Rattle.floor_run.proofs.Cutting.{may_give_back, gives_back, fewer_left}
 use Rattle.floor_run.proofs.worker.give_back.Goals as goal
 

@@ -1,5 +1,4 @@
-use Rattle.std.proofs.Common.{length}
-use Rattle.floor_run.specs.Progress.{IsCut}
+use Rattle.floor_run.proofs.Names.{length, IsCut}
 use Rattle.floor_run.proofs.worker.give_back.Given as goal
 
 abbrev pub invariant-loop-last : goal.invariant-loop-last

@@ -1,10 +1,6 @@
-use Rattle.std.proofs.Common.{◌≡◌, ℕ, suc, ◌+◌, Some, slice_get, arith, ap, sym, subst, ◌∙◌}
-use Rattle.std.proofs.lemmas.Option.{slice_get_within}
-use Rattle.lock_model.specs.Plans.{operations_of}
-use Rattle.lock_model.specs.declared.plan.Op.{Op}
-use Rattle.floor_table.specs.Views.{Knowledge}
-use Rattle.lock_floor.specs.Floors.{Pass}
-use Rattle.floor_run.specs.Progress.{IsBefore}
+use Rattle.floor_run.proofs.Names.{ℕ, suc, Some, slice_get, arith, ap, sym, subst, slice_get_within, operations_of, Op}
+use Rattle.floor_run.proofs.Names.{Knowledge, Pass, IsBefore}
+use Rattle.std.proofs.Common.{◌≡◌, ◌+◌, ◌∙◌}
 use Rattle.floor_run.proofs.Cutting.{not_taken, slept_halted}
 use Rattle.floor_run.proofs.Operating as lemma
 use Rattle.floor_run.proofs.worker.operate.Goals as goal

@@ -1,7 +1,5 @@
-use Rattle.std.proofs.Common.{◌≡◌, slice_get, arith, ap, sym, subst, ◌∙◌}
-use Rattle.std.proofs.lemmas.Option.{slice_get-get_or}
-use Rattle.lock_model.specs.Plans.{operations_of}
-use Rattle.floor_run.specs.Progress.{IsBefore}
+use Rattle.floor_run.proofs.Names.{slice_get, arith, ap, sym, subst, slice_get-get_or, operations_of, IsBefore}
+use Rattle.std.proofs.Common.{◌≡◌, ◌∙◌}
 use Rattle.floor_run.proofs.Cutting.{cut_own}
 use Rattle.floor_run.proofs.Operating.{at_first, few_operations}
 use Rattle.floor_run.proofs.worker.operate_all.Goals as goal

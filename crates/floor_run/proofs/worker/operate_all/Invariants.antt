@@ -1,5 +1,5 @@
-use Rattle.std.proofs.Common.{◌-◌, length}
-use Rattle.floor_run.specs.Progress.{IsBefore}
+use Rattle.floor_run.proofs.Names.{length, IsBefore}
+use Rattle.std.proofs.Common.{◌-◌}
 use Rattle.floor_run.proofs.worker.operate_all.Given as goal
 
 abbrev pub invariant-loop-next : goal.invariant-loop-next

@@ -1,10 +1,5 @@
-use Rattle.std.proofs.Common.{ℕ, List, sym, ap, subst, ◌∙◌}
-use Rattle.lock_model.specs.declared.event.Entry.{Entry}
-use Rattle.floor_table.specs.Views.{Knowledge}
-use Rattle.halting.specs.Ends.{EndsItself}
-use Rattle.halting.specs.Halts.{Kept}
-use Rattle.lock_floor.specs.Floors.{Pass}
-use Rattle.floor_run.specs.Workers.{IsWhole}
+use Rattle.floor_run.proofs.Names.{ℕ, List, sym, ap, subst, Entry, Knowledge, EndsItself, Kept, Pass, IsWhole}
+use Rattle.std.proofs.Common.{◌∙◌}
 use Rattle.floor_run.proofs.worker.work.Goals as goal
 
 pub finish-requires-clause-takes_nothing : goal.finish-requires-clause-takes_nothing

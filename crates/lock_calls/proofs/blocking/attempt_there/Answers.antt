@@ -1,6 +1,5 @@
-use Rattle.std.proofs.Common.{sym, ap, ◌∙◌}
-use Rattle.lock_model.specs.Words.{word_of}
-use Rattle.lock_calls.specs.Choices.{course}
+use Rattle.lock_calls.proofs.Names.{sym, ap, word_of, course}
+use Rattle.std.proofs.Common.{◌∙◌}
 use Rattle.lock_calls.proofs.blocking.attempt_there.Goals as goal
 
 pub course_of-requires-clause-well_formed : goal.course_of-requires-clause-well_formed

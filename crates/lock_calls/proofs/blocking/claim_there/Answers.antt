@@ -1,5 +1,4 @@
-use Rattle.lock_model.specs.Words.{word_of}
-use Rattle.floor_table.specs.Descriptions.{config_in}
+use Rattle.lock_calls.proofs.Names.{word_of, config_in}
 use Rattle.lock_calls.proofs.Chosen.{claims_it}
 use Rattle.lock_calls.proofs.There.{may_look_in_section, may_claim_in_section, gained_by_claim, missed_there}
 use Rattle.lock_calls.proofs.blocking.claim_there.Goals as goal

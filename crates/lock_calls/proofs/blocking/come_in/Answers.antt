@@ -1,6 +1,5 @@
-use Rattle.std.proofs.Common.{◌<◌, length, sym, subst}
-use Rattle.floor_table.specs.declared.description.Description.{Description}
-use Rattle.lock_calls.specs.Waiting.{CanAcquire}
+use Rattle.lock_calls.proofs.Names.{length, sym, subst, Description, CanAcquire}
+use Rattle.std.proofs.Common.{◌<◌}
 use Rattle.lock_calls.proofs.There.{may_take_own_there, may_ready_there, come_kept, come_there, may_look_in_section}
 use Rattle.lock_calls.proofs.Spun.{stays_coming, comes_there_on}
 use Rattle.lock_calls.proofs.blocking.come_in.Goals as goal

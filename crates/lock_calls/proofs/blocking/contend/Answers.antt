@@ -1,5 +1,4 @@
-use Rattle.std.proofs.Common.{inl, inr, arith}
-use Rattle.lock_model.specs.Queues.{lock_queue}
+use Rattle.lock_calls.proofs.Names.{inl, inr, arith, lock_queue}
 use Rattle.lock_calls.proofs.Contended.{may_run_on, both_ran, runs_on, unbound_on, going_on, gained_there, ends_there, both_stands, stands_on, unbound_stands, going_stands, enters_on, misses_on}
 use Rattle.lock_calls.proofs.blocking.contend.Goals as goal
 

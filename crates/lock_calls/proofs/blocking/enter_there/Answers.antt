@@ -1,5 +1,5 @@
-use Rattle.std.proofs.Common.{inl, inr, sym, ap, ◌∙◌}
-use Rattle.lock_model.specs.Words.{is_turnstile}
+use Rattle.lock_calls.proofs.Names.{inl, inr, sym, ap, is_turnstile}
+use Rattle.std.proofs.Common.{◌∙◌}
 use Rattle.lock_calls.proofs.blocking.enter_there.Goals as goal
 
 pub stand_there-requires-clause-turnstile : goal.stand_there-requires-clause-turnstile

@@ -1,5 +1,4 @@
-use Rattle.lock_model.specs.Words.{word_of}
-use Rattle.floor_table.specs.Descriptions.{config_in}
+use Rattle.lock_calls.proofs.Names.{word_of, config_in}
 use Rattle.lock_calls.proofs.Chosen.{gains_plainly, may_be_gained}
 use Rattle.lock_calls.proofs.There.{may_look_in_section, may_gain_in_section, gained_plainly, missed_there}
 use Rattle.lock_calls.proofs.blocking.gain_there.Goals as goal

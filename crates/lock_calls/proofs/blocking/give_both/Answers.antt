@@ -1,5 +1,5 @@
-use Rattle.std.proofs.Common.{◌<◌, length, subst}
-use Rattle.floor_table.specs.declared.description.Description.{Description}
+use Rattle.lock_calls.proofs.Names.{length, subst, Description}
+use Rattle.std.proofs.Common.{◌<◌}
 use Rattle.lock_calls.proofs.Given.{record_last, may_give_record, chain_last, may_give_chain, given_both, given_steps}
 use Rattle.lock_calls.proofs.blocking.give_both.Goals as goal
 

@@ -1,7 +1,4 @@
-use Rattle.std.proofs.Common.{ap}
-use Rattle.lock_model.specs.Words.{word_of, is_turnstile}
-use Rattle.lock_laws.proofs.Words.{refused_held}
-use Rattle.floor_table.specs.Descriptions.{config_in}
+use Rattle.lock_calls.proofs.Names.{ap, word_of, is_turnstile, refused_held, config_in}
 use Rattle.lock_calls.proofs.Chosen.{must_wait}
 use Rattle.lock_calls.proofs.There.{may_look_in_section, may_lie_in_section, lay_there, missed_there}
 use Rattle.lock_calls.proofs.blocking.lie_there.Goals as goal

@@ -1,9 +1,6 @@
-use Rattle.std.proofs.Common.{option_map, sym, ap, ◌∙◌}
-use Rattle.lock_model.specs.Words.{word_of, owner_of}
-use Rattle.lock_model.specs.declared.numbers.ThreadNo.{ThreadNo}
-use Rattle.lock_laws.proofs.Words.{refused_held}
-use Rattle.lock_state.specs.State.{NoWalk, AtLock}
-use Rattle.floor_table.specs.Descriptions.{config_in}
+use Rattle.lock_calls.proofs.Names.{option_map, sym, ap, word_of, owner_of, ThreadNo, refused_held, NoWalk, AtLock}
+use Rattle.lock_calls.proofs.Names.{config_in}
+use Rattle.std.proofs.Common.{◌∙◌}
 use Rattle.lock_calls.proofs.Chosen.{must_wait}
 use Rattle.lock_calls.proofs.Sections.{as_both}
 use Rattle.lock_calls.proofs.There.{may_look_in_section, may_enter_in_section, stood_there, missed_there, owned_walk, ownerless_walk}

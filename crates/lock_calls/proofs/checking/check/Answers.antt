@@ -1,8 +1,5 @@
-use Rattle.std.proofs.Common.{◌≡◌, Some, None, IfOk, IfErr, subst, arith}
-use Rattle.lock_model.specs.Words.{word_of}
-use Rattle.lock_model.specs.declared.event.Reversal.{Reversal}
-use Rattle.floor_table.specs.Descriptions.{config_in}
-use Rattle.lock_floor.specs.Ordering.{ChecksOrder}
+use Rattle.lock_calls.proofs.Names.{Some, None, IfOk, IfErr, subst, arith, word_of, Reversal, config_in, ChecksOrder}
+use Rattle.std.proofs.Common.{◌≡◌}
 use Rattle.lock_calls.proofs.Checked.{stays_checking, may_seek_on, gained_checked, ends_checked, spins_checked}
 use Rattle.lock_calls.proofs.Refused.{may_note_refusal, is_refused}
 use Rattle.lock_calls.proofs.checking.check.Goals as goal

@@ -1,6 +1,5 @@
-use Rattle.std.proofs.Common.{sym, subst}
+use Rattle.lock_calls.proofs.Names.{sym, subst, ReleasesOn}
 use Rattle.lock_floor.specs.declared.calls.ReleaseAt.TheVariants as places
-use Rattle.lock_calls.specs.Releases.{ReleasesOn}
 use Rattle.lock_calls.proofs.Outside.{may_drop_it, may_look_held, dropped_outside, missed_outside}
 use Rattle.lock_calls.proofs.dropping.drop_outside.Goals as goal
 

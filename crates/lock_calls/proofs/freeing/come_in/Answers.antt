@@ -1,5 +1,5 @@
-use Rattle.std.proofs.Common.{◌<◌, length, subst}
-use Rattle.floor_table.specs.declared.description.Description.{Description}
+use Rattle.lock_calls.proofs.Names.{length, subst, Description}
+use Rattle.std.proofs.Common.{◌<◌}
 use Rattle.lock_calls.proofs.Leaving.{may_take_own, stays_coming_in, may_let_now, comes_in_on}
 use Rattle.lock_calls.proofs.Owned.{may_look_own}
 use Rattle.lock_calls.proofs.freeing.come_in.Goals as goal

@@ -1,5 +1,5 @@
-use Rattle.std.proofs.Common.{inl, inr, sym, ap, ◌∙◌}
-use Rattle.lock_model.specs.Words.{is_turnstile}
+use Rattle.lock_calls.proofs.Names.{inl, inr, sym, ap, is_turnstile}
+use Rattle.std.proofs.Common.{◌∙◌}
 use Rattle.lock_calls.proofs.freeing.free_by_open.Goals as goal
 
 pub open_turnstile-requires-clause-turnstile : goal.open_turnstile-requires-clause-turnstile

@@ -1,5 +1,4 @@
-use Rattle.std.proofs.Common.{ap}
-use Rattle.lock_model.specs.Words.{is_turnstile}
+use Rattle.lock_calls.proofs.Names.{ap, is_turnstile}
 use Rattle.lock_calls.proofs.Owned.{may_look_own, held_at_all, may_open_asleep, opened_asleep, missed_own}
 use Rattle.lock_calls.proofs.freeing.open_sleepers.Goals as goal
 

@@ -1,7 +1,6 @@
-use Rattle.std.proofs.Common.{refl, sym, ap, ◌∙◌, subst, arith}
-use Rattle.floor_table.specs.Views.{Knowledge}
+use Rattle.lock_calls.proofs.Names.{refl, sym, ap, subst, arith, Knowledge, ReleasesAtOnce}
+use Rattle.std.proofs.Common.{◌∙◌}
 use Rattle.lock_floor.specs.declared.calls.Call.TheVariants as calls
-use Rattle.lock_calls.specs.Releases.{ReleasesAtOnce}
 use Rattle.lock_calls.proofs.Calls.{own_noted, view_noted, call_noted}
 use Rattle.lock_calls.proofs.Outside.{may_look_held}
 use Rattle.lock_calls.proofs.Released.{may_note_release, few_threads, own_drops, own_is_held, may_drop_own, leaving_noted, other_own, at_once, begins}

@@ -1,7 +1,5 @@
-use Rattle.std.proofs.Common.{subst}
+use Rattle.lock_calls.proofs.Names.{subst, Wakes, ReleasesPart}
 use Rattle.lock_floor.specs.declared.calls.Call.TheVariants as calls
-use Rattle.lock_floor.specs.declared.calls.ReleaseAt.TheVariants.{Wakes}
-use Rattle.lock_calls.specs.Releases.{ReleasesPart}
 use Rattle.lock_calls.proofs.Calls.{own_noted}
 use Rattle.lock_calls.proofs.Woken.{release_ends, release_stands, release_wakes}
 use Rattle.lock_calls.proofs.releasing.go_on.Goals as goal

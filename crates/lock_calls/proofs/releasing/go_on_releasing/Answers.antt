@@ -1,4 +1,5 @@
-use Rattle.std.proofs.Common.{sym, ◌∙◌}
+use Rattle.lock_calls.proofs.Names.{sym}
+use Rattle.std.proofs.Common.{◌∙◌}
 use Rattle.lock_calls.proofs.Calls.{release_there, release_went}
 use Rattle.lock_calls.proofs.releasing.go_on_releasing.Goals as goal
 

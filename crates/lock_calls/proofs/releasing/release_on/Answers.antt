@@ -1,6 +1,5 @@
-use Rattle.std.proofs.Common.{sym, subst}
+use Rattle.lock_calls.proofs.Names.{sym, subst, IsReleasing, ReleasesPart}
 use Rattle.lock_calls.specs.declared.answers.ReleaseNext.TheVariants as next
-use Rattle.lock_calls.specs.Releases.{IsReleasing, ReleasesPart}
 use Rattle.lock_calls.proofs.Woken.{wakes_part}
 use Rattle.lock_calls.proofs.releasing.release_on.Goals as goal
 

@@ -1,6 +1,4 @@
-use Rattle.std.proofs.Common.{subst}
-use Rattle.halting.specs.Halts.{GoesOnHalting}
-use Rattle.halting.proofs.Coming.{ends_waking_nobody}
+use Rattle.lock_calls.proofs.Names.{subst, GoesOnHalting, ends_waking_nobody}
 use Rattle.lock_calls.proofs.Standing.{halts_further, is_done_halting, wakes_another}
 use Rattle.lock_calls.proofs.sleeping.halt_on.Goals as goal
 

@@ -1,4 +1,4 @@
-use Rattle.std.proofs.Common.{arith}
+use Rattle.lock_calls.proofs.Names.{arith}
 use Rattle.lock_calls.proofs.Standing.{may_wake_up, sleeps_on, wakes_back}
 use Rattle.lock_calls.proofs.sleeping.wake_back.Goals as goal
 

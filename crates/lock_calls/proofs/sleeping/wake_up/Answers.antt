@@ -1,6 +1,4 @@
-use Rattle.std.proofs.Common.{arith}
-use Rattle.lock_floor.specs.declared.calls.TakeAt.TheVariants.{Sleeps}
-use Rattle.lock_calls.specs.Takes.{kept_at}
+use Rattle.lock_calls.proofs.Names.{arith, Sleeps, kept_at}
 use Rattle.lock_calls.proofs.Attempts.{can_acquire}
 use Rattle.lock_calls.proofs.Halted.{may_note_halt, room_for_halt, is_halted}
 use Rattle.lock_calls.proofs.Standing.{may_wake_up, sleeps_on, wakes_up}

@@ -1,8 +1,5 @@
-use Rattle.std.proofs.Common.{arith, refl, sym, ap, ◌∙◌}
-use Rattle.lock_model.specs.Words.{word_of}
-use Rattle.floor_table.specs.Descriptions.{config_in}
-use Rattle.floor_table.specs.Views.{Knowledge}
-use Rattle.lock_calls.specs.Choices.{course}
+use Rattle.lock_calls.proofs.Names.{arith, refl, sym, ap, word_of, config_in, Knowledge, course}
+use Rattle.std.proofs.Common.{◌∙◌}
 use Rattle.lock_calls.proofs.Attempts.{may_gain_there, may_look_there, looks_spun, spun_once, seeking_on, spun_more, spun_gains, looked_alone, tried_too, no_plain}
 use Rattle.lock_calls.proofs.Chosen.{gains_plainly, may_be_gained}
 use Rattle.lock_calls.proofs.Words.{saw_others}

@@ -1,14 +1,7 @@
-use Rattle.std.proofs.Common.{◌≡◌, ◌≢◌, true, false, List, [], ◌∷◌, length, refl, sym, ◌∙◌, subst, arith}
-use Rattle.std.proofs.lemmas.Bool.{eqb-true}
+use Rattle.lock_calls.proofs.Names.{true, false, List, [], length, refl, sym, subst, arith, eqb-true, Held, Kind, Mtx}
+use Rattle.lock_calls.proofs.Names.{word_of, config_in, course, Plainly, FirstMisses}
+use Rattle.std.proofs.Common.{◌≡◌, ◌≢◌, ◌∷◌, ◌∙◌}
 use Rattle.std.specs.Prelude.{◌==◌}
-use Rattle.lock_model.specs.declared.event.Held.{Held}
-use Rattle.lock_model.specs.declared.plan.Kind.{Kind}
-use Rattle.lock_model.specs.declared.plan.Kind.TheVariants.{Mtx}
-use Rattle.lock_model.specs.Words.{word_of}
-use Rattle.floor_table.specs.Descriptions.{config_in}
-use Rattle.lock_calls.specs.Choices.{course}
-use Rattle.lock_calls.specs.declared.courses.Course.TheVariants.{Plainly}
-use Rattle.lock_calls.specs.Steps.{FirstMisses}
 use Rattle.lock_calls.proofs.Attempts.{begins_call, may_gain_first}
 use Rattle.lock_calls.proofs.Chosen.{gains_plainly, may_be_gained}
 use Rattle.lock_calls.proofs.FirstExchanges.{missed_none, missed_once, missed_twice, gained_by_first, gained_again, may_look_again, may_gain_again, no_mutex}

@@ -1,12 +1,7 @@
-use Rattle.std.proofs.Common.{◌≡◌, ◌≢◌, ◌⊎◌, sym, ap, ◌∙◌, subst, inl, inr}
-use Rattle.lock_model.specs.Words.{word_of}
-use Rattle.lock_model.specs.declared.plan.Kind.{Kind}
-use Rattle.lock_model.specs.declared.plan.Kind.TheVariants.{Mtx, Rw, Sx}
-use Rattle.lock_calls.specs.Choices.{course}
-use Rattle.lock_calls.specs.declared.courses.Course.{Course}
-use Rattle.lock_calls.specs.declared.courses.Course.TheVariants.{Plainly, ByClaim, MustWait}
-use Rattle.lock_calls.specs.Rounds.{AsksOwner, of_mutex, of_shareable}
-use Rattle.lock_calls.specs.Takes.{again, for_claim, owner_queued}
+use Rattle.lock_calls.proofs.Names
+use Names.{sym, ap, subst, inl, inr, word_of, Kind, Mtx, Rw, Sx, course, Course, Plainly, ByClaim, MustWait, AsksOwner}
+use Names.{of_mutex, of_shareable, again, for_claim, owner_queued}
+use Rattle.std.proofs.Common.{◌≡◌, ◌≢◌, ◌⊎◌, ◌∙◌}
 use Rattle.lock_calls.proofs.spinning.looks_left.Goals as goal
 
 others : (course : Course) → (course ≡ Plainly) ⊎ (course ≡ MustWait) → course ≢ ByClaim

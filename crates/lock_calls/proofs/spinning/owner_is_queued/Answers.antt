@@ -1,9 +1,6 @@
-use Rattle.std.proofs.Common.{◌≡◌, Bool, Some, None, length, sym, ◌∙◌, inl, inr, subst, arith}
-use Rattle.std.proofs.lemmas.Bool.{cases_lt}
-use Rattle.std.proofs.lemmas.Option.{same_Some}
-use Rattle.lock_model.specs.Words.{word_of}
-use Rattle.floor_table.specs.Views.{Knowledge}
-use Rattle.lock_calls.specs.Rounds.{AsksOwner, asks, nobody}
+use Rattle.lock_calls.proofs.Names.{Bool, Some, None, length, sym, inl, inr, subst, arith, cases_lt, same_Some, word_of}
+use Rattle.lock_calls.proofs.Names.{Knowledge, AsksOwner, asks, nobody}
+use Rattle.std.proofs.Common.{◌≡◌, ◌∙◌}
 use Rattle.lock_calls.proofs.spinning.owner_is_queued.Goals as goal
 
 pub returns-in-Some-clause-asks : goal.returns-in-Some-clause-asks

@@ -1,5 +1,4 @@
-use Rattle.std.proofs.Common.{arith}
-use Rattle.lock_model.specs.Words.{word_of}
+use Rattle.lock_calls.proofs.Names.{arith, word_of}
 use Rattle.lock_calls.proofs.Attempts.{gained_in_round}
 use Rattle.lock_calls.proofs.Spun.{spins_on, spun_end}
 use Rattle.lock_calls.proofs.spinning.spin.Goals as goal

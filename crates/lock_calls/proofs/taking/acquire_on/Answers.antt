@@ -1,9 +1,6 @@
-use Rattle.std.proofs.Common.{inl, inr, sym, ap, ◌∙◌, subst}
-use Rattle.lock_floor.specs.declared.calls.TakeAt.{TakeAt}
-use Rattle.lock_floor.specs.declared.calls.TakeAt.TheVariants.{Spins, Contends}
-use Rattle.halting.proofs.Coming.{wakes_nobody}
-use Rattle.lock_calls.specs.declared.answers.TakeNext.{TakeNext}
-use Rattle.lock_calls.specs.Takes.{IsUnderAcquiring, IsBetween, TakesOn, TakesPart}
+use Rattle.lock_calls.proofs.Names.{inl, inr, sym, ap, subst, TakeAt, Spins, Contends, wakes_nobody, TakeNext}
+use Rattle.lock_calls.proofs.Names.{IsUnderAcquiring, IsBetween, TakesOn, TakesPart}
+use Rattle.std.proofs.Common.{◌∙◌}
 use Rattle.lock_calls.proofs.Calls.{takes_part, unmarked_there}
 use Rattle.lock_calls.proofs.taking.acquire_on.Goals as goal
 

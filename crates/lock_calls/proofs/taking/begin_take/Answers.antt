@@ -1,4 +1,4 @@
-use Rattle.lock_floor.specs.declared.calls.TakeAt.TheVariants.{Checks}
+use Rattle.lock_calls.proofs.Names.{Checks}
 use Rattle.lock_floor.specs.declared.calls.Call.TheVariants as calls
 use Rattle.lock_calls.proofs.Attempts.{acquires, calling_at_rest}
 use Rattle.lock_calls.proofs.FirstExchanges.{has_gained_first}

@@ -1,8 +1,6 @@
-use Rattle.std.proofs.Common.{sym, subst}
-use Rattle.lock_floor.specs.declared.calls.Call.{Call}
+use Rattle.lock_calls.proofs.Names.{sym, subst, Call, HasTaken, TakeEnds, TakesPart, IsRefused, IsHalted, IsNotTaken}
 use Rattle.lock_floor.specs.declared.calls.Call.TheVariants as calls
 use Rattle.lock_calls.specs.declared.answers.TakeNext.TheVariants as next
-use Rattle.lock_calls.specs.Takes.{HasTaken, TakeEnds, TakesPart, IsRefused, IsHalted, IsNotTaken}
 use Rattle.lock_calls.proofs.Calls.{own_noted, view_noted, call_noted, take_stands}
 use Rattle.lock_calls.proofs.Noting.{calling_at_end, may_note_lock, room_to_note, note_step, taken}
 use Rattle.lock_calls.proofs.taking.go_on.Goals as goal

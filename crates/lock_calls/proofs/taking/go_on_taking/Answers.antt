@@ -1,4 +1,5 @@
-use Rattle.std.proofs.Common.{sym, ◌∙◌}
+use Rattle.lock_calls.proofs.Names.{sym}
+use Rattle.std.proofs.Common.{◌∙◌}
 use Rattle.lock_calls.proofs.Calls.{take_there, take_went}
 use Rattle.lock_calls.proofs.taking.go_on_taking.Goals as goal
 

@@ -1,6 +1,4 @@
-use Rattle.std.proofs.Common.{inl, inr, sym, subst}
-use Rattle.halting.proofs.Coming.{wakes_nobody}
-use Rattle.lock_calls.specs.Takes.{IsUnderAcquiring, IsBetween, TakesOn}
+use Rattle.lock_calls.proofs.Names.{inl, inr, sym, subst, wakes_nobody, IsUnderAcquiring, IsBetween, TakesOn}
 use Rattle.lock_calls.proofs.Calls.{unmarked_there}
 use Rattle.lock_calls.proofs.taking.retake_on.Goals as goal
 

@@ -1,9 +1,5 @@
-use Rattle.std.proofs.Common.{inl, inr, sym, subst}
-use Rattle.lock_floor.specs.declared.calls.TakeAt.{TakeAt}
-use Rattle.lock_floor.specs.declared.calls.TakeAt.TheVariants.{Checks}
-use Rattle.halting.proofs.Coming.{wakes_nobody}
-use Rattle.lock_calls.specs.declared.answers.TakeNext.{TakeNext}
-use Rattle.lock_calls.specs.Takes.{IsUnderTake, IsBetween, TakesOn, TakesPart, IsHalted, kept_at}
+use Rattle.lock_calls.proofs.Names.{inl, inr, sym, subst, TakeAt, Checks, wakes_nobody, TakeNext, IsUnderTake}
+use Rattle.lock_calls.proofs.Names.{IsBetween, TakesOn, TakesPart, IsHalted, kept_at}
 use Rattle.lock_calls.proofs.Attempts.{can_acquire}
 use Rattle.lock_calls.proofs.Calls.{takes_part, unmarked_there}
 use Rattle.lock_calls.proofs.taking.take_on.Goals as goal

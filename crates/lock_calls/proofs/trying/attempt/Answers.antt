@@ -1,8 +1,5 @@
-use Rattle.std.proofs.Common.{refl, sym, ap, ◌∙◌, arith}
-use Rattle.lock_model.specs.Words.{word_of}
-use Rattle.floor_table.specs.Descriptions.{config_in}
-use Rattle.floor_table.specs.Views.{Knowledge}
-use Rattle.lock_calls.specs.Choices.{course}
+use Rattle.lock_calls.proofs.Names.{refl, sym, ap, arith, word_of, config_in, Knowledge, course}
+use Rattle.std.proofs.Common.{◌∙◌}
 use Rattle.lock_calls.proofs.Attempts.{looks_spun, spun_more, looked_alone, tried_too, no_plain}
 use Rattle.lock_calls.proofs.Chosen.{gains_plainly, may_be_gained}
 use Rattle.lock_calls.proofs.TriedRound.{may_look_by_try, may_gain_by_try, looked_by_try, seeks_on, looked_and_gains, calling_on}

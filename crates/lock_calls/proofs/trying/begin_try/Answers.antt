@@ -1,9 +1,6 @@
-use Rattle.std.proofs.Common.{sym, ap, ◌∙◌}
+use Rattle.lock_calls.proofs.Names.{sym, ap, word_of, config_in, course, tries_left}
+use Rattle.std.proofs.Common.{◌∙◌}
 use Rattle.lock_floor.specs.declared.calls.Call.TheVariants as calls
-use Rattle.lock_model.specs.Words.{word_of}
-use Rattle.floor_table.specs.Descriptions.{config_in}
-use Rattle.lock_calls.specs.Choices.{course}
-use Rattle.lock_calls.specs.Tries.{tries_left}
 use Rattle.lock_calls.proofs.Attempts.{calling_at_rest}
 use Rattle.lock_calls.proofs.Calls.{own_noted}
 use Rattle.lock_calls.proofs.TriedEnd.{gained_at_first, may_note_try, room_to_note_try, try_noted, has_tried, is_busy_for, busy_at_first, may_note_busy, busy_noted, found_busy, looks_noted}

@@ -1,5 +1,5 @@
-use Rattle.std.proofs.Common.{◌<◌, length, subst}
-use Rattle.floor_table.specs.declared.description.Description.{Description}
+use Rattle.lock_calls.proofs.Names.{length, subst, Description}
+use Rattle.std.proofs.Common.{◌<◌}
 use Rattle.lock_calls.proofs.TriedOn.{record_away, record_on, calling_there}
 use Rattle.lock_calls.proofs.TriedThere.{may_take_own_by_try, come_by_try, may_look_there_by_try}
 use Rattle.lock_calls.proofs.trying.come_in.Goals as goal

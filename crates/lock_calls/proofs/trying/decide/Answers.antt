@@ -1,7 +1,5 @@
-use Rattle.std.proofs.Common.{inl, sym, ap, ◌∙◌}
-use Rattle.lock_model.specs.Words.{word_of}
-use Rattle.floor_table.specs.Descriptions.{config_in}
-use Rattle.lock_calls.specs.Choices.{course}
+use Rattle.lock_calls.proofs.Names.{inl, sym, ap, word_of, config_in, course}
+use Rattle.std.proofs.Common.{◌∙◌}
 use Rattle.lock_calls.proofs.TriedEnd.{runs_gained, unbound_gained, going_gained, gained_in_section, may_note_try, room_to_note_try, try_noted, has_tried, is_busy_for, busy_in_section, may_note_busy, busy_noted, found_busy}
 use Rattle.lock_calls.proofs.TriedOn.{admits_it, misses_on_by_try, gains_there_on, busy_there_on}
 use Rattle.lock_calls.proofs.trying.decide.Goals as goal

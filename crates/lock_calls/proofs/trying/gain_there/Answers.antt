@@ -1,7 +1,5 @@
-use Rattle.std.proofs.Common.{sym, ap, ◌∙◌}
-use Rattle.lock_model.specs.Words.{word_of, is_plain}
-use Rattle.lock_laws.proofs.Words.{is_claim}
-use Rattle.floor_table.specs.Descriptions.{config_in}
+use Rattle.lock_calls.proofs.Names.{sym, ap, word_of, is_plain, is_claim, config_in}
+use Rattle.std.proofs.Common.{◌∙◌}
 use Rattle.lock_calls.proofs.Chosen.{may_be_gained}
 use Rattle.lock_calls.proofs.TriedThere.{may_look_there_by_try, may_gain_there_by_try, may_claim_by_try, tried_plainly, tried_by_claim, missed_by_try}
 use Rattle.lock_calls.proofs.trying.gain_there.Goals as goal

@@ -1,7 +1,6 @@
-use Rattle.std.proofs.Common.{Option, IfNone, IfSome, sym, subst}
+use Rattle.lock_calls.proofs.Names.{Option, IfNone, IfSome, sym, subst, TryAt, HasTried, GainsAt, TriesOn, HasFoundBusy}
+use Rattle.lock_calls.proofs.Names.{FindsBusyAt}
 use Rattle.lock_floor.specs.declared.calls.Call.TheVariants as calls
-use Rattle.lock_floor.specs.declared.calls.TryAt.{TryAt}
-use Rattle.lock_calls.specs.Tries.{HasTried, GainsAt, TriesOn, HasFoundBusy, FindsBusyAt}
 use Rattle.lock_calls.proofs.Calls.{own_noted, view_noted, call_noted}
 use Rattle.lock_calls.proofs.trying.go_on.Goals as goal
 

@@ -1,6 +1,5 @@
-use Rattle.std.proofs.Common.{sym, ap, ◌∙◌, subst}
-use Rattle.lock_floor.specs.declared.calls.TryAt.TheVariants.{Tries}
-use Rattle.lock_calls.specs.Tries.{IsUnderTry, TriesOn}
+use Rattle.lock_calls.proofs.Names.{sym, ap, subst, Tries, IsUnderTry, TriesOn}
+use Rattle.std.proofs.Common.{◌∙◌}
 use Rattle.lock_calls.proofs.trying.go_on_at.Goals as goal
 
 pub come-requires-clause-under_way : goal.come-requires-clause-under_way

@@ -1,4 +1,5 @@
-use Rattle.std.proofs.Common.{sym, ◌∙◌}
+use Rattle.lock_calls.proofs.Names.{sym}
+use Rattle.std.proofs.Common.{◌∙◌}
 use Rattle.lock_calls.proofs.TriedCalls.{try_there, try_went}
 use Rattle.lock_calls.proofs.trying.go_on_trying.Goals as goal
 

@@ -1,8 +1,5 @@
-use Rattle.std.proofs.Common.{sym, ap, ◌∙◌, arith}
-use Rattle.lock_model.specs.Words.{word_of}
-use Rattle.floor_table.specs.Descriptions.{config_in}
-use Rattle.lock_calls.specs.Choices.{course}
-use Rattle.lock_calls.specs.Tries.{tries_left}
+use Rattle.lock_calls.proofs.Names.{sym, ap, arith, word_of, config_in, course, tries_left}
+use Rattle.std.proofs.Common.{◌∙◌}
 use Rattle.lock_calls.proofs.TriedEnd.{gained_in_round, may_note_try, room_to_note_try, try_noted, has_tried, is_busy_for, busy_in_round, may_note_busy, busy_noted, found_busy}
 use Rattle.lock_calls.proofs.TriedOn.{none_left, tries_on, gains_on, busy_on}
 use Rattle.lock_calls.proofs.trying.try_in_round.Goals as goal

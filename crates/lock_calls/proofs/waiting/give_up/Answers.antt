@@ -1,5 +1,5 @@
-use Rattle.std.proofs.Common.{sym, ap, ◌∙◌}
-use Rattle.lock_objects.specs.Represents.{hold_of}
+use Rattle.lock_calls.proofs.Names.{sym, ap, hold_of}
+use Rattle.std.proofs.Common.{◌∙◌}
 use Rattle.lock_calls.proofs.GivenUp.{is_held}
 use Rattle.lock_calls.proofs.waiting.give_up.Goals as goal
 

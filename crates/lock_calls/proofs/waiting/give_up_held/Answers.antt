@@ -1,5 +1,4 @@
-use Rattle.std.proofs.Common.{sym, subst}
-use Rattle.lock_calls.specs.Releases.{ReleasesPart}
+use Rattle.lock_calls.proofs.Names.{sym, subst, ReleasesPart}
 use Rattle.lock_calls.proofs.GivenUp.{GivesUpSince, may_give_up, given_first, given_on, given_waking, given_up, given_steps}
 use Rattle.lock_calls.proofs.waiting.give_up_held.Goals as goal
 use Rattle.lock_calls.proofs.waiting.give_up_held.Goals.{in-At, in-Wake}

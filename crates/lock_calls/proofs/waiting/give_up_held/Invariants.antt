@@ -1,4 +1,4 @@
-use Rattle.lock_floor.specs.Passes.{IsOf}
+use Rattle.lock_calls.proofs.Names.{IsOf}
 use Rattle.lock_calls.proofs.GivenUp.{GivesUpSince}
 use Rattle.lock_calls.proofs.waiting.give_up_held.Given as goal
 

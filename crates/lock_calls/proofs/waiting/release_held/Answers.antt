@@ -1,12 +1,7 @@
-use Rattle.std.proofs.Common.{◌≡◌, sym, ap, ◌∙◌, subst}
-use Rattle.lock_model.specs.Holds.{NotHeld, Holds}
-use Rattle.lock_model.specs.Operations.{without_lock}
+use Rattle.lock_calls.proofs.Names.{sym, ap, subst, NotHeld, Holds, without_lock, Mode, hold_of, MakesEach, MakesEntry}
+use Rattle.lock_calls.proofs.Names.{MayRelease, Release, IsReleaseIn, unlocks}
+use Rattle.std.proofs.Common.{◌≡◌, ◌∙◌}
 use Rattle.lock_model.specs.declared.event.Event.TheVariants as event
-use Rattle.lock_model.specs.declared.plan.Mode.{Mode}
-use Rattle.lock_objects.specs.Represents.{hold_of}
-use Rattle.floor_table.specs.Steps.{MakesEach}
-use Rattle.lock_floor.specs.Passes.{MakesEntry}
-use Rattle.lock_calls.specs.Steps.{MayRelease, Release, IsReleaseIn, unlocks}
 use Rattle.lock_calls.proofs.Owned.{same_mode}
 use Rattle.lock_calls.proofs.waiting.release_held.Goals as goal
 

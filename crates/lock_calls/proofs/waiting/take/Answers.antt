@@ -1,5 +1,5 @@
-use Rattle.std.proofs.Common.{◌≡◌, true, false, IfErr, sym, ◌∙◌, subst}
-use Rattle.lock_calls.specs.Takes.{IsHalt, WasNotTaken}
+use Rattle.lock_calls.proofs.Names.{true, false, IfErr, sym, subst, IsHalt, WasNotTaken}
+use Rattle.std.proofs.Common.{◌≡◌, ◌∙◌}
 use Rattle.lock_calls.proofs.waiting.take.Goals as goal
 
 pub unreachable-requires : goal.unreachable-requires

@@ -1,5 +1,4 @@
-use Rattle.std.proofs.Common.{sym, subst}
-use Rattle.lock_calls.specs.Takes.{TakesPart}
+use Rattle.lock_calls.proofs.Names.{sym, subst, TakesPart}
 use Rattle.lock_calls.proofs.TakenBack.{RetakesSince, retakes_first, is_back, retakes_on, taken_back, back_steps}
 use Rattle.lock_calls.proofs.waiting.take_back.Goals as goal
 use Rattle.lock_calls.proofs.waiting.take_back.Goals.{in-At, in-Wake}

@@ -1,4 +1,4 @@
-use Rattle.lock_floor.specs.Passes.{IsOf}
+use Rattle.lock_calls.proofs.Names.{IsOf}
 use Rattle.lock_calls.proofs.TakenBack.{RetakesSince}
 use Rattle.lock_calls.proofs.waiting.take_back.Given as goal
 

@@ -1,4 +1,4 @@
-use Rattle.lock_floor.specs.Passes.{IsOf}
+use Rattle.lock_calls.proofs.Names.{IsOf}
 use Rattle.lock_calls.proofs.Driven.{StandsSince}
 use Rattle.lock_calls.proofs.waiting.take_or_halt.Given as goal
 

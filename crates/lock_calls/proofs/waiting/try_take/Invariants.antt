@@ -1,4 +1,4 @@
-use Rattle.lock_floor.specs.Passes.{IsOf}
+use Rattle.lock_calls.proofs.Names.{IsOf}
 use Rattle.lock_calls.proofs.TriedSince.{StandsSince}
 use Rattle.lock_calls.proofs.waiting.try_take.Given as goal
 

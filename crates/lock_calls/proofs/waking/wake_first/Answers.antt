@@ -1,7 +1,5 @@
-use Rattle.std.proofs.Common.{◌<◌, length, refl, sym, subst}
-use Rattle.floor_table.specs.declared.description.Description.{Description}
-use Rattle.lock_state.specs.Steps.Items.{RecordOf}
-use Rattle.lock_floor.specs.Latches.{FindsOut}
+use Rattle.lock_calls.proofs.Names.{length, refl, sym, subst, Description, RecordOf, FindsOut}
+use Rattle.std.proofs.Common.{◌<◌}
 use Rattle.lock_calls.proofs.waking.wake_first.Goals as goal
 
 pub returns-in-None-clause-wakes : goal.returns-in-None-clause-wakes

@@ -1,8 +1,5 @@
-use Rattle.std.proofs.Common.{None, ap, ◌∙◌}
-use Rattle.atomic_table.specs.Table.{Me}
-use Rattle.floor_table.specs.declared.slot.Slot.{Slot}
-use Rattle.floor_table.specs.declared.slot.Slot.TheVariants.{Record, Cell, SleepQueues}
-use Rattle.floor_table.specs.Views.{Knowledge}
+use Rattle.lock_floor.proofs.Names.{None, ap, Me, Slot, Record, Cell, SleepQueues, Knowledge}
+use Rattle.std.proofs.Common.{◌∙◌}
 use Rattle.lock_floor.proofs.TwoOut.{first_of, turned_once, turned_back}
 use Rattle.lock_floor.proofs.channels.lie_down.Goals as goal
 

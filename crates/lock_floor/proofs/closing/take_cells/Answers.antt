@@ -1,12 +1,8 @@
-use Rattle.std.proofs.Common.{◌+◌, ◌<◌, false, get_or, refl, sym, ap, ◌∙◌, subst, arith}
+use Rattle.lock_floor.proofs.Names.{false, get_or, refl, sym, ap, subst, arith, get, get-empty, Contains, slots_filled}
+use Rattle.lock_floor.proofs.Names.{get_or_default, Contains-get_or, place_cmp}
+use Rattle.std.proofs.Common.{◌+◌, ◌<◌, ◌∙◌}
 use mathlib.Core.Option.{some, some-injective}
 use lib.ListN.{get_elem?}
-use Rattle.std.specs.FinMap.{get, get-empty}
-use Rattle.std.specs.List.{Contains}
-use Rattle.std.specs.Mem.Slots.{slots_filled}
-use Rattle.std.proofs.lemmas.List.{get_or_default}
-use Rattle.std.proofs.lemmas.List.Elements.{Contains-get_or}
-use Rattle.lock_model.specs.History.{place_cmp}
 use Rattle.lock_floor.proofs.Emptying.{still_full, still_empty, same_value, shows_more}
 use Rattle.lock_floor.proofs.closing.take_cells.Goals as goal
 

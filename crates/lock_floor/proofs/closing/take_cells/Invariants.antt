@@ -1,9 +1,8 @@
-use Rattle.std.proofs.Common.{◌≡◌, ℕ, ◌+◌, ◌<◌, Option, false, get_or, length}
+use Rattle.lock_floor.proofs.Names.{ℕ, Option, false, get_or, length, slots_items, slots_filled, slots_len, Filled}
+use Rattle.lock_floor.proofs.Names.{Cell}
+use Rattle.std.proofs.Common.{◌≡◌, ◌+◌, ◌<◌}
 use mathlib.Core.Option.{some}
 use lib.ListN.{get_elem?}
-use Rattle.std.specs.Mem.Slots.{slots_items, slots_filled, slots_len}
-use Rattle.std.specs.Mem.Slots.Ownership.{Filled}
-use Rattle.floor_table.specs.declared.slot.Slot.TheVariants.{Cell}
 use Rattle.lock_floor.proofs.Emptying.{Shows}
 use Rattle.lock_floor.proofs.closing.take_cells.Given as goal
 

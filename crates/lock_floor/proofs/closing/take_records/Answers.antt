@@ -1,7 +1,7 @@
-use Rattle.std.proofs.Common.{◌+◌, ◌<◌, false, length, get_or, sym, ap, ◌∙◌, subst, arith, length-append}
+use Rattle.lock_floor.proofs.Names.{false, length, get_or, sym, ap, subst, arith, length-append, slots_filled}
+use Rattle.std.proofs.Common.{◌+◌, ◌<◌, ◌∙◌}
 use mathlib.Core.Option.{some, some-injective}
 use lib.ListN.{get_elem?}
-use Rattle.std.specs.Mem.Slots.{slots_filled}
 use Rattle.lock_floor.proofs.Emptying.{still_full, still_empty, records_more}
 use Rattle.lock_floor.proofs.closing.take_records.Goals as goal
 

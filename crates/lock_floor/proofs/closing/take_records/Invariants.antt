@@ -1,12 +1,8 @@
-use Rattle.std.proofs.Common.{◌≡◌, ℕ, ◌<◌, false, get_or, length, vec_capacity}
+use Rattle.lock_floor.proofs.Names.{ℕ, false, get_or, length, vec_capacity, slots_items, slots_filled, slots_len}
+use Rattle.lock_floor.proofs.Names.{Filled, Global, Box, ThreadRec, Record}
+use Rattle.std.proofs.Common.{◌≡◌, ◌<◌}
 use mathlib.Core.Option.{some}
 use lib.ListN.{get_elem?}
-use Rattle.std.specs.Mem.Slots.{slots_items, slots_filled, slots_len}
-use Rattle.std.specs.Mem.Slots.Ownership.{Filled}
-use Rattle.std.specs.declared.alloc.Global.{Global}
-use Rattle.std.specs.declared.boxed.Box.{Box}
-use Rattle.thread_records.specs.declared.record.ThreadRec.{ThreadRec}
-use Rattle.floor_table.specs.declared.slot.Slot.TheVariants.{Record}
 use Rattle.lock_floor.proofs.closing.take_records.Given as goal
 
 abbrev pub invariant-loop-t : goal.invariant-loop-t

@@ -1,5 +1,5 @@
-use Rattle.std.proofs.Common.{◌<◌, false, get_or, ap, ◌∙◌, subst, arith}
-use Rattle.std.specs.Mem.Slots.{slots_filled}
+use Rattle.lock_floor.proofs.Names.{false, get_or, ap, subst, arith, slots_filled}
+use Rattle.std.proofs.Common.{◌<◌, ◌∙◌}
 use Rattle.lock_floor.proofs.Emptying.{still_full, still_empty}
 use Rattle.lock_floor.proofs.closing.take_rest.Goals as goal
 

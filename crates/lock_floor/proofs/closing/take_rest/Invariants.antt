@@ -1,6 +1,5 @@
-use Rattle.std.proofs.Common.{◌≡◌, ℕ, ◌<◌, false, get_or}
-use Rattle.std.specs.Mem.Slots.{slots_filled, slots_len}
-use Rattle.std.specs.Mem.Slots.Ownership.{Filled}
+use Rattle.lock_floor.proofs.Names.{ℕ, false, get_or, slots_filled, slots_len, Filled}
+use Rattle.std.proofs.Common.{◌≡◌, ◌<◌}
 use Rattle.lock_floor.proofs.closing.take_rest.Given as goal
 
 abbrev pub invariant-loop-i : goal.invariant-loop-i

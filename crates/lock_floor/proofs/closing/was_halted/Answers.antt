@@ -1,9 +1,6 @@
-use Rattle.std.proofs.Common.{◌≡◌, sym, ap, ◌∙◌, eq-eqb}
-use Rattle.std.proofs.lemmas.Bool.{eqb-true}
+use Rattle.lock_floor.proofs.Names.{sym, ap, eq-eqb, eqb-true, slots_items, at_or, halt_line, word_at}
+use Rattle.std.proofs.Common.{◌≡◌, ◌∙◌}
 use lib.ListN.{get_elem?}
-use Rattle.std.specs.Mem.Slots.{slots_items}
-use Rattle.floor_table.proofs.Lists.{at_or}
-use Rattle.floor_table.specs.Places.{halt_line, word_at}
 use Rattle.lock_floor.proofs.closing.was_halted.Goals as goal
 
 pub returns : goal.returns

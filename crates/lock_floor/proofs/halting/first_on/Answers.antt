@@ -1,4 +1,4 @@
-use Rattle.std.proofs.Common.{refl}
+use Rattle.lock_floor.proofs.Names.{refl}
 use Rattle.lock_floor.proofs.FirstOn.{none_first, some_first}
 use Rattle.lock_floor.proofs.halting.first_on.Goals as goal
 

@@ -1,6 +1,5 @@
-use Rattle.std.proofs.Common.{◌≡◌, ℕ, ◌<◌, get_or, length}
-use Rattle.floor_table.specs.declared.slot.Slot.{Slot}
-use Rattle.lock_floor.specs.First.{IsFirst}
+use Rattle.lock_floor.proofs.Names.{ℕ, get_or, length, Slot, IsFirst}
+use Rattle.std.proofs.Common.{◌≡◌, ◌<◌}
 use Rattle.lock_floor.proofs.keeper.first_records.Given as goal
 
 abbrev pub invariant-loop-t : goal.invariant-loop-t

@@ -1,7 +1,6 @@
-use Rattle.std.proofs.Common.{rules, ◌≡◌, None, [], length, refl, ap}
-use Rattle.lock_model.specs.Limits.{most_classes}
-use Rattle.floor_table.specs.Places.{first_cell, first_turnstile_chain, first_sleep_chain, graph_place}
-use Rattle.floor_table.specs.declared.slot.Slot.TheVariants.{Cell, Turnstiles, SleepQueues, Graph}
+use Rattle.lock_floor.proofs.Names.{rules, None, [], length, refl, ap, most_classes, first_cell, first_turnstile_chain}
+use Rattle.lock_floor.proofs.Names.{first_sleep_chain, graph_place, Cell, Turnstiles, SleepQueues, Graph}
+use Rattle.std.proofs.Common.{◌≡◌}
 use Rattle.lock_floor.proofs.Keeping.{LaidOut, laid_more, laid_one, classes_fit}
 use Rattle.lock_floor.proofs.keeper.first_slots.Goals as goal
 

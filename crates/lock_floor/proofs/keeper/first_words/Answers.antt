@@ -1,6 +1,5 @@
-use Rattle.std.proofs.Common.{rules, ◌≡◌, ℕ, List, set, replicate, sym, ap, ◌∙◌, subst}
-use Rattle.floor_table.specs.Places.{words_for}
-use Rattle.lock_floor.specs.First.{AreFirstWords}
+use Rattle.lock_floor.proofs.Names.{rules, ℕ, List, set, replicate, sym, ap, subst, words_for, AreFirstWords}
+use Rattle.std.proofs.Common.{◌≡◌, ◌∙◌}
 use Rattle.lock_floor.proofs.Keeping.{words_at_first}
 use Rattle.lock_floor.proofs.keeper.first_words.Goals as goal
 

@@ -1,17 +1,9 @@
-use Rattle.std.proofs.Common.{◌≡◌, ◌≤◌, ◌+◌, ◌-◌, ◌<◌, ℕ, suc, false, length-append, List, [], refl, ap, sym, ◌∙◌, subst, length, get_or, arith}
-use Rattle.atomic_table.specs.Table.{Splits, Me}
-use Rattle.lock_history.specs.Books.{Book}
-use Rattle.floor_table.specs.Descriptions.{room_for}
-use Rattle.floor_table.specs.declared.description.Description.{Description}
-use Rattle.floor_table.specs.declared.description.ThreadPart.{ThreadPart}
-use Rattle.floor_table.specs.declared.slot.Slot.{Slot}
-use Rattle.floor_table.specs.Rule.{FloorHolds}
-use Rattle.floor_table.specs.Views.{Knowledge, first_view, keeper}
+use Rattle.lock_floor.proofs.Names
+use Names.{ℕ, suc, false, length-append, List, [], refl, ap, sym, subst, length, get_or, arith, Splits, Me, Book}
+use Names.{room_for, Description, ThreadPart, Slot, FloorHolds, Knowledge, first_view, keeper, Pass, first_pass, IsTied}
+use Names.{with_pass_made, new_pass}
+use Rattle.std.proofs.Common.{◌≡◌, ◌≤◌, ◌+◌, ◌-◌, ◌<◌, ◌∙◌}
 use Rattle.lock_floor.specs.declared.calls.Call.TheVariants as call
-use Rattle.lock_floor.specs.Floors.{Pass}
-use Rattle.lock_floor.specs.Passes.{first_pass}
-use Rattle.lock_floor.specs.Ties.{IsTied}
-use Rattle.lock_floor.specs.Views.{with_pass_made, new_pass}
 use Rattle.lock_floor.proofs.Marked.{none_marked}
 use Rattle.lock_floor.proofs.Keeping.{forks, next_room, rooms_from, each_more}
 use Rattle.lock_floor.proofs.keeper.hand_out.Goals as goal

@@ -1,7 +1,5 @@
-use Rattle.std.proofs.Common.{◌≡◌, ℕ, ◌<◌, ◌≤◌, [], get_or, length, vec_capacity}
-use Rattle.floor_table.specs.Views.{Knowledge, keeper}
-use Rattle.lock_floor.specs.Floors.{Pass}
-use Rattle.lock_floor.specs.Passes.{first_pass}
+use Rattle.lock_floor.proofs.Names.{ℕ, [], get_or, length, vec_capacity, Knowledge, keeper, Pass, first_pass}
+use Rattle.std.proofs.Common.{◌≡◌, ◌<◌, ◌≤◌}
 use Rattle.lock_floor.proofs.Keeping.{rooms_from}
 use Rattle.lock_floor.proofs.keeper.hand_out.Given as goal
 

@@ -1,5 +1,5 @@
-use Rattle.std.proofs.Common.{◌≡◌, ◌++◌, replicate, None}
-use Rattle.floor_table.specs.declared.slot.Slot.TheVariants.{Cell}
+use Rattle.lock_floor.proofs.Names.{replicate, None, Cell}
+use Rattle.std.proofs.Common.{◌≡◌, ◌++◌}
 use Rattle.lock_floor.proofs.keeper.push_cells.Given as goal
 
 abbrev pub invariant-loop : goal.invariant-loop

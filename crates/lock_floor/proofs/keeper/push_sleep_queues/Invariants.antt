@@ -1,5 +1,5 @@
-use Rattle.std.proofs.Common.{◌≡◌, ◌++◌, replicate, []}
-use Rattle.floor_table.specs.declared.slot.Slot.TheVariants.{SleepQueues}
+use Rattle.lock_floor.proofs.Names.{replicate, [], SleepQueues}
+use Rattle.std.proofs.Common.{◌≡◌, ◌++◌}
 use Rattle.lock_floor.proofs.keeper.push_sleep_queues.Given as goal
 
 abbrev pub invariant-loop : goal.invariant-loop

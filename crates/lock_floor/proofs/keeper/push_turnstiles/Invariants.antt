@@ -1,5 +1,5 @@
-use Rattle.std.proofs.Common.{◌≡◌, ◌++◌, replicate, []}
-use Rattle.floor_table.specs.declared.slot.Slot.TheVariants.{Turnstiles}
+use Rattle.lock_floor.proofs.Names.{replicate, [], Turnstiles}
+use Rattle.std.proofs.Common.{◌≡◌, ◌++◌}
 use Rattle.lock_floor.proofs.keeper.push_turnstiles.Given as goal
 
 abbrev pub invariant-loop : goal.invariant-loop

@@ -1,6 +1,5 @@
-use Rattle.std.proofs.Common.{ap, ◌∙◌}
-use Rattle.floor_table.specs.Descriptions.{config_in}
-use Rattle.lock_floor.specs.Changes.{event_of, cell_after}
+use Rattle.lock_floor.proofs.Names.{ap, config_in, event_of, cell_after}
+use Rattle.std.proofs.Common.{◌∙◌}
 use Rattle.lock_floor.proofs.Replaying as law
 use Rattle.lock_floor.proofs.laws.changes_act_on_changes.Goals as goal
 

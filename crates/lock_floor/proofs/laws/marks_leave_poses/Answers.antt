@@ -1,6 +1,4 @@
-use Rattle.lock_laws.proofs.Standing.{marked_named}
-use Rattle.lock_state.specs.Facts.{StandingIsQueued}
-use Rattle.floor_table.specs.Descriptions.{config_in}
+use Rattle.lock_floor.proofs.Names.{marked_named, StandingIsQueued, config_in}
 use Rattle.lock_floor.proofs.MarkStep.{poses_stay}
 use Rattle.lock_floor.proofs.laws.marks_leave_poses.Goals as goal
 

@@ -1,5 +1,5 @@
-use Rattle.std.proofs.Common.{sym, ap, ◌∙◌}
-use Rattle.lock_objects.specs.Marked.{places_of}
+use Rattle.lock_floor.proofs.Names.{sym, ap, places_of}
+use Rattle.std.proofs.Common.{◌∙◌}
 use Rattle.lock_floor.proofs.marking.first_of.Goals as goal
 
 pub returns-in_ok-first-in-Waiters-clause-some : goal.returns-in_ok-first-in-Waiters-clause-some

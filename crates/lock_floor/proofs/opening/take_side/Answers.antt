@@ -1,8 +1,6 @@
-use Rattle.std.proofs.Common.{◌≡◌, ◌++◌, ℕ, None, List, [], ◌∷◌, sym, ap, ◌∙◌}
-use Rattle.atomic_table.specs.Table.{Me, rest, turned}
-use Rattle.floor_table.specs.declared.slot.Slot.{Slot}
-use Rattle.floor_table.specs.declared.slot.Slot.TheVariants.{Record, Cell, Turnstiles}
-use Rattle.floor_table.specs.Views.{Knowledge}
+use Rattle.lock_floor.proofs.Names.{ℕ, None, List, [], sym, ap, Me, rest, turned, Slot, Record, Cell, Turnstiles}
+use Rattle.lock_floor.proofs.Names.{Knowledge}
+use Rattle.std.proofs.Common.{◌≡◌, ◌++◌, ◌∷◌, ◌∙◌}
 use Rattle.lock_floor.proofs.opening.take_side.Goals as goal
 
 first_of : (xs : List (ℕ × Slot)) (a : ℕ × Slot) (ys : List (ℕ × Slot)) → xs ≡ a ∷ ys → xs ≡ a ∷ rest xs

@@ -1,13 +1,7 @@
-use Rattle.std.proofs.Common.{◌≡◌, ℕ, List, ◌∷◌, refl, sym, ap, ◌∙◌, subst}
-use Rattle.std.specs.declared.alloc.Global.{Global}
-use Rattle.std.specs.declared.boxed.Box.{Box}
-use Rattle.atomic_table.specs.Table.{rest}
-use Rattle.lock_model.specs.Orders.{IsFirstToForbid}
+use Rattle.lock_floor.proofs.Names.{ℕ, List, refl, sym, ap, subst, Global, Box, rest, IsFirstToForbid, numbers_of}
+use Rattle.lock_floor.proofs.Names.{Orders, Slot, Graph}
+use Rattle.std.proofs.Common.{◌≡◌, ◌∷◌, ◌∙◌}
 use Rattle.witness_orders.specs.Graph as orders
-use Rattle.witness_orders.specs.Graph.{numbers_of}
-use Rattle.witness_orders.specs.declared.orders.Orders.{Orders}
-use Rattle.floor_table.specs.declared.slot.Slot.{Slot}
-use Rattle.floor_table.specs.declared.slot.Slot.TheVariants.{Graph}
 use Rattle.lock_floor.proofs.ordering.learn.Goals as goal
 
 -- the graph that was taken last is the one there

@@ -1,9 +1,6 @@
-use Rattle.std.proofs.Common.{ℕ, ◌≡◌, ◌-◌, List, [], ◌∷◌, ◌++◌, length, position, sym, ap, ◌∙◌, refl, arith}
-use Rattle.std.specs.List.{remove}
-use Rattle.std.proofs.lemmas.List.{append-nil}
-use Rattle.std.proofs.lemmas.List.Edits.{remove-append_right}
-use Rattle.lock_model.proofs.HeldLocks.{taken_out, none_taken}
-use Rattle.lock_model.specs.Operations.{holds_lock}
+use Rattle.lock_floor.proofs.Names.{ℕ, List, [], length, position, sym, ap, refl, arith, remove, append-nil}
+use Rattle.lock_floor.proofs.Names.{remove-append_right, taken_out, none_taken, holds_lock}
+use Rattle.std.proofs.Common.{◌≡◌, ◌-◌, ◌∷◌, ◌++◌, ◌∙◌}
 use Rattle.lock_floor.proofs.pass.leave.Goals as goal
 
 -- the last of a list, taken off it

@@ -1,9 +1,5 @@
-use Rattle.std.proofs.Common.{eqb, sym, subst}
+use Rattle.lock_floor.proofs.Names.{eqb, sym, subst, Allows, Me, Slot, FloorHolds, Knowledge}
 use prog.Atomic.{either}
-use Rattle.atomic_table.specs.Table.{Allows, Me}
-use Rattle.floor_table.specs.declared.slot.Slot.{Slot}
-use Rattle.floor_table.specs.Rule.{FloorHolds}
-use Rattle.floor_table.specs.Views.{Knowledge}
 use Rattle.lock_floor.proofs.steps.drop_word.Goals as goal
 
 pub exchange-requires-clause-may : goal.exchange-requires-clause-may

@@ -1,10 +1,7 @@
-use Rattle.std.proofs.Common.{eqb, sym, ap, ◌∙◌, subst}
+use Rattle.lock_floor.proofs.Names.{eqb, sym, ap, subst, Allows, Me, word_of, Slot, FloorHolds, Knowledge}
+use Rattle.std.proofs.Common.{◌∙◌}
 use prog.Atomic.{either}
-use Rattle.atomic_table.specs.Table.{Allows, Me}
-use Rattle.lock_model.specs.Words.{word_of, entered}
-use Rattle.floor_table.specs.declared.slot.Slot.{Slot}
-use Rattle.floor_table.specs.Rule.{FloorHolds}
-use Rattle.floor_table.specs.Views.{Knowledge}
+use Rattle.lock_model.specs.Words.{entered}
 use Rattle.lock_floor.proofs.waits.enter_word.Goals as goal
 
 pub exchange-requires-clause-may : goal.exchange-requires-clause-may

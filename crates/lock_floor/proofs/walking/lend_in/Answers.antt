@@ -1,6 +1,5 @@
-use Rattle.std.proofs.Common.{ap, ◌∙◌}
-use Rattle.lock_model.specs.Queues.{names_turnstile}
-use Rattle.floor_table.specs.Descriptions.{config_in}
+use Rattle.lock_floor.proofs.Names.{ap, names_turnstile, config_in}
+use Rattle.std.proofs.Common.{◌∙◌}
 use Rattle.lock_floor.proofs.walking.lend_in.Goals as goal
 
 pub returns : goal.returns

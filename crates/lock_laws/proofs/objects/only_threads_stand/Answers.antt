@@ -1,5 +1,4 @@
-use Rattle.std.proofs.Common.{arith}
-use Rattle.lock_model.specs.Queues.{lock_queue}
+use Rattle.lock_laws.proofs.Names.{arith, lock_queue}
 use Rattle.lock_laws.proofs.Standing as law
 use Rattle.lock_laws.proofs.objects.only_threads_stand.Goals as goal
 

@@ -1,4 +1,4 @@
-use Rattle.lock_model.specs.Queues.{lock_queue}
+use Rattle.lock_laws.proofs.Names.{lock_queue}
 use Rattle.lock_laws.proofs.Beyond as law
 use Rattle.lock_laws.proofs.objects.waiters_are_few.Goals as goal
 

@@ -1,8 +1,5 @@
-use Rattle.std.proofs.Common.{rules, ◌≡◌, sym, ap, ◌∙◌}
-use Rattle.chain_table.specs.Links.{map_is_empty}
-use Rattle.chain_table.specs.Objects.{bare}
-use Rattle.chain_table.specs.Chains.{head_of}
-use Rattle.lock_objects.specs.Aborts.{aborted_from, chain_aborted}
+use Rattle.lock_objects.proofs.Names.{rules, sym, ap, map_is_empty, bare, head_of, aborted_from, chain_aborted}
+use Rattle.std.proofs.Common.{◌≡◌, ◌∙◌}
 use Rattle.lock_objects.proofs.Aborts.{aborted_chain, aborted_marks}
 use Rattle.lock_objects.proofs.Opens.{of_head}
 use Rattle.lock_objects.proofs.aborting.abort.Goals as goal

@@ -1,4 +1,4 @@
-use Rattle.std.proofs.Common.{rules}
+use Rattle.lock_objects.proofs.Names.{rules}
 use Rattle.lock_objects.proofs.Enters.{entered_chain, entered_record}
 use Rattle.lock_objects.proofs.blocking.enter.Goals as goal
 

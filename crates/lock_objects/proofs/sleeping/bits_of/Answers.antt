@@ -1,5 +1,5 @@
-use Rattle.std.proofs.Common.{◌+◌, ap, sym, ◌∙◌}
-use Rattle.lock_state.specs.Steps.LockWords.{bits_of_threads}
+use Rattle.lock_objects.proofs.Names.{ap, sym, bits_of_threads}
+use Rattle.std.proofs.Common.{◌+◌, ◌∙◌}
 use Rattle.lock_objects.proofs.Bits.{places_at, threads, is_bit}
 use Rattle.lock_objects.proofs.sleeping.bits_of.Goals as goal
 

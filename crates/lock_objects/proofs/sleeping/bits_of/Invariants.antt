@@ -1,5 +1,5 @@
-use Rattle.std.proofs.Common.{◌≡◌, ◌+◌, length}
-use Rattle.lock_state.specs.Steps.LockWords.{bits_of_threads}
+use Rattle.lock_objects.proofs.Names.{length, bits_of_threads}
+use Rattle.std.proofs.Common.{◌≡◌, ◌+◌}
 use Rattle.lock_objects.proofs.Bits.{places_at, threads}
 use Rattle.lock_objects.proofs.sleeping.bits_of.Given as goal
 

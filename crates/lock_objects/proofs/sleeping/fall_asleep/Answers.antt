@@ -1,5 +1,4 @@
-use Rattle.std.proofs.Common.{rules}
-use Rattle.lock_objects.specs.Sleeps.{sleeper_of}
+use Rattle.lock_objects.proofs.Names.{rules, sleeper_of}
 use Rattle.lock_objects.proofs.Sleeps.{chain_slept}
 use Rattle.lock_objects.proofs.sleeping.fall_asleep.Goals as goal
 

@@ -1,10 +1,7 @@
-use Rattle.std.proofs.Common.{rules, ◌≢◌, [], ◌∙◌, refl, sym, ap, subst}
-use Rattle.chain_table.specs.Links.{map_is_empty}
-use Rattle.chain_table.specs.Objects.{bare}
-use Rattle.chain_table.specs.Chains.{head_of}
-use Rattle.sleep_queues.specs.Seen.{SleepQueue}
+use Rattle.lock_objects.proofs.Names.{rules, [], refl, sym, ap, subst, map_is_empty, bare, head_of, SleepQueue}
+use Rattle.lock_objects.proofs.Names.{some_places}
+use Rattle.std.proofs.Common.{◌≢◌, ◌∙◌}
 use Rattle.sleep_queues.specs.Changes.{all_waiters}
-use Rattle.wait_objects.proofs.Taken.{some_places}
 use Rattle.lock_objects.proofs.Opens.{of_head}
 use Rattle.lock_objects.proofs.Taken.{some_go}
 use Rattle.lock_objects.proofs.Sleeps.{chain_shown, marks_shown}

@@ -1,11 +1,6 @@
-use Rattle.std.proofs.Common.{rules, ◌≡◌, sym, ap, subst, ◌∙◌}
-use Rattle.chain_table.specs.Links.{map_is_empty}
-use Rattle.chain_table.specs.Objects.{bare}
-use Rattle.lock_model.specs.Queues.{lock_queue}
-use Rattle.chain_table.specs.Chains.{head_of}
-use Rattle.lock_objects.specs.Opens.{CanOpen, chain_opened, woken_of}
-use Rattle.lock_state.specs.Steps.Turnstiles.{after_open}
-use Rattle.lock_objects.specs.Represents.{RepresentsRecord, record_in}
+use Rattle.lock_objects.proofs.Names.{rules, sym, ap, subst, map_is_empty, bare, lock_queue, head_of, CanOpen}
+use Rattle.lock_objects.proofs.Names.{chain_opened, woken_of, after_open, RepresentsRecord, record_in}
+use Rattle.std.proofs.Common.{◌≡◌, ◌∙◌}
 use Rattle.lock_objects.proofs.Queues.{found}
 use Rattle.lock_objects.proofs.Opens.{of_head, of_some, at_home, record_shown, queues_shown, marks_shown, is_settled}
 use Rattle.lock_objects.proofs.waking.open.Goals as goal

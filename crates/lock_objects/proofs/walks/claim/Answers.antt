@@ -1,4 +1,4 @@
-use Rattle.std.proofs.Common.{rules}
+use Rattle.lock_objects.proofs.Names.{rules}
 use Rattle.lock_objects.proofs.Hops.{claim_queues, claim_record}
 use Rattle.lock_objects.proofs.walks.claim.Goals as goal
 

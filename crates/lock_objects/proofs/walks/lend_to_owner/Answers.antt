@@ -1,4 +1,4 @@
-use Rattle.std.proofs.Common.{rules}
+use Rattle.lock_objects.proofs.Names.{rules}
 use Rattle.lock_objects.proofs.Hops.{lend_queues, lend_record, lend_walk}
 use Rattle.lock_objects.proofs.walks.lend_to_owner.Goals as goal
 

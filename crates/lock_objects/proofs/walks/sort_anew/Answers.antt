@@ -1,4 +1,4 @@
-use Rattle.std.proofs.Common.{rules}
+use Rattle.lock_objects.proofs.Names.{rules}
 use Rattle.lock_objects.proofs.Hops.{shift_queues, shift_walk}
 use Rattle.lock_objects.proofs.walks.sort_anew.Goals as goal
 

@@ -1,4 +1,4 @@
-use Rattle.lock_model.specs.Plans.{config_of}
+use Rattle.run_laws.proofs.Names.{config_of}
 use Rattle.order_laws.proofs.OrderFacts.Cycle as law
 use Rattle.run_laws.proofs.runs.runs_have_best.Goals as goal
 

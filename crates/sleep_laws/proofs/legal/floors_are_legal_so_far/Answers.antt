@@ -1,6 +1,5 @@
-use Rattle.std.proofs.Common.{true}
+use Rattle.sleep_laws.proofs.Names.{true, by_chain}
 use Rattle.sleep_laws.proofs.LegalSoFar as law
-use Rattle.sleep_laws.specs.Sleepers.{by_chain}
 use Rattle.sleep_laws.proofs.legal.floors_are_legal_so_far.Goals as goal
 
 pub returns : goal.returns

@@ -1,5 +1,4 @@
-use Rattle.std.proofs.Common.{length, refl, arith}
-use Rattle.std.proofs.lemmas.Option.{slice_get_read}
+use Rattle.step_machine.proofs.Names.{length, refl, arith, slice_get_read}
 use Rattle.step_machine.proofs.Beginning.{new_pushed}
 use Rattle.step_machine.proofs.machine.make_threads.Goals as goal
 

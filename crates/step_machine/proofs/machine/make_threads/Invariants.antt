@@ -1,8 +1,5 @@
-use Rattle.std.proofs.Common.{◌≡◌, ℕ, slice_get, Some}
-use Rattle.lock_model.specs.declared.plan.ThreadDecl.{ThreadDecl}
-use Rattle.step_machine.specs.declared.thread.Thread.{Thread}
-use Rattle.step_machine.specs.Threads.{IsNew}
-use Rattle.std.specs.Vec.{vec_len}
+use Rattle.step_machine.proofs.Names.{ℕ, slice_get, Some, ThreadDecl, Thread, IsNew, vec_len}
+use Rattle.std.proofs.Common.{◌≡◌}
 use Rattle.step_machine.proofs.machine.make_threads.Given as goal
 
 abbrev pub invariant-loop-t : goal.invariant-loop-t

@@ -1,9 +1,6 @@
-use Rattle.std.proofs.Common.{◌≡◌, ◌+◌, ◌-◌, drop, length, take, ap, arith, rules, tests, length-drop}
-use Rattle.std.proofs.lemmas.Iterator.{YieldsList-from_slice}
-use Rattle.std.proofs.lemmas.Iterator.Consumers.{count_from_yields_List}
-use Rattle.std.proofs.lemmas.Iterator.Search.{YieldsList-from_take_while}
-use Rattle.std.proofs.lemmas.List.{take_all}
-use Rattle.lock_model.specs.Operations.{is_endtry}
+use Rattle.step_machine.proofs.Names.{drop, length, take, ap, arith, rules, tests, length-drop, YieldsList-from_slice}
+use Rattle.step_machine.proofs.Names.{count_from_yields_List, YieldsList-from_take_while, take_all, is_endtry}
+use Rattle.std.proofs.Common.{◌≡◌, ◌+◌, ◌-◌}
 use Rattle.step_machine.proofs.machine.next_at.Goals as goal
 
 pub returns : goal.returns

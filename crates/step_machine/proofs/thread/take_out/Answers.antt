@@ -1,7 +1,6 @@
-use Rattle.std.proofs.Common.{ℕ, ◌≡◌, ◌-◌, List, [], ◌∷◌, ◌++◌, length, sym, ap, ◌∙◌, refl, arith}
-use Rattle.std.specs.List.{remove}
-use Rattle.std.proofs.lemmas.List.{append-nil}
-use Rattle.std.proofs.lemmas.List.Edits.{remove-append_right}
+use Rattle.step_machine.proofs.Names.{ℕ, List, [], length, sym, ap, refl, arith, remove, append-nil}
+use Rattle.step_machine.proofs.Names.{remove-append_right}
+use Rattle.std.proofs.Common.{◌≡◌, ◌-◌, ◌∷◌, ◌++◌, ◌∙◌}
 use Rattle.step_machine.proofs.thread.take_out.Goals as goal
 
 -- the last of a list, taken off it

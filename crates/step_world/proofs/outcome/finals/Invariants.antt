@@ -1,4 +1,5 @@
-use Rattle.std.proofs.Common.{◌≡◌, ℕ, map, take}
+use Rattle.step_world.proofs.Names.{ℕ, map, take}
+use Rattle.std.proofs.Common.{◌≡◌}
 use Rattle.lock_history.specs.Endings.{numbers_of}
 use Rattle.step_world.proofs.outcome.finals.Given as goal
 

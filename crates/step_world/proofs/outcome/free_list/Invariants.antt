@@ -1,4 +1,5 @@
-use Rattle.std.proofs.Common.{◌≡◌, ◌-◌, length, map, take}
+use Rattle.step_world.proofs.Names.{length, map, take}
+use Rattle.std.proofs.Common.{◌≡◌, ◌-◌}
 use Rattle.step_world.proofs.outcome.free_list.Given as goal
 
 -- the first places have been read

@@ -1,10 +1,6 @@
-use Rattle.std.proofs.Common.{◌≡◌, ◌%◌, ◌<◌, List, length, get_or, ap, sym, subst, inl, inr, ◌∙◌, arith}
-use Rattle.lock_model.specs.Plans.{lock_kind}
-use Rattle.lock_model.specs.Queues.{lock_queue, chan_queue}
-use Rattle.lock_model.specs.Words.{is_turnstile}
-use Rattle.lock_model.specs.declared.plan.LockDecl.{LockDecl}
-use Rattle.chain_table.specs.Chains.{head_of}
-use Rattle.step_world.specs.Outcomes.{line_at, line_of_lock}
+use Rattle.step_world.proofs.Names.{List, length, get_or, ap, sym, subst, inl, inr, arith, lock_kind, lock_queue}
+use Rattle.step_world.proofs.Names.{chan_queue, is_turnstile, LockDecl, head_of, line_at, line_of_lock}
+use Rattle.std.proofs.Common.{◌≡◌, ◌%◌, ◌<◌, ◌∙◌}
 use Rattle.step_world.proofs.Readings.{part_more, part_more_behind, kind_read, turnstile_line, sleepers_line}
 use Rattle.step_world.proofs.outcome.queue_lines.Goals as goal
 use Rattle.step_world.proofs.outcome.queue_lines.Goals.{in-Mtx+in_ok-push_line-in-Mtx, in-Sx+in_ok-push_line-in-Sx}

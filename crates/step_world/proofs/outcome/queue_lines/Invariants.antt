@@ -1,7 +1,5 @@
-use Rattle.std.proofs.Common.{◌≡◌, ◌++◌, length, map}
-use Rattle.lock_history.specs.Outcomes.{line_seen}
-use Rattle.lock_model.specs.Plans.{config_of}
-use Rattle.step_world.specs.Outcomes.{lock_lines, channel_lines}
+use Rattle.step_world.proofs.Names.{length, map, line_seen, config_of, lock_lines, channel_lines}
+use Rattle.std.proofs.Common.{◌≡◌, ◌++◌}
 use Rattle.step_world.proofs.outcome.queue_lines.Given as goal
 
 -- the lines of the first locks,

@@ -1,6 +1,5 @@
-use Rattle.std.proofs.Common.{◌≡◌, ◌-◌, length, map, take}
-use Rattle.lock_history.specs.Outcomes.{waiter_seen}
-use Rattle.wait_objects.specs.Changes.{waiters}
+use Rattle.step_world.proofs.Names.{length, map, take, waiter_seen, waiters}
+use Rattle.std.proofs.Common.{◌≡◌, ◌-◌}
 use Rattle.step_world.proofs.outcome.waiters.Given as goal
 
 -- the first places have been read

@@ -1,6 +1,5 @@
-use Rattle.std.proofs.Common.{◌≡◌, ℕ, Bool, ◌&&◌, ◌||◌, not, ◌==◌, nat_lt, length, sym, ap, arith, ◌∙◌}
-use Rattle.std.proofs.lemmas.Bool.{le-ltb}
-use Rattle.lock_state.specs.Run.{has_ended}
+use Rattle.step_world.proofs.Names.{ℕ, Bool, not, nat_lt, length, sym, ap, arith, le-ltb, has_ended}
+use Rattle.std.proofs.Common.{◌≡◌, ◌&&◌, ◌||◌, ◌==◌, ◌∙◌}
 use Rattle.step_world.proofs.Scheduling.{goes_more, goes_no_more}
 use Rattle.step_world.proofs.schedule.going_in.Goals as goal
 use Rattle.step_world.proofs.schedule.going_in.Goals.{then-not-has_ended, else-not-has_ended}

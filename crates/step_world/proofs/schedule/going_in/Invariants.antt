@@ -1,7 +1,5 @@
-use Rattle.std.proofs.Common.{◌≡◌, ℕ, ◌&&◌, not, nat_lt}
-use Rattle.lock_model.specs.Counts.{has_bit}
-use Rattle.lock_state.specs.Run.{Run, has_ended}
-use Rattle.step_world.specs.Worlds.{Represents}
+use Rattle.step_world.proofs.Names.{ℕ, not, nat_lt, has_bit, Run, has_ended, Represents}
+use Rattle.std.proofs.Common.{◌≡◌, ◌&&◌}
 use Rattle.step_world.proofs.schedule.going_in.Given as goal
 
 -- those below who haven't ended are in the set

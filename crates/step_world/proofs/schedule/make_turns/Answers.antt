@@ -1,9 +1,7 @@
-use Rattle.std.proofs.Common.{◌≡◌, ℕ, ◌+◌, ◌-◌, ◌≤◌, true, not, refl, subst, sym, ap, ◌∙◌, arith}
-use Rattle.lock_model.specs.declared.plan.Plan.{Plan}
+use Rattle.step_world.proofs.Names.{ℕ, true, not, refl, subst, sym, ap, arith, Plan, go_on, is_over, course_after}
+use Rattle.step_world.proofs.Names.{IsCourse, none_made, one_more, stays_over}
+use Rattle.std.proofs.Common.{◌≡◌, ◌+◌, ◌-◌, ◌≤◌, ◌∙◌}
 use Rattle.lock_state.specs.Run as run
-use Rattle.lock_state.specs.Run.{go_on, is_over, course_after}
-use Rattle.step_world.specs.Courses.{IsCourse}
-use Rattle.run_laws.proofs.TurnsOfCourses.{none_made, one_more, stays_over}
 use Rattle.step_world.proofs.schedule.make_turns.Goals as goal
 
 pub loop-left-init : goal.loop-left-init

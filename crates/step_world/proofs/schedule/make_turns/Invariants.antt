@@ -1,6 +1,5 @@
-use Rattle.std.proofs.Common.{◌≡◌, ℕ, ◌+◌, ◌≤◌}
-use Rattle.lock_state.specs.Run.{start_course, course_after}
-use Rattle.step_world.specs.Courses.{IsCourse}
+use Rattle.step_world.proofs.Names.{ℕ, start_course, course_after, IsCourse}
+use Rattle.std.proofs.Common.{◌≡◌, ◌+◌, ◌≤◌}
 use Rattle.step_world.proofs.schedule.make_turns.Given as goal
 
 -- the course is the definition's behind as many turns as were made

@@ -1,13 +1,9 @@
-use Rattle.std.proofs.Common.{◌≡◌, ℕ, Result, Ok, Err, IfOk, sym, ap, subst, ◌∙◌}
-use Rattle.lock_model.specs.Operations.{IsProper}
+use Rattle.step_world.proofs.Names
+use Names.{ℕ, Result, Ok, Err, IfOk, sym, ap, subst, IsProper, start_course, course_after, outcome_of, scheduled_run}
+use Names.{HasLegalHistory, Plan, outcome_seen, Outcome, outcomes_are_legal, Course, IsCourse}
+use Rattle.std.proofs.Common.{◌≡◌, ◌∙◌}
 use Rattle.lock_model.specs.Text as text
 use Rattle.lock_state.specs.Run as run
-use Rattle.lock_state.specs.Run.{start_course, course_after, outcome_of, scheduled_run, HasLegalHistory}
-use Rattle.lock_model.specs.declared.plan.Plan.{Plan}
-use Rattle.lock_history.specs.Outcomes.{outcome_seen}
-use Rattle.lock_history.specs.declared.outcome.Outcome.{Outcome}
-use Rattle.run_laws.proofs.LegalRuns.{outcomes_are_legal}
-use Rattle.step_world.specs.Courses.{Course, IsCourse}
 use Rattle.step_world.proofs.schedule.run_schedule.Goals as goal
 use Rattle.step_world.proofs.schedule.run_schedule.Goals.{After-into_outcome}
 

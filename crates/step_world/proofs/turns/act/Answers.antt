@@ -1,5 +1,5 @@
-use Rattle.std.proofs.Common.{refl, sym, ◌∙◌}
-use Rattle.lock_state.specs.Steps.Turnstiles.{after_mark}
+use Rattle.step_world.proofs.Names.{refl, sym, after_mark}
+use Rattle.std.proofs.Common.{◌∙◌}
 use Rattle.step_world.proofs.Turning.{may_by, of_step, one_made}
 use Rattle.step_world.proofs.ActionsOfTurns as actions
 use Rattle.step_world.proofs.turns.act.Goals as goal

@@ -1,6 +1,4 @@
-use Rattle.std.proofs.Common.{refl}
-use Rattle.lock_state.specs.Steps.Turnstiles.{after_resume}
-use Rattle.lock_model.specs.Queues.{BySignal}
+use Rattle.step_world.proofs.Names.{refl, after_resume, BySignal}
 use Rattle.step_world.proofs.Turning.{may_by, of_step, one_made}
 use Rattle.step_world.proofs.ActionsOfTurns as actions
 use Rattle.step_world.proofs.turns.by_wait.Goals as goal

@@ -1,5 +1,4 @@
-use Rattle.lock_model.specs.Plans.{config_of}
-use Rattle.run_laws.proofs.Actions.{sets, adds, changes_base}
+use Rattle.step_world.proofs.Names.{config_of, sets, adds, changes_base}
 use Rattle.step_world.proofs.Turning.{is_there}
 use Rattle.step_world.proofs.ActionsOfTurns.{here}
 use Rattle.step_world.proofs.ActionsOfOperations as actions

@@ -1,7 +1,5 @@
-use Rattle.std.proofs.Common.{refl, ◌∙◌}
-use Rattle.lock_model.specs.Plans.{config_of}
-use Rattle.step_world.specs.declared.turns.Made.TheVariants.{Ends}
-use Rattle.lock_model.specs.declared.turn.StepKind.TheVariants.{Note}
+use Rattle.step_world.proofs.Names.{refl, config_of, Ends, Note}
+use Rattle.std.proofs.Common.{◌∙◌}
 use Rattle.step_world.proofs.Turning.{has_room, may_next, goes, of_entry, made_behind}
 use Rattle.step_world.proofs.AsFar.{awake_behind}
 use Rattle.step_world.proofs.ActionsOfOperations as actions

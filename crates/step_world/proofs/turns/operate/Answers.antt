@@ -1,8 +1,4 @@
-use Rattle.std.proofs.Common.{Some, refl, ap, arith}
-use Rattle.lock_model.specs.Plans.{config_of}
-use Rattle.run_laws.proofs.Entries.{next_op_below}
-use Rattle.run_laws.proofs.OnTrack.{left}
-use Rattle.step_world.specs.declared.turns.Made.TheVariants.{Ends, Skips}
+use Rattle.step_world.proofs.Names.{Some, refl, ap, arith, config_of, next_op_below, left, Ends, Skips}
 use Rattle.step_world.proofs.Turning.{is_there, within, stays, went_on}
 use Rattle.step_world.proofs.ActionsOfTurns.{here, following}
 use Rattle.step_world.proofs.turns.operate.Goals as goal

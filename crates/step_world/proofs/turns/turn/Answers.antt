@@ -1,4 +1,5 @@
-use Rattle.std.proofs.Common.{sym, ◌∙◌}
+use Rattle.step_world.proofs.Names.{sym}
+use Rattle.std.proofs.Common.{◌∙◌}
 use Rattle.step_world.proofs.ActionsOfTurns as actions
 use Rattle.step_world.proofs.turns.turn.Goals as goal
 

@@ -1,5 +1,5 @@
 use Rattle.floor_calls.proofs.Tests.{at_ease, busy, unsaid}
-use Rattle.floor_calls.specs.First.{here}
+use Rattle.floor_calls.proofs.Names.{here}
 use Rattle.floor_calls.proofs.thread.Thread.against_new.Goals as goal
 
 pub returns-then-is_at_rest : goal.returns-then-is_at_rest

@@ -1,5 +1,5 @@
 use Rattle.floor_calls.proofs.Answered.{is_back, is_made_there, is_refused, may_there}
-use Rattle.floor_calls.specs.declared.requests.Request.TheVariants.{Take}
+use Rattle.floor_calls.proofs.Names.{Take}
 use Rattle.floor_calls.proofs.thread.Thread.begin_take.Goals as goal
 
 pub returns-in-Some : goal.returns-in-Some

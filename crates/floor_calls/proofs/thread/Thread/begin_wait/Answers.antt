@@ -1,5 +1,5 @@
 use Rattle.floor_calls.proofs.Answered.{is_back, is_made_there, is_refused, may_there}
-use Rattle.floor_calls.specs.declared.requests.Request.TheVariants.{Wait}
+use Rattle.floor_calls.proofs.Names.{Wait}
 use Rattle.floor_calls.proofs.thread.Thread.begin_wait.Goals as goal
 
 pub returns-in-Some : goal.returns-in-Some

@@ -1,5 +1,5 @@
 use Rattle.floor_calls.proofs.Answered.{is_made_at_once, is_refused, may_at_rest, rests_back}
-use Rattle.floor_calls.specs.declared.requests.Request.TheVariants.{Show}
+use Rattle.floor_calls.proofs.Names.{Show}
 use Rattle.floor_calls.proofs.thread.Thread.show.Goals as goal
 
 pub returns-in-Some : goal.returns-in-Some

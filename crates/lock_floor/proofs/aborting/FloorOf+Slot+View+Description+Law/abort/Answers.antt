@@ -1,14 +1,7 @@
-use Rattle.std.proofs.Common.{◌≡◌, ℕ, refl, sym, ap, ◌∙◌, subst}
-use Rattle.atomic_table.specs.Table.{Me, Allows}
-use Rattle.lock_model.specs.declared.plan.QueueName.{QueueName}
-use Rattle.floor_table.specs.Places.{spot, latch_line}
-use Rattle.floor_table.specs.Rule.{FloorHolds}
-use Rattle.floor_table.specs.Views.{Knowledge}
-use Rattle.floor_table.specs.declared.description.Description.{Description}
-use Rattle.floor_table.specs.declared.slot.Slot.{Slot}
-use Rattle.lock_floor.specs.Aborts.{MayAbortSleeper, AbortsSleeper}
-use Rattle.lock_floor.specs.Floors.{Floor, Pass}
-use Rattle.lock_floor.specs.Waits.{chain_place}
+use Rattle.lock_floor.proofs.Names
+use Names.{ℕ, refl, sym, ap, subst, Me, Allows, QueueName, spot, latch_line, FloorHolds, Knowledge, Description, Slot}
+use Names.{MayAbortSleeper, AbortsSleeper, Floor, Pass, chain_place}
+use Rattle.std.proofs.Common.{◌≡◌, ◌∙◌}
 use Rattle.lock_floor.proofs.AbortCall.{before, call_view, call_tied, call_aborts}
 use Rattle.lock_floor.proofs.AbortStep.{ToldAborted, abort_allowed}
 use Rattle.lock_floor.proofs.Tied.{of_floor_still}

@@ -1,4 +1,4 @@
-use Rattle.lock_floor.specs.Waits.{its_chain}
+use Rattle.lock_floor.proofs.Names.{its_chain}
 use Rattle.lock_floor.proofs.chains.FloorOf+Slot+View+Description+Law.give_chain.Goals as goal
 
 pub give-requires-clause-may : goal.give-requires-clause-may

@@ -1,6 +1,4 @@
-use Rattle.std.proofs.Common.{subst}
-use Rattle.lock_floor.specs.Latches.{Takes}
-use Rattle.lock_floor.specs.Waits.{its_chain}
+use Rattle.lock_floor.proofs.Names.{subst, Takes, its_chain}
 use Rattle.lock_floor.proofs.chains.FloorOf+Slot+View+Description+Law.try_take_chain.Goals as goal
 
 pub try_take-requires-clause-may : goal.try_take-requires-clause-may

@@ -1,14 +1,6 @@
-use Rattle.std.proofs.Common.{◌≡◌, ℕ, refl, sym, ap, ◌∙◌, subst}
-use Rattle.atomic_table.specs.Table.{Me, Allows}
-use Rattle.lock_model.specs.Queues.{chan_queue}
-use Rattle.floor_table.specs.Places.{spot, latch_line}
-use Rattle.floor_table.specs.Rule.{FloorHolds}
-use Rattle.floor_table.specs.Views.{Knowledge}
-use Rattle.floor_table.specs.declared.description.Description.{Description}
-use Rattle.floor_table.specs.declared.slot.Slot.{Slot}
-use Rattle.lock_floor.specs.Floors.{Floor, Pass}
-use Rattle.lock_floor.specs.Sleeps.{MayAddItself, AddsItself}
-use Rattle.lock_floor.specs.Waits.{chain_place}
+use Rattle.lock_floor.proofs.Names.{ℕ, refl, sym, ap, subst, Me, Allows, chan_queue, spot, latch_line, FloorHolds}
+use Rattle.lock_floor.proofs.Names.{Knowledge, Description, Slot, Floor, Pass, MayAddItself, AddsItself, chain_place}
+use Rattle.std.proofs.Common.{◌≡◌, ◌∙◌}
 use Rattle.lock_floor.proofs.AddCall.{before, its_work, call_tied, call_adds}
 use Rattle.lock_floor.proofs.AddStep.{ToldAdded, add_allowed}
 use Rattle.lock_floor.proofs.Tied.{of_floor_still}

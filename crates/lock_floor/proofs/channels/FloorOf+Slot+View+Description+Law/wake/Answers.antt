@@ -1,14 +1,7 @@
-use Rattle.std.proofs.Common.{◌≡◌, ℕ, Bool, refl, sym, ap, ◌∙◌, subst}
-use Rattle.atomic_table.specs.Table.{Me, Allows}
-use Rattle.lock_model.specs.Queues.{chan_queue}
-use Rattle.floor_table.specs.Places.{spot, latch_line}
-use Rattle.floor_table.specs.Rule.{FloorHolds}
-use Rattle.floor_table.specs.Views.{Knowledge}
-use Rattle.floor_table.specs.declared.description.Description.{Description}
-use Rattle.floor_table.specs.declared.slot.Slot.{Slot}
-use Rattle.lock_floor.specs.Floors.{Floor, Pass}
-use Rattle.lock_floor.specs.Sleeps.{MayWakeSleepers, WakesSleepers}
-use Rattle.lock_floor.specs.Waits.{chain_place}
+use Rattle.lock_floor.proofs.Names
+use Names.{ℕ, Bool, refl, sym, ap, subst, Me, Allows, chan_queue, spot, latch_line, FloorHolds, Knowledge, Description}
+use Names.{Slot, Floor, Pass, MayWakeSleepers, WakesSleepers, chain_place}
+use Rattle.std.proofs.Common.{◌≡◌, ◌∙◌}
 use Rattle.lock_floor.proofs.WakeUpCall.{before, few_bits, call_view, call_tied, call_wakes}
 use Rattle.lock_floor.proofs.WakeUpStep.{ToldWoken, wake_allowed}
 use Rattle.lock_floor.proofs.Tied.{of_floor_still}

@@ -1,11 +1,7 @@
-use Rattle.std.proofs.Common.{◌≡◌, ℕ, ◌<◌, [], ◌∷◌, ◌++◌, length, refl, sym, ap, ◌∙◌, subst, arith}
-use Rattle.lock_model.specs.Queues.{lock_queue}
-use Rattle.lock_model.specs.Words.{word_of, claimed as says_claimed}
-use Rattle.floor_table.specs.Views.{Knowledge}
-use Rattle.floor_table.specs.declared.description.Description.{Description}
-use Rattle.lock_floor.specs.Claims.{MayClaimIt, ClaimsIt, as_claimed, claimed, out_claimed}
-use Rattle.lock_floor.specs.Floors.{Floor, Pass}
-use Rattle.lock_floor.specs.Waits.{chain_place}
+use Rattle.lock_floor.proofs.Names
+use Names.{ℕ, [], length, refl, sym, ap, subst, arith, lock_queue, word_of, says_claimed, Knowledge, Description}
+use Names.{MayClaimIt, ClaimsIt, as_claimed, claimed, out_claimed, Floor, Pass, chain_place}
+use Rattle.std.proofs.Common.{◌≡◌, ◌<◌, ◌∷◌, ◌++◌, ◌∙◌}
 use Rattle.lock_floor.proofs.Looking.{may_look_inside}
 use Rattle.lock_floor.proofs.ClaimCall.{its_out, its_work}
 use Rattle.lock_floor.proofs.ClaimStep.{claim_allowed}

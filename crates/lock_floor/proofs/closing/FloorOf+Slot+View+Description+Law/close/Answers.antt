@@ -1,13 +1,7 @@
-use Rattle.std.proofs.Common.{◌≡◌, ℕ, ◌<◌, arith, None, Option, List, length, map, cond, sym, ap, ◌∙◌, subst}
-use Rattle.std.specs.List.{list_any}
-use Rattle.std.specs.Mem.Slots.{slots_items}
-use Rattle.floor_table.specs.declared.description.Description.{Description}
-use Rattle.floor_table.specs.declared.description.ThreadPart.{ThreadPart}
-use Rattle.floor_table.specs.Places.{is_cell}
-use Rattle.floor_table.specs.Views.{Knowledge}
-use Rattle.lock_floor.specs.Closings.{IsClosing}
-use Rattle.lock_floor.specs.Floors.{Floor, Keeper}
-use Rattle.lock_floor.specs.declared.closing.Closing.{Closing}
+use Rattle.lock_floor.proofs.Names
+use Names.{ℕ, arith, None, Option, List, length, map, cond, sym, ap, subst, list_any, slots_items, Description}
+use Names.{ThreadPart, is_cell, Knowledge, IsClosing, Floor, Keeper, Closing}
+use Rattle.std.proofs.Common.{◌≡◌, ◌<◌, ◌∙◌}
 use Rattle.lock_floor.proofs.Closed.{left, record_home}
 use Rattle.lock_floor.proofs.Ending.{last, cells_out, is_closing}
 use Rattle.lock_floor.proofs.closing.FloorOf+Slot+View+Description+Law.close.Goals as goal

@@ -1,11 +1,6 @@
-use Rattle.std.proofs.Common.{◌≡◌, [], ◌∷◌, refl, sym, ap, ◌∙◌, subst}
-use Rattle.atomic_table.specs.Table.{Me}
-use Rattle.floor_table.specs.declared.description.Description.{Description}
-use Rattle.floor_table.specs.declared.slot.Slot.{Slot}
-use Rattle.floor_table.specs.Steps.{MayMake, Makes}
-use Rattle.floor_table.specs.Views.{Knowledge, seeing}
-use Rattle.lock_floor.specs.Counts.{counted, counts_by}
-use Rattle.lock_floor.specs.Floors.{Floor, Pass}
+use Rattle.lock_floor.proofs.Names.{[], refl, sym, ap, subst, Me, Description, Slot, MayMake, Makes, Knowledge, seeing}
+use Rattle.lock_floor.proofs.Names.{counted, counts_by, Floor, Pass}
+use Rattle.std.proofs.Common.{◌≡◌, ◌∷◌, ◌∙◌}
 use Rattle.lock_floor.proofs.CountStep.{count_allowed, count_stays}
 use Rattle.lock_floor.proofs.Tied.{of_floor_still, tied_on}
 use Rattle.lock_floor.proofs.counts.FloorOf+Slot+View+Description+Law.count.Goals as goal

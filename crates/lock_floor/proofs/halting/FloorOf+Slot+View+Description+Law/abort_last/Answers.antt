@@ -1,11 +1,6 @@
-use Rattle.std.proofs.Common.{◌≡◌, ℕ, ◌<◌, length, refl, sym, ap, ◌∙◌, subst}
-use Rattle.lock_model.specs.Queues.{lock_queue}
-use Rattle.lock_model.specs.declared.plan.Side.{Side}
-use Rattle.floor_table.specs.Views.{Knowledge}
-use Rattle.floor_table.specs.declared.description.Description.{Description}
-use Rattle.lock_floor.specs.Halting.{MayAbortLast, AbortsLast}
-use Rattle.lock_floor.specs.Floors.{Floor, Pass}
-use Rattle.lock_floor.specs.Waits.{chain_place}
+use Rattle.lock_floor.proofs.Names.{ℕ, length, refl, sym, ap, subst, lock_queue, Side, Knowledge, Description}
+use Rattle.lock_floor.proofs.Names.{MayAbortLast, AbortsLast, Floor, Pass, chain_place}
+use Rattle.std.proofs.Common.{◌≡◌, ◌<◌, ◌∙◌}
 use Rattle.lock_floor.proofs.AbortCall.{before, call_view, call_tied, call_step}
 use Rattle.lock_floor.proofs.LastStep.{last_allowed}
 use Rattle.lock_floor.proofs.Tied.{of_floor_still}

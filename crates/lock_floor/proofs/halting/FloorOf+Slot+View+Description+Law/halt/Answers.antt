@@ -1,9 +1,5 @@
-use Rattle.std.proofs.Common.{[], ◌∷◌, sym, subst}
-use Rattle.lock_state.specs.Steps.{Halts}
-use Rattle.floor_table.specs.Steps.{MayMake}
-use Rattle.floor_table.specs.Views.{Knowledge}
-use Rattle.floor_table.specs.declared.description.Description.{Description}
-use Rattle.lock_floor.specs.Floors.{Floor, Pass}
+use Rattle.lock_floor.proofs.Names.{[], sym, subst, Halts, MayMake, Knowledge, Description, Floor, Pass}
+use Rattle.std.proofs.Common.{◌∷◌}
 use Rattle.lock_floor.proofs.HaltStep.{halt_allowed}
 use Rattle.lock_floor.proofs.halting.FloorOf+Slot+View+Description+Law.halt.Goals as goal
 

@@ -1,6 +1,4 @@
-use Rattle.std.proofs.Common.{sym, subst, arith}
-use Rattle.floor_table.specs.Descriptions.{IsSized}
-use Rattle.floor_table.proofs.Descriptions.{is_sized}
+use Rattle.lock_floor.proofs.Names.{sym, subst, arith, IsSized, is_sized}
 use Rattle.lock_floor.proofs.keeper.FloorOf+Slot+View+Description+Law.make.Goals as goal
 
 pub of_plan-requires : goal.of_plan-requires

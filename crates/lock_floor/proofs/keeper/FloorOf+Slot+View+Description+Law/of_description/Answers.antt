@@ -1,15 +1,7 @@
-use Rattle.std.proofs.Common.{rules, ◌≡◌, ℕ, List, [], None, refl, ap, sym, ◌∙◌, subst, length, map, arith}
-use Rattle.std.specs.List.{Contains}
-use Rattle.std.proofs.lemmas.List.Elements.{All-nil}
-use Rattle.atomic_table.specs.Table.{Me, opening}
-use Rattle.floor_table.specs.declared.description.Description.{Description}
-use Rattle.floor_table.specs.declared.slot.Slot.{Slot}
-use Rattle.floor_table.specs.Places.{words_for, slots_for}
-use Rattle.floor_table.specs.Rule.{FloorHolds}
-use Rattle.floor_table.specs.Shares.{Share}
-use Rattle.floor_table.specs.Views.{Knowledge, keeper}
-use Rattle.lock_floor.specs.First.{AreFirstWords}
-use Rattle.lock_floor.specs.Ties.{IsLaid, IsKept}
+use Rattle.lock_floor.proofs.Names
+use Names.{rules, ℕ, List, [], None, refl, ap, sym, subst, length, map, arith, Contains, All-nil, Me, opening}
+use Names.{Description, Slot, words_for, slots_for, FloorHolds, Share, Knowledge, keeper, AreFirstWords, IsLaid, IsKept}
+use Rattle.std.proofs.Common.{◌≡◌, ◌∙◌}
 use Rattle.lock_floor.proofs.Keeping.{opens}
 use Rattle.lock_floor.proofs.keeper.FloorOf+Slot+View+Description+Law.of_description.Goals as goal
 

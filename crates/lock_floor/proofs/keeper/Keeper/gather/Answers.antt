@@ -1,17 +1,8 @@
-use Rattle.std.proofs.Common.{◌≡◌, ℕ, ◌+◌, None, [], ◌∷◌, ◌++◌, length, map, reverse, sym, ap, ◌∙◌, subst, arith, length-append}
-use Rattle.std.proofs.lemmas.List.{length-map, map_push}
-use Rattle.std.proofs.lemmas.List.Elements.{All-nil, All-cons, All-append}
-use Rattle.atomic_table.specs.Table.{Me, Joins, Allows}
-use Rattle.lock_history.specs.Books.{Book}
-use Rattle.floor_table.specs.declared.description.Description.{Description}
-use Rattle.floor_table.specs.declared.slot.Slot.{Slot}
-use Rattle.floor_table.specs.Rule.{FloorHolds}
-use Rattle.floor_table.specs.Shares.{Share}
-use Rattle.floor_table.specs.Views.{Knowledge, nothing}
-use Rattle.lock_floor.specs.Floors.{Floor, Pass, Keeper}
-use Rattle.lock_floor.specs.Ties.{IsKept}
-use Rattle.lock_floor.specs.Views.{longer, with_pass_taken}
-use Rattle.floor_table.specs.Places.{spot, ticket_line}
+use Rattle.lock_floor.proofs.Names
+use Names.{ℕ, None, [], length, map, reverse, sym, ap, subst, arith, length-append, length-map, map_push, All-nil}
+use Names.{All-cons, All-append, Me, Joins, Allows, Book, Description, Slot, FloorHolds, Share, Knowledge, nothing}
+use Names.{Floor, Pass, Keeper, IsKept, longer, with_pass_taken, spot, ticket_line}
+use Rattle.std.proofs.Common.{◌≡◌, ◌+◌, ◌∷◌, ◌++◌, ◌∙◌}
 use Rattle.lock_floor.proofs.Joining.{Asked, joins, ask_allowed}
 use Rattle.lock_floor.proofs.keeper.Keeper.gather.Goals as goal
 use Rattle.lock_floor.proofs.keeper.Keeper.gather.Goals.{After-push_reserved-arg-1}

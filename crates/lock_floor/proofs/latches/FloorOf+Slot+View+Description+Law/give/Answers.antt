@@ -1,14 +1,6 @@
-use Rattle.std.proofs.Common.{◌≡◌, Some, [], ◌∷◌, refl, sym, ap, ◌∙◌, subst}
-use Rattle.atomic_table.specs.Table.{Me, rest}
-use Rattle.lock_state.specs.Steps.{GivesItem}
-use Rattle.lock_state.specs.Steps.Items.{Item}
-use Rattle.floor_table.specs.declared.description.Description.{Description}
-use Rattle.floor_table.specs.declared.slot.Slot.{Slot}
-use Rattle.floor_table.specs.Places.{slot_of}
-use Rattle.floor_table.specs.Steps.{MayMake, Makes}
-use Rattle.floor_table.specs.Views.{Knowledge, seeing}
-use Rattle.lock_floor.specs.Floors.{Floor, Pass}
-use Rattle.lock_floor.specs.Views.{gave}
+use Rattle.lock_floor.proofs.Names.{Some, [], refl, sym, ap, subst, Me, rest, GivesItem, Item, Description, Slot}
+use Rattle.lock_floor.proofs.Names.{slot_of, MayMake, Makes, Knowledge, seeing, Floor, Pass, gave}
+use Rattle.std.proofs.Common.{◌≡◌, ◌∷◌, ◌∙◌}
 use Rattle.lock_floor.proofs.Taking.{give_allowed}
 use Rattle.lock_floor.proofs.Tied.{of_floor_still, tied_given}
 use Rattle.lock_floor.proofs.latches.FloorOf+Slot+View+Description+Law.give.Goals as goal

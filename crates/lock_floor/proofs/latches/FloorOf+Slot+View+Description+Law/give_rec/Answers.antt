@@ -1,6 +1,5 @@
-use Rattle.std.proofs.Common.{◌≡◌, Some, sym, ap, ◌∙◌}
-use Rattle.lock_state.specs.Steps.Items.{RecordOf}
-use Rattle.floor_table.specs.Places.{slot_of}
+use Rattle.lock_floor.proofs.Names.{Some, sym, ap, RecordOf, slot_of}
+use Rattle.std.proofs.Common.{◌≡◌, ◌∙◌}
 use Rattle.lock_floor.proofs.Taking.{record_at}
 use Rattle.lock_floor.proofs.latches.FloorOf+Slot+View+Description+Law.give_rec.Goals as goal
 

@@ -1,18 +1,9 @@
-use Rattle.std.proofs.Common.{◌≡◌, ◌≢◌, ℕ, suc, eqb, eq-eqb, true, false, Some, None, [], ◌∷◌, refl, sym, ap, ◌∙◌, subst}
-use Rattle.std.proofs.lemmas.Bool.{eqb-true}
+use Rattle.lock_floor.proofs.Names
+use Names.{ℕ, suc, eqb, eq-eqb, true, false, Some, None, [], refl, sym, ap, subst, eqb-true, Me, Allows, TakesItem}
+use Names.{Item, item_with, Description, Slot, slot_of, spot, latch_line, FloorHolds, MayMake, Knowledge, seeing, Floor}
+use Names.{Pass, IsTied, FindsOut, Takes}
+use Rattle.std.proofs.Common.{◌≡◌, ◌≢◌, ◌∷◌, ◌∙◌}
 use prog.Atomic.{either}
-use Rattle.atomic_table.specs.Table.{Me, Allows}
-use Rattle.lock_state.specs.Steps.{TakesItem}
-use Rattle.lock_state.specs.Steps.Items.{Item, item_with}
-use Rattle.floor_table.specs.declared.description.Description.{Description}
-use Rattle.floor_table.specs.declared.slot.Slot.{Slot}
-use Rattle.floor_table.specs.Places.{slot_of, spot, latch_line}
-use Rattle.floor_table.specs.Rule.{FloorHolds}
-use Rattle.floor_table.specs.Steps.{MayMake}
-use Rattle.floor_table.specs.Views.{Knowledge, seeing}
-use Rattle.lock_floor.specs.Floors.{Floor, Pass}
-use Rattle.lock_floor.specs.Ties.{IsTied}
-use Rattle.lock_floor.specs.Latches.{FindsOut, Takes}
 use Rattle.lock_floor.proofs.Taking.{Taken, take_allowed}
 use Rattle.lock_floor.proofs.Tied.{of_floor_still, tied_taken}
 use Rattle.lock_floor.proofs.latches.FloorOf+Slot+View+Description+Law.try_take.Goals as goal

@@ -1,5 +1,5 @@
-use Rattle.std.proofs.Common.{Some, sym, ap, ◌∙◌}
-use Rattle.lock_state.specs.Steps.Items.{RecordOf}
+use Rattle.lock_floor.proofs.Names.{Some, sym, ap, RecordOf}
+use Rattle.std.proofs.Common.{◌∙◌}
 use Rattle.lock_floor.proofs.Taking.{record_at}
 use Rattle.lock_floor.proofs.latches.FloorOf+Slot+View+Description+Law.try_take_rec.Goals as goal
 

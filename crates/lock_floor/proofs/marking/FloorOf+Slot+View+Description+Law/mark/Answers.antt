@@ -1,11 +1,6 @@
-use Rattle.std.proofs.Common.{◌≡◌, false, refl, sym, ap, ◌∙◌, subst}
-use Rattle.atomic_table.specs.Table.{Me}
-use Rattle.floor_table.specs.Views.{Knowledge}
-use Rattle.floor_table.specs.declared.description.Description.{Description}
-use Rattle.floor_table.specs.declared.slot.Slot.{Slot}
-use Rattle.lock_objects.specs.declared.marked.Marked.{Marked}
-use Rattle.lock_floor.specs.Floors.{Floor, Pass}
-use Rattle.lock_floor.specs.Marks.{AreMarked, MarksFirst, MayMark}
+use Rattle.lock_floor.proofs.Names.{false, refl, sym, ap, subst, Me, Knowledge, Description, Slot, Marked, Floor, Pass}
+use Rattle.lock_floor.proofs.Names.{AreMarked, MarksFirst, MayMark}
+use Rattle.std.proofs.Common.{◌≡◌, ◌∙◌}
 use Rattle.lock_floor.proofs.MarkCall.{back_last, call_allowed, call_view, call_marks, call_tied}
 use Rattle.lock_floor.proofs.Tied.{of_floor_still}
 use Rattle.lock_floor.proofs.marking.FloorOf+Slot+View+Description+Law.mark.Goals as goal

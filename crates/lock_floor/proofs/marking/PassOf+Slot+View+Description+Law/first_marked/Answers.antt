@@ -1,7 +1,5 @@
-use Rattle.std.proofs.Common.{◌≡◌, ◌<◌, List, ◌∷◌, IfSome, length, subst}
-use Rattle.lock_model.specs.Queues.{Mark}
-use Rattle.floor_table.specs.Views.{Knowledge}
-use Rattle.lock_floor.specs.Floors.{Pass}
+use Rattle.lock_floor.proofs.Names.{List, IfSome, length, subst, Mark, Knowledge, Pass}
+use Rattle.std.proofs.Common.{◌≡◌, ◌<◌, ◌∷◌}
 use Rattle.lock_floor.proofs.Marked.{first_told, first_of_floor}
 use Rattle.lock_floor.proofs.marking.PassOf+Slot+View+Description+Law.first_marked.Goals as goal
 

@@ -1,14 +1,8 @@
-use Rattle.std.proofs.Common.{◌≡◌, ℕ, ◌<◌, true, length, refl, sym, ap, ◌∙◌, subst, arith}
-use Rattle.lock_model.specs.Queues.{lock_queue}
-use Rattle.lock_model.specs.Words.{word_of, is_turnstile, opened, side_woken}
-use Rattle.lock_objects.specs.declared.marked.Marked.TheVariants.{Waiters}
-use Rattle.floor_table.specs.Descriptions.{config_in}
-use Rattle.floor_table.specs.Views.{Knowledge}
-use Rattle.floor_table.specs.declared.description.Description.{Description}
-use Rattle.lock_floor.specs.Floors.{Floor, Pass}
-use Rattle.lock_floor.specs.Marks.{AreMarked}
-use Rattle.lock_floor.specs.Opens.{HasBothOut, MayOpenUp, OpensUp, marks_opened}
-use Rattle.lock_floor.specs.Waits.{chain_place}
+use Rattle.lock_floor.proofs.Names
+use Names.{ℕ, true, length, refl, sym, ap, subst, arith, lock_queue, word_of, is_turnstile, opened, side_woken, Waiters}
+use Names.{config_in, Knowledge, Description, Floor, Pass, AreMarked, HasBothOut, MayOpenUp, OpensUp, marks_opened}
+use Names.{chain_place}
+use Rattle.std.proofs.Common.{◌≡◌, ◌<◌, ◌∙◌}
 use Rattle.lock_floor.proofs.Looking.{may_look_inside}
 use Rattle.lock_floor.proofs.OpenCall.{side_told, side_out, its_work, tied_opened}
 use Rattle.lock_floor.proofs.OpenStep.{open_allowed}

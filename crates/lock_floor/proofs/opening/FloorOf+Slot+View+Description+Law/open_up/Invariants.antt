@@ -1,5 +1,4 @@
-use Rattle.lock_model.specs.Words.{word_of, side_woken}
-use Rattle.floor_table.specs.Descriptions.{config_in}
+use Rattle.lock_floor.proofs.Names.{word_of, side_woken, config_in}
 use Rattle.lock_floor.proofs.OpenStep.{Opened}
 use Rattle.lock_floor.proofs.opening.FloorOf+Slot+View+Description+Law.open_up.Given as goal
 

@@ -1,6 +1,5 @@
-use Rattle.std.proofs.Common.{◌≡◌, map, take}
-use Rattle.floor_table.specs.Descriptions.{config_in}
-use Rattle.witness_orders.specs.Graph.{numbers_of}
+use Rattle.lock_floor.proofs.Names.{map, take, config_in, numbers_of}
+use Rattle.std.proofs.Common.{◌≡◌}
 use Rattle.lock_floor.proofs.ordering.FloorOf+Slot+View+Description+Law.put_classes.Given as goal
 
 abbrev pub invariant-loop-i : goal.invariant-loop-i

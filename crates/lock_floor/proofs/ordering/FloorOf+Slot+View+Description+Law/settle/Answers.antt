@@ -1,18 +1,8 @@
-use Rattle.std.proofs.Common.{◌≡◌, ℕ, ◌<◌, List, ◌∷◌, Option, length, map, take, option_map, sym, ap, ◌∙◌, subst}
-use Rattle.std.specs.List.{All}
-use Rattle.atomic_table.specs.Table.{Me, Allows, rest}
-use Rattle.lock_model.specs.declared.event.Held.{Held}
-use Rattle.lock_model.specs.declared.numbers.ClassNo.{ClassNo}
-use Rattle.witness_orders.specs.Graph.{numbers_of}
-use Rattle.floor_table.specs.Descriptions.{config_in}
-use Rattle.floor_table.specs.Places.{spot, latch_line, graph_place}
-use Rattle.floor_table.specs.Rule.{FloorHolds}
-use Rattle.floor_table.specs.Views.{Knowledge}
-use Rattle.floor_table.specs.declared.description.Description.{Description}
-use Rattle.floor_table.specs.declared.slot.Slot.{Slot}
-use Rattle.floor_table.specs.declared.slot.Slot.TheVariants.{Graph}
-use Rattle.lock_floor.specs.Floors.{Floor, Pass}
-use Rattle.lock_floor.specs.Ordering.{MayOrder, HasGraph}
+use Rattle.lock_floor.proofs.Names
+use Names.{ℕ, List, Option, length, map, take, sym, ap, subst, All, Me, Allows, rest, Held, ClassNo, numbers_of}
+use Names.{config_in, spot, latch_line, graph_place, FloorHolds, Knowledge, Description, Slot, Graph, Floor, Pass}
+use Names.{MayOrder, HasGraph}
+use Rattle.std.proofs.Common.{◌≡◌, ◌<◌, ◌∷◌, ◌∙◌, option_map}
 use Rattle.lock_floor.proofs.OrderCall.{TellsVerdict, all_held, learns_graph, call_allowed}
 use Rattle.lock_floor.proofs.OrderStep.{SettledGraph}
 use Rattle.lock_floor.proofs.ordering.FloorOf+Slot+View+Description+Law.settle.Goals as goal

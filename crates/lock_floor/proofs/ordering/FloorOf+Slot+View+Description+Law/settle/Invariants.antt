@@ -1,4 +1,4 @@
-use Rattle.std.specs.Prelude.{option_map}
+use Rattle.lock_floor.proofs.Names.{option_map}
 use Rattle.lock_floor.proofs.OrderStep.{SettledGraph}
 use Rattle.lock_floor.proofs.ordering.FloorOf+Slot+View+Description+Law.settle.Given as goal
 

@@ -1,6 +1,4 @@
-use Rattle.std.proofs.Common.{Some, sym, ap, subst}
-use Rattle.lock_state.specs.Steps.Items.{ClassGraph}
-use Rattle.lock_floor.specs.Latches.{Takes}
+use Rattle.lock_floor.proofs.Names.{Some, sym, ap, subst, ClassGraph, Takes}
 use Rattle.lock_floor.proofs.ordering.FloorOf+Slot+View+Description+Law.try_take_graph.Goals as goal
 
 pub try_take-requires-clause-may : goal.try_take-requires-clause-may

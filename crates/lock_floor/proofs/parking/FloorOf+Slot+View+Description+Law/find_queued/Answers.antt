@@ -1,5 +1,5 @@
-use Rattle.std.proofs.Common.{◌≡◌, ◌<◌, length, ap, arith}
-use Rattle.floor_table.specs.declared.description.Description.{Description}
+use Rattle.lock_floor.proofs.Names.{length, ap, arith, Description}
+use Rattle.std.proofs.Common.{◌≡◌, ◌<◌}
 use Rattle.lock_floor.proofs.FoundQueued.{find_allowed}
 use Rattle.lock_floor.proofs.parking.FloorOf+Slot+View+Description+Law.find_queued.Goals as goal
 

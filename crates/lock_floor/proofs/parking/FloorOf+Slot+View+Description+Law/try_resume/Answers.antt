@@ -1,18 +1,8 @@
-use Rattle.std.proofs.Common.{◌≡◌, false, bit_and, inl, inr, refl, sym, ap, ◌∙◌, subst}
-use Rattle.atomic_table.specs.Table.{Me, Allows}
-use Rattle.lock_model.specs.Queues.{Cause}
-use Rattle.lock_model.specs.declared.plan.QueueName.{QueueName}
-use Rattle.lock_state.specs.State.{Woken}
-use Rattle.floor_table.specs.Descriptions.{config_in}
-use Rattle.floor_table.specs.declared.description.Description.{Description}
-use Rattle.floor_table.specs.declared.slot.Slot.{Slot}
-use Rattle.floor_table.specs.Places.{spot, wait_line}
-use Rattle.floor_table.specs.Represents.{wait_number}
-use Rattle.floor_table.specs.Rule.{FloorHolds}
-use Rattle.floor_table.specs.Views.{Knowledge, seeing}
-use Rattle.lock_floor.specs.Floors.{Floor, Pass}
-use Rattle.lock_floor.specs.Resumes.{resumed, FindsQueued, MayRunAgain, RunsAgain}
-use Rattle.lock_floor.specs.Ties.{IsTied}
+use Rattle.lock_floor.proofs.Names
+use Names.{false, bit_and, inl, inr, refl, sym, ap, subst, Me, Allows, Cause, QueueName, Woken, config_in, Description}
+use Names.{Slot, spot, wait_line, wait_number, FloorHolds, Knowledge, seeing, Floor, Pass, resumed, FindsQueued}
+use Names.{MayRunAgain, RunsAgain, IsTied}
+use Rattle.std.proofs.Common.{◌≡◌, ◌∙◌}
 use Rattle.lock_floor.proofs.Resuming.{Resumed, ResumedOff, resume_allowed}
 use Rattle.lock_floor.proofs.Tied.{tied_on}
 use Rattle.lock_floor.proofs.parking.FloorOf+Slot+View+Description+Law.try_resume.Goals as goal

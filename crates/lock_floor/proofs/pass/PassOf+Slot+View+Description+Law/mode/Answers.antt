@@ -1,9 +1,6 @@
-use Rattle.std.proofs.Common.{position, sym, ap, ◌∙◌}
-use Rattle.lock_model.proofs.HeldLocks.{held_there, none_held}
-use Rattle.lock_model.specs.Holds.{Holds}
-use Rattle.lock_model.specs.Operations.{holds_lock, hold_in}
-use Rattle.floor_table.specs.Views.{Knowledge}
-use Rattle.lock_floor.specs.Floors.{Pass}
+use Rattle.lock_floor.proofs.Names.{position, sym, ap, held_there, none_held, Holds, holds_lock, hold_in, Knowledge}
+use Rattle.lock_floor.proofs.Names.{Pass}
+use Rattle.std.proofs.Common.{◌∙◌}
 use Rattle.lock_floor.proofs.pass.PassOf+Slot+View+Description+Law.mode.Goals as goal
 
 pub returns-in-Some : goal.returns-in-Some

@@ -1,6 +1,5 @@
-use Rattle.std.proofs.Common.{Some, sym, ap, ◌∙◌}
-use Rattle.floor_table.specs.Views.{Knowledge}
-use Rattle.lock_floor.specs.Floors.{Pass}
+use Rattle.lock_floor.proofs.Names.{Some, sym, ap, Knowledge, Pass}
+use Rattle.std.proofs.Common.{◌∙◌}
 use Rattle.lock_floor.proofs.Priorities.{own_place}
 use Rattle.lock_floor.proofs.prios.FloorOf+Slot+View+Description+Law.record_slot.Goals as goal
 

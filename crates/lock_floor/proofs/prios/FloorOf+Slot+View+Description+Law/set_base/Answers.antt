@@ -1,7 +1,5 @@
-use Rattle.std.proofs.Common.{◌≤◌, sym, subst}
-use Rattle.lock_model.specs.declared.event.Event.TheVariants.{Base}
-use Rattle.lock_state.specs.Steps.Items.{RecordOf}
-use Rattle.floor_table.specs.Views.{Knowledge}
+use Rattle.lock_floor.proofs.Names.{sym, subst, Base, RecordOf, Knowledge}
+use Rattle.std.proofs.Common.{◌≤◌}
 use Rattle.lock_floor.proofs.Taking.{waits_none, waits_on}
 use Rattle.lock_floor.proofs.Tries.{entry_then, steps_then}
 use Rattle.lock_floor.proofs.prios.FloorOf+Slot+View+Description+Law.set_base.Goals as goal

@@ -1,4 +1,4 @@
-use Rattle.lock_floor.specs.Passes.{IsReady}
+use Rattle.lock_floor.proofs.Names.{IsReady}
 use Rattle.lock_floor.proofs.Taking.{HasWaited}
 use Rattle.lock_floor.proofs.prios.FloorOf+Slot+View+Description+Law.set_base.Given as goal
 

@@ -1,7 +1,5 @@
-use Rattle.std.proofs.Common.{◌≤◌, [], ◌∷◌, refl, sym, ap, subst}
-use Rattle.lock_model.specs.declared.event.Event.TheVariants.{Base}
-use Rattle.lock_state.specs.Steps.Items.{RecordOf}
-use Rattle.floor_table.specs.Views.{Knowledge}
+use Rattle.lock_floor.proofs.Names.{[], refl, sym, ap, subst, Base, RecordOf, Knowledge}
+use Rattle.std.proofs.Common.{◌≤◌, ◌∷◌}
 use Rattle.lock_floor.proofs.Priorities.{record_out, may_take_own, may_base}
 use Rattle.lock_floor.proofs.Resting.{MayGiveBack, Used, gives_changed, uses_change, taken_out}
 use Rattle.lock_floor.proofs.Tries.{ready_still}

@@ -1,11 +1,7 @@
-use Rattle.std.proofs.Common.{◌≡◌, ◌<◌, false, [], ◌∷◌, length, sym, subst}
-use Rattle.lock_model.specs.Words.{word_of, gained}
-use Rattle.lock_model.specs.declared.event.Held.{Held}
-use Rattle.lock_state.specs.Steps.{Seeks, Gains}
-use Rattle.floor_table.specs.declared.description.Description.{Description}
-use Rattle.floor_table.specs.Steps.{MayMake}
-use Rattle.floor_table.specs.Views.{Knowledge}
-use Rattle.lock_floor.specs.Floors.{Floor, Pass}
+use Rattle.lock_floor.proofs.Names.{false, [], length, sym, subst, word_of, Held, Seeks, Gains, Description, MayMake}
+use Rattle.lock_floor.proofs.Names.{Knowledge, Floor, Pass}
+use Rattle.std.proofs.Common.{◌≡◌, ◌<◌, ◌∷◌}
+use Rattle.lock_model.specs.Words.{gained}
 use Rattle.lock_floor.proofs.Looking.{may_look_inside}
 use Rattle.lock_floor.proofs.Beginning.{first_allowed}
 use Rattle.lock_floor.proofs.rounds.FloorOf+Slot+View+Description+Law.gain_first.Goals as goal

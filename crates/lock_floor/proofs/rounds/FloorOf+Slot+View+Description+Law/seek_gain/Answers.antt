@@ -1,10 +1,7 @@
-use Rattle.std.proofs.Common.{◌≡◌, ◌<◌, true, [], ◌∷◌, length, sym, ap, ◌∙◌, subst}
-use Rattle.lock_model.specs.Words.{word_of, gained}
-use Rattle.lock_state.specs.Steps.{Seeks, Looks, Gains}
-use Rattle.floor_table.specs.declared.description.Description.{Description}
-use Rattle.floor_table.specs.Steps.{MayMake}
-use Rattle.floor_table.specs.Views.{Knowledge}
-use Rattle.lock_floor.specs.Floors.{Floor, Pass}
+use Rattle.lock_floor.proofs.Names.{true, [], length, sym, ap, subst, word_of, Seeks, Looks, Gains, Description}
+use Rattle.lock_floor.proofs.Names.{MayMake, Knowledge, Floor, Pass}
+use Rattle.std.proofs.Common.{◌≡◌, ◌<◌, ◌∷◌, ◌∙◌}
+use Rattle.lock_model.specs.Words.{gained}
 use Rattle.lock_floor.proofs.Beginning.{sought_allowed}
 use Rattle.lock_floor.proofs.rounds.FloorOf+Slot+View+Description+Law.seek_gain.Goals as goal
 

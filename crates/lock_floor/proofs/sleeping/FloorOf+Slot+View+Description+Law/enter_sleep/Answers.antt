@@ -1,15 +1,7 @@
-use Rattle.std.proofs.Common.{◌≡◌, ℕ, ◌<◌, length, refl, sym, ap, ◌∙◌, subst}
-use Rattle.atomic_table.specs.Table.{Me}
-use Rattle.lock_model.specs.Queues.{lock_queue}
-use Rattle.lock_model.specs.Words.{Word, word_of}
-use Rattle.lock_model.specs.declared.plan.Mode.{Mode}
-use Rattle.floor_table.specs.Views.{Knowledge, seeing}
-use Rattle.floor_table.specs.declared.description.Description.{Description}
-use Rattle.floor_table.specs.declared.slot.Slot.{Slot}
-use Rattle.lock_floor.specs.Floors.{Floor, Pass}
-use Rattle.lock_floor.specs.SleepLocks.{MayEnterAsleep, EntersAsleep}
-use Rattle.lock_floor.specs.Views.{looked}
-use Rattle.lock_floor.specs.Waits.{chain_place}
+use Rattle.lock_floor.proofs.Names
+use Names.{ℕ, length, refl, sym, ap, subst, Me, lock_queue, Word, word_of, Mode, Knowledge, seeing, Description, Slot}
+use Names.{Floor, Pass, MayEnterAsleep, EntersAsleep, looked, chain_place}
+use Rattle.std.proofs.Common.{◌≡◌, ◌<◌, ◌∙◌}
 use Rattle.lock_floor.proofs.Looking.{Looked, may_look_inside, look_outside}
 use Rattle.lock_floor.proofs.SleepEnterCall.{before, its_work, call_tied, call_enters}
 use Rattle.lock_floor.proofs.SleepEnterStep.{enter_allowed}

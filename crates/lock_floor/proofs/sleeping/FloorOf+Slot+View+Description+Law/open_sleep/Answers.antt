@@ -1,16 +1,8 @@
-use Rattle.std.proofs.Common.{◌≡◌, ℕ, ◌<◌, false, length, refl, sym, ap, ◌∙◌, subst, arith}
-use Rattle.atomic_table.specs.Table.{Me}
-use Rattle.lock_model.specs.Queues.{lock_queue}
-use Rattle.lock_model.specs.Words.{Word, word_of, is_turnstile, opened, side_woken}
-use Rattle.lock_model.specs.declared.plan.Kind.TheVariants.{Sx}
-use Rattle.floor_table.specs.Descriptions.{config_in}
-use Rattle.floor_table.specs.Views.{Knowledge, seeing}
-use Rattle.floor_table.specs.declared.description.Description.{Description}
-use Rattle.floor_table.specs.declared.slot.Slot.{Slot}
-use Rattle.lock_floor.specs.Floors.{Floor, Pass}
-use Rattle.lock_floor.specs.SleepLocks.{MayOpenSleepers, OpensSleepers}
-use Rattle.lock_floor.specs.Views.{looked}
-use Rattle.lock_floor.specs.Waits.{chain_place}
+use Rattle.lock_floor.proofs.Names
+use Names.{ℕ, false, length, refl, sym, ap, subst, arith, Me, lock_queue, Word, word_of, is_turnstile, opened}
+use Names.{side_woken, Sx, config_in, Knowledge, seeing, Description, Slot, Floor, Pass, MayOpenSleepers, OpensSleepers}
+use Names.{looked, chain_place}
+use Rattle.std.proofs.Common.{◌≡◌, ◌<◌, ◌∙◌}
 use Rattle.lock_floor.proofs.Looking.{Looked, may_look_inside, look_outside}
 use Rattle.lock_floor.proofs.OpenCall.{side_told}
 use Rattle.lock_floor.proofs.SleepOpenCall.{before, call_view, call_tied, call_opens}

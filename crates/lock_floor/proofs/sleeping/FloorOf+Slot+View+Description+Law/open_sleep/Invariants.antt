@@ -1,5 +1,4 @@
-use Rattle.lock_model.specs.Words.{word_of, side_woken}
-use Rattle.floor_table.specs.Descriptions.{config_in}
+use Rattle.lock_floor.proofs.Names.{word_of, side_woken, config_in}
 use Rattle.lock_floor.proofs.SleepOpenStep.{ToldOpened}
 use Rattle.lock_floor.proofs.sleeping.FloorOf+Slot+View+Description+Law.open_sleep.Given as goal
 

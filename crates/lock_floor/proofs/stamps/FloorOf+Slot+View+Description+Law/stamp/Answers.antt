@@ -1,15 +1,7 @@
-use Rattle.std.proofs.Common.{ℕ, ◌≤◌, [], ◌∷◌, sym, ap, ◌∙◌, subst}
-use Rattle.lock_model.specs.declared.event.Entry.{Entry}
-use Rattle.lock_state.specs.Steps.{Stamps}
-use Rattle.floor_table.specs.declared.description.Description.{Description}
-use Rattle.floor_table.specs.Steps.{MayMake}
-use Rattle.atomic_table.specs.Table.{Me}
-use Rattle.floor_table.specs.Descriptions.{config_in}
-use Rattle.floor_table.specs.declared.slot.Slot.{Slot}
-use Rattle.floor_table.specs.Views.{Knowledge, seeing}
-use Rattle.lock_floor.specs.Views.{entry_by, stamped}
+use Rattle.lock_floor.proofs.Names.{ℕ, [], sym, ap, subst, Entry, Stamps, Description, MayMake, Me, config_in, Slot}
+use Rattle.lock_floor.proofs.Names.{Knowledge, seeing, entry_by, stamped, Floor, Pass}
+use Rattle.std.proofs.Common.{◌≤◌, ◌∷◌, ◌∙◌}
 use Rattle.lock_floor.proofs.Tied.{tied_stamped}
-use Rattle.lock_floor.specs.Floors.{Floor, Pass}
 use Rattle.lock_floor.proofs.Stamping.{stamp_allowed}
 use Rattle.lock_floor.proofs.stamps.FloorOf+Slot+View+Description+Law.stamp.Goals as goal
 

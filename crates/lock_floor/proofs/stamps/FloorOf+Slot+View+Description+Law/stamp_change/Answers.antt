@@ -1,18 +1,8 @@
-use Rattle.std.proofs.Common.{ℕ, ◌≡◌, ◌≤◌, Some, [], ◌∷◌, sym, ap, ◌∙◌, subst}
-use Rattle.atomic_table.specs.Table.{Me, rest}
-use Rattle.lock_model.specs.declared.event.Entry.{Entry}
-use Rattle.lock_state.specs.Steps.{Stamps}
-use Rattle.lock_state.specs.Steps.Items.{Item}
-use Rattle.floor_table.specs.declared.description.Description.{Description}
-use Rattle.floor_table.specs.declared.slot.Slot.{Slot}
-use Rattle.floor_table.specs.Places.{slot_of}
-use Rattle.floor_table.specs.Steps.{MayMake}
-use Rattle.floor_table.specs.Views.{Knowledge, OfThread, seeing}
-use Rattle.floor_table.specs.Descriptions.{config_in}
-use Rattle.lock_floor.specs.Views.{entry_by, stamped}
+use Rattle.lock_floor.proofs.Names
+use Names.{ℕ, Some, [], sym, ap, subst, Me, rest, Entry, Stamps, Item, Description, Slot, slot_of, MayMake, Knowledge}
+use Names.{OfThread, seeing, config_in, entry_by, stamped, IsChangeOf, last_changed, Floor, Pass}
+use Rattle.std.proofs.Common.{◌≡◌, ◌≤◌, ◌∷◌, ◌∙◌}
 use Rattle.lock_floor.proofs.Tied.{tied_stamped}
-use Rattle.lock_floor.specs.Changes.{IsChangeOf, last_changed}
-use Rattle.lock_floor.specs.Floors.{Floor, Pass}
 use Rattle.lock_floor.proofs.Changing.{change_allowed}
 use Rattle.lock_floor.proofs.stamps.FloorOf+Slot+View+Description+Law.stamp_change.Goals as goal
 

@@ -1,10 +1,7 @@
-use Rattle.std.proofs.Common.{◌≡◌, ◌<◌, [], ◌∷◌, length, sym, subst}
-use Rattle.lock_model.specs.Words.{word_of, gained}
-use Rattle.lock_state.specs.Steps.{Gains}
-use Rattle.floor_table.specs.declared.description.Description.{Description}
-use Rattle.floor_table.specs.Steps.{MayMake}
-use Rattle.floor_table.specs.Views.{Knowledge}
-use Rattle.lock_floor.specs.Floors.{Floor, Pass}
+use Rattle.lock_floor.proofs.Names.{[], length, sym, subst, word_of, Gains, Description, MayMake, Knowledge, Floor}
+use Rattle.lock_floor.proofs.Names.{Pass}
+use Rattle.std.proofs.Common.{◌≡◌, ◌<◌, ◌∷◌}
+use Rattle.lock_model.specs.Words.{gained}
 use Rattle.lock_floor.proofs.Looking.{may_look_inside}
 use Rattle.lock_floor.proofs.Gaining.{gain_allowed}
 use Rattle.lock_floor.proofs.steps.FloorOf+Slot+View+Description+Law.gain.Goals as goal

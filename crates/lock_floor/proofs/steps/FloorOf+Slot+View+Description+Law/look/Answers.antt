@@ -1,10 +1,5 @@
-use Rattle.std.proofs.Common.{◌<◌, [], ◌∷◌, length, sym, subst}
-use Rattle.lock_state.specs.Steps.{Looks}
-use Rattle.floor_table.specs.declared.description.Description.{Description}
-use Rattle.floor_table.specs.Steps.{MayMake}
-use Rattle.floor_table.specs.Views.{Knowledge}
-use Rattle.lock_floor.specs.Floors.{Floor, Pass}
-use Rattle.lock_floor.specs.Views.{counts}
+use Rattle.lock_floor.proofs.Names.{[], length, sym, subst, Looks, Description, MayMake, Knowledge, Floor, Pass, counts}
+use Rattle.std.proofs.Common.{◌<◌, ◌∷◌}
 use Rattle.lock_floor.proofs.Looking.{look_allowed}
 use Rattle.lock_floor.proofs.steps.FloorOf+Slot+View+Description+Law.look.Goals as goal
 

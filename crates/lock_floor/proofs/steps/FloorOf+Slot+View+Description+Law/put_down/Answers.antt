@@ -1,10 +1,6 @@
-use Rattle.std.proofs.Common.{◌≡◌, ◌<◌, [], ◌∷◌, length, sym, subst, arith}
-use Rattle.lock_model.specs.Words.{word_of}
-use Rattle.lock_state.specs.Steps.{Drops}
-use Rattle.floor_table.specs.declared.description.Description.{Description}
-use Rattle.floor_table.specs.Steps.{MayMake}
-use Rattle.floor_table.specs.Views.{Knowledge}
-use Rattle.lock_floor.specs.Floors.{Floor, Pass}
+use Rattle.lock_floor.proofs.Names.{[], length, sym, subst, arith, word_of, Drops, Description, MayMake, Knowledge}
+use Rattle.lock_floor.proofs.Names.{Floor, Pass}
+use Rattle.std.proofs.Common.{◌≡◌, ◌<◌, ◌∷◌}
 use Rattle.lock_floor.proofs.Looking.{may_look_inside}
 use Rattle.lock_floor.proofs.Gaining.{drop_allowed}
 use Rattle.lock_floor.proofs.Tied.{tied_without}

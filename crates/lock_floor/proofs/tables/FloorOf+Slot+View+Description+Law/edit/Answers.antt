@@ -1,12 +1,6 @@
-use Rattle.std.proofs.Common.{◌≡◌, ℕ, sym, subst}
-use Rattle.lock_model.specs.Holds.{Holds}
-use Rattle.lock_model.specs.Operations.{hold_in}
-use Rattle.lock_model.specs.declared.numbers.LockNo.{LockNo}
-use Rattle.lock_model.specs.declared.plan.Mode.TheVariants.{Excl}
-use Rattle.lock_state.specs.Steps.Items.{CellOf}
-use Rattle.floor_table.specs.Steps.{MakesEach}
-use Rattle.lock_floor.specs.Changes.{event_of}
-use Rattle.lock_floor.specs.Passes.{MakesEntry, with_item}
+use Rattle.lock_floor.proofs.Names.{ℕ, sym, subst, Holds, hold_in, LockNo, Excl, CellOf, MakesEach, event_of}
+use Rattle.lock_floor.proofs.Names.{MakesEntry, with_item}
+use Rattle.std.proofs.Common.{◌≡◌}
 use Rattle.lock_floor.proofs.tables.FloorOf+Slot+View+Description+Law.edit.Goals as goal
 
 pub edit_cell-requires-clause-cell : goal.edit_cell-requires-clause-cell

@@ -1,10 +1,5 @@
-use Rattle.std.proofs.Common.{◌≡◌, ◌≤◌, sym, subst}
-use Rattle.lock_model.specs.Holds.{Holds}
-use Rattle.lock_model.specs.Operations.{hold_in}
-use Rattle.lock_model.specs.declared.plan.Mode.TheVariants.{Excl}
-use Rattle.lock_state.specs.Steps.Items.{CellOf}
-use Rattle.floor_table.specs.Views.{Knowledge}
-use Rattle.lock_floor.specs.Changes.{event_of}
+use Rattle.lock_floor.proofs.Names.{sym, subst, Holds, hold_in, Excl, CellOf, Knowledge, event_of}
+use Rattle.std.proofs.Common.{◌≡◌, ◌≤◌}
 use Rattle.lock_floor.proofs.Taking.{waits_none, waits_on}
 use Rattle.lock_floor.proofs.Tries.{entry_then, steps_then}
 use Rattle.lock_floor.proofs.tables.FloorOf+Slot+View+Description+Law.edit_cell.Goals as goal

@@ -1,9 +1,6 @@
-use Rattle.std.proofs.Common.{◌+◌, ℕ, List, length, Some, Result, Ok, Err, refl, sym, ap, ◌∙◌, subst}
-use Rattle.std.specs.List.Sorted.{IsSearchInRange, IsBinarySearchResult}
-use Rattle.lock_model.specs.History.{place_cmp}
-use Rattle.floor_table.specs.Descriptions.{IsSized}
-use Rattle.floor_table.specs.declared.description.Description.{Description}
-use Rattle.lock_floor.specs.Floors.{Floor}
+use Rattle.lock_floor.proofs.Names.{ℕ, List, length, Some, Result, Ok, Err, refl, sym, ap, subst, IsSearchInRange}
+use Rattle.lock_floor.proofs.Names.{IsBinarySearchResult, place_cmp, IsSized, Description, Floor}
+use Rattle.std.proofs.Common.{◌+◌, ◌∙◌}
 use Rattle.lock_floor.proofs.Searching.{named_at, searched}
 use Rattle.lock_floor.proofs.tables.FloorOf+Slot+View+Description+Law.find_cell.Goals as goal
 

@@ -1,7 +1,5 @@
-use Rattle.std.proofs.Common.{◌≡◌, ℕ, ◌-◌, ◌<◌, List, length, get_or, ap, ◌∙◌, subst, arith}
-use Rattle.floor_table.specs.Descriptions.{IsSized}
-use Rattle.floor_table.specs.declared.description.Description.{Description}
-use Rattle.lock_floor.specs.Floors.{Floor}
+use Rattle.lock_floor.proofs.Names.{ℕ, List, length, get_or, ap, subst, arith, IsSized, Description, Floor}
+use Rattle.std.proofs.Common.{◌≡◌, ◌-◌, ◌<◌, ◌∙◌}
 use Rattle.lock_floor.proofs.OwnCells.{by_key, by_lock}
 use Rattle.lock_floor.proofs.tables.FloorOf+Slot+View+Description+Law.has_cell.Goals as goal
 

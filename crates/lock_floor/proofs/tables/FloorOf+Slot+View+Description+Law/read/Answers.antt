@@ -1,11 +1,6 @@
-use Rattle.std.proofs.Common.{◌≢◌, ℕ, sym, subst}
-use Rattle.lock_model.specs.Holds.{NotHeld}
-use Rattle.lock_model.specs.Operations.{hold_in}
-use Rattle.lock_model.specs.declared.event.Event.TheVariants.{Got}
-use Rattle.lock_model.specs.declared.numbers.LockNo.{LockNo}
-use Rattle.lock_state.specs.Steps.Items.{CellOf}
-use Rattle.floor_table.specs.Steps.{MakesEach}
-use Rattle.lock_floor.specs.Passes.{MakesEntry, with_item}
+use Rattle.lock_floor.proofs.Names.{ℕ, sym, subst, NotHeld, hold_in, Got, LockNo, CellOf, MakesEach, MakesEntry}
+use Rattle.lock_floor.proofs.Names.{with_item}
+use Rattle.std.proofs.Common.{◌≢◌}
 use Rattle.lock_floor.proofs.tables.FloorOf+Slot+View+Description+Law.read.Goals as goal
 
 pub read_cell-requires-clause-cell : goal.read_cell-requires-clause-cell

@@ -1,9 +1,5 @@
-use Rattle.std.proofs.Common.{◌≢◌, ◌≤◌, sym, subst}
-use Rattle.lock_model.specs.Holds.{NotHeld}
-use Rattle.lock_model.specs.Operations.{hold_in}
-use Rattle.lock_model.specs.declared.event.Event.TheVariants.{Got}
-use Rattle.lock_state.specs.Steps.Items.{CellOf}
-use Rattle.floor_table.specs.Views.{Knowledge}
+use Rattle.lock_floor.proofs.Names.{sym, subst, NotHeld, hold_in, Got, CellOf, Knowledge}
+use Rattle.std.proofs.Common.{◌≢◌, ◌≤◌}
 use Rattle.lock_floor.proofs.Taking.{waits_none, waits_on}
 use Rattle.lock_floor.proofs.Tries.{entry_then, steps_then}
 use Rattle.lock_floor.proofs.tables.FloorOf+Slot+View+Description+Law.read_cell.Goals as goal

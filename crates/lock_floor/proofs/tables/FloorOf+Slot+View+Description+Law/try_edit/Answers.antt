@@ -1,15 +1,7 @@
-use Rattle.std.proofs.Common.{◌≡◌, ◌≢◌, ◌≤◌, [], ◌∷◌, refl, sym, ◌∙◌, subst}
-use Rattle.lock_model.specs.Holds.{NotHeld, Holds}
-use Rattle.lock_model.specs.Operations.{hold_in}
-use Rattle.lock_model.specs.declared.event.Event.{Event}
-use Rattle.lock_model.specs.declared.plan.Mode.TheVariants.{Excl}
-use Rattle.lock_state.specs.Steps.{Stamps}
-use Rattle.lock_state.specs.Steps.Items.{CellOf}
-use Rattle.floor_table.specs.Descriptions.{config_in}
-use Rattle.floor_table.specs.Steps.{MayMake, Makes}
-use Rattle.floor_table.specs.Views.{Knowledge, seeing}
-use Rattle.lock_floor.specs.Changes.{event_of, IsChangeOf, stamped_change}
-use Rattle.lock_floor.specs.Views.{entry_by}
+use Rattle.lock_floor.proofs.Names
+use Names.{[], refl, sym, subst, NotHeld, Holds, hold_in, Event, Excl, Stamps, CellOf, config_in, MayMake, Makes}
+use Names.{Knowledge, seeing, event_of, IsChangeOf, stamped_change, entry_by}
+use Rattle.std.proofs.Common.{◌≡◌, ◌≢◌, ◌≤◌, ◌∷◌, ◌∙◌}
 use Rattle.lock_floor.proofs.AboutCells.{change_of, change_is_quiet, may_take_cell, may_change}
 use Rattle.lock_floor.proofs.Resting.{MayGiveBack, Used, gives_changed, uses_change, taken_out}
 use Rattle.lock_floor.proofs.Tries.{ready_still}

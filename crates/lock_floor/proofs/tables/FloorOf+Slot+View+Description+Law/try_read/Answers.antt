@@ -1,11 +1,5 @@
-use Rattle.std.proofs.Common.{◌≤◌, [], ◌∷◌, refl, sym, ap, ◌∙◌, subst}
-use Rattle.lock_model.specs.declared.event.Event.TheVariants.{Got}
-use Rattle.lock_state.specs.Steps.{Stamps}
-use Rattle.lock_state.specs.Steps.Items.{CellOf}
-use Rattle.floor_table.specs.Steps.{MayMake}
-use Rattle.floor_table.specs.Views.{Knowledge}
-use Rattle.lock_floor.specs.Floors.{Pass}
-use Rattle.lock_floor.specs.Latches.{Takes}
+use Rattle.lock_floor.proofs.Names.{[], refl, sym, ap, subst, Got, Stamps, CellOf, MayMake, Knowledge, Pass, Takes}
+use Rattle.std.proofs.Common.{◌≤◌, ◌∷◌, ◌∙◌}
 use Rattle.lock_floor.proofs.AboutCells.{may_take_cell, may_tell, cell_out}
 use Rattle.lock_floor.proofs.Resting.{MayGiveBack, Used, gives_back, uses}
 use Rattle.lock_floor.proofs.Tries.{ready_still}

@@ -1,24 +1,9 @@
-use Rattle.std.proofs.Common.{◌≡◌, ℕ, ◌<◌, Option, Some, is_some, [], ◌∷◌, List, length, refl, sym, ap, ◌∙◌, subst}
-use Rattle.std.specs.Box.{with_value}
-use Rattle.std.specs.declared.alloc.Global.{Global}
-use Rattle.std.specs.declared.boxed.Box.{Box}
-use Rattle.atomic_table.specs.Table.{Me}
-use Rattle.lock_model.specs.Words.{word_of, owner_of}
-use Rattle.floor_table.specs.declared.description.Description.{Description}
-use Rattle.lock_model.specs.declared.plan.QueueName.{QueueName}
-use Rattle.lock_model.specs.Queues.{lock_queue, side_of}
-use Rattle.lock_objects.specs.Enters.{waiter_of, record_entered, chain_entered}
-use Rattle.lock_state.specs.Steps.{Enters}
-use Rattle.thread_records.specs.declared.record.ThreadRec.{ThreadRec}
-use Rattle.turnstile_core.specs.Seen.{Turnstile}
-use Rattle.floor_table.specs.declared.slot.Slot.{Slot}
-use Rattle.floor_table.specs.Steps.{Makes}
-use Rattle.floor_table.specs.Views.{Knowledge, seeing}
-use Rattle.lock_floor.specs.Floors.{Floor, Pass}
-use Rattle.lock_floor.specs.Views.{looked}
-use Rattle.lock_floor.specs.Waits.{chain_place, both_out, out_entered, entered}
-use Rattle.lock_model.specs.declared.plan.Mode.{Mode}
-use Rattle.floor_table.specs.declared.slot.Slot.TheVariants.{Record, Turnstiles}
+use Rattle.lock_floor.proofs.Names
+use Names.{ℕ, Option, Some, is_some, [], List, length, refl, sym, ap, subst, with_value, Global, Box, Me, word_of}
+use Names.{owner_of, Description, QueueName, lock_queue, side_of, waiter_of, record_entered, chain_entered, Enters}
+use Names.{ThreadRec, Turnstile, Slot, Makes, Knowledge, seeing, Floor, Pass, looked, chain_place, both_out}
+use Names.{out_entered, entered, Mode, Record, Turnstiles}
+use Rattle.std.proofs.Common.{◌≡◌, ◌<◌, ◌∷◌, ◌∙◌}
 use Rattle.lock_floor.proofs.BothChanged.{Worked, out_before, worked}
 use Rattle.lock_floor.proofs.Looking.{Looked, may_look_inside, look_outside}
 use Rattle.lock_floor.proofs.Entering.{Need, enter_any, told_missed, told_entered}

@@ -1,13 +1,6 @@
-use Rattle.std.proofs.Common.{◌≡◌, cond, [], ◌∷◌, refl, sym, ap, ◌∙◌, subst}
-use Rattle.atomic_table.specs.Table.{Me, Allows}
-use Rattle.floor_table.specs.declared.description.Description.{Description}
-use Rattle.floor_table.specs.declared.slot.Slot.{Slot}
-use Rattle.floor_table.specs.Places.{spot, wait_line}
-use Rattle.floor_table.specs.Rule.{FloorHolds}
-use Rattle.floor_table.specs.Steps.{MayMake, Makes}
-use Rattle.floor_table.specs.Views.{Knowledge, seeing}
-use Rattle.lock_floor.specs.Floors.{Floor, Pass}
-use Rattle.lock_floor.specs.Waits.{readies, readied}
+use Rattle.lock_floor.proofs.Names.{cond, [], refl, sym, ap, subst, Me, Allows, Description, Slot, spot, wait_line}
+use Rattle.lock_floor.proofs.Names.{FloorHolds, MayMake, Makes, Knowledge, seeing, Floor, Pass, readies, readied}
+use Rattle.std.proofs.Common.{◌≡◌, ◌∷◌, ◌∙◌}
 use Rattle.lock_floor.proofs.Readying.{Readied, ready_allowed, ready_stays}
 use Rattle.lock_floor.proofs.Tied.{of_floor_still, tied_on}
 use Rattle.lock_floor.proofs.waits.FloorOf+Slot+View+Description+Law.ready.Goals as goal

@@ -1,15 +1,7 @@
-use Rattle.std.proofs.Common.{◌≡◌, false, [], ◌∷◌, refl, sym, ap, ◌∙◌, subst}
-use Rattle.atomic_table.specs.Table.{Me, Allows}
-use Rattle.lock_state.specs.State.{NoWalk}
-use Rattle.lock_state.specs.Steps.{EndsWalk}
-use Rattle.floor_table.specs.declared.description.Description.{Description}
-use Rattle.floor_table.specs.declared.slot.Slot.{Slot}
-use Rattle.floor_table.specs.Places.{spot, latch_line}
-use Rattle.floor_table.specs.Rule.{FloorHolds}
-use Rattle.floor_table.specs.Steps.{MayMake, Makes}
-use Rattle.floor_table.specs.Views.{Knowledge, seeing}
-use Rattle.lock_floor.specs.Floors.{Floor, Pass}
-use Rattle.lock_floor.specs.Walks.{hopped, turnstiles_place}
+use Rattle.lock_floor.proofs.Names
+use Names.{false, [], refl, sym, ap, subst, Me, Allows, NoWalk, EndsWalk, Description, Slot, spot, latch_line}
+use Names.{FloorHolds, MayMake, Makes, Knowledge, seeing, Floor, Pass, hopped, turnstiles_place}
+use Rattle.std.proofs.Common.{◌≡◌, ◌∷◌, ◌∙◌}
 use Rattle.lock_floor.proofs.WalkCall.{call_view, call_step, call_tied}
 use Rattle.lock_floor.proofs.WalkEnd.{Ended, end_allowed}
 use Rattle.lock_floor.proofs.WalkStep.{Hopped}

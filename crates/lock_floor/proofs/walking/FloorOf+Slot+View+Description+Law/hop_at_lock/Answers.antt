@@ -1,4 +1,4 @@
-use Rattle.lock_objects.specs.Represents.{walk_of}
+use Rattle.lock_floor.proofs.Names.{walk_of}
 use Rattle.lock_floor.proofs.WalkAtLock.{low, may_take, not_taken, found_out, may_lend_to, lent_last, lent_may_give, then_last, then_may_give, lent_hop, may_end_here, end_last, end_may_give, end_hop}
 use Rattle.lock_floor.proofs.WalkHops.{chain_last_out}
 use Rattle.lock_floor.proofs.walking.FloorOf+Slot+View+Description+Law.hop_at_lock.Goals as goal

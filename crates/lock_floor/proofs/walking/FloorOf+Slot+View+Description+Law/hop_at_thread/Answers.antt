@@ -1,6 +1,5 @@
-use Rattle.std.proofs.Common.{◌≡◌, refl, sym, subst}
-use Rattle.lock_objects.specs.Represents.{walk_of}
-use Rattle.lock_floor.specs.Walks.{IsHopTo, IsStepAtThread, IsOnFloor, turnstiles}
+use Rattle.lock_floor.proofs.Names.{refl, sym, subst, walk_of, IsHopTo, IsStepAtThread, IsOnFloor, turnstiles}
+use Rattle.std.proofs.Common.{◌≡◌}
 use Rattle.lock_floor.proofs.WalkHops.{chain_at_slot, may_take_it, may_sort_it, record_last, may_give_it, chain_last, may_give_back, hop_of, sort_hop, b_thread}
 use Rattle.lock_floor.proofs.walking.FloorOf+Slot+View+Description+Law.hop_at_thread.Goals as goal
 

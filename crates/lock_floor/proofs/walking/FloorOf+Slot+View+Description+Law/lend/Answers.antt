@@ -1,12 +1,6 @@
-use Rattle.std.proofs.Common.{◌≡◌, ℕ, false, refl, sym, ap, ◌∙◌, subst}
-use Rattle.atomic_table.specs.Table.{Me}
-use Rattle.lock_objects.specs.Represents.{walk_of}
-use Rattle.lock_state.specs.Steps.{Lends}
-use Rattle.floor_table.specs.declared.description.Description.{Description}
-use Rattle.floor_table.specs.declared.slot.Slot.{Slot}
-use Rattle.floor_table.specs.Views.{Knowledge}
-use Rattle.lock_floor.specs.Floors.{Floor, Pass}
-use Rattle.lock_floor.specs.Walks.{MayLendTo, StepsInHop, turnstiles_place}
+use Rattle.lock_floor.proofs.Names.{ℕ, false, refl, sym, ap, subst, Me, walk_of, Lends, Description, Slot, Knowledge}
+use Rattle.lock_floor.proofs.Names.{Floor, Pass, MayLendTo, StepsInHop, turnstiles_place}
+use Rattle.std.proofs.Common.{◌≡◌, ◌∙◌}
 use Rattle.lock_floor.proofs.WalkCall.{call_view, call_tied, call_in_hop}
 use Rattle.lock_floor.proofs.WalkStep.{Hopped}
 use Rattle.lock_floor.proofs.WalkWork.{LentOut, lend_before, lend_made_out, lend_may}

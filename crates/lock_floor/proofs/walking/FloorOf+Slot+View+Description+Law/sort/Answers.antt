@@ -1,13 +1,6 @@
-use Rattle.std.proofs.Common.{◌≡◌, ℕ, false, refl, sym, ap, ◌∙◌, subst, inl, inr}
-use Rattle.atomic_table.specs.Table.{Me}
-use Rattle.lock_objects.specs.Represents.{walk_of}
-use Rattle.lock_state.specs.State.{NoWalk}
-use Rattle.lock_state.specs.Steps.{Shifts, EndsWalk}
-use Rattle.floor_table.specs.declared.description.Description.{Description}
-use Rattle.floor_table.specs.declared.slot.Slot.{Slot}
-use Rattle.floor_table.specs.Views.{Knowledge}
-use Rattle.lock_floor.specs.Floors.{Floor, Pass}
-use Rattle.lock_floor.specs.Walks.{MaySort, StepsInHop, turnstiles_place}
+use Rattle.lock_floor.proofs.Names.{ℕ, false, refl, sym, ap, subst, inl, inr, Me, walk_of, NoWalk, Shifts, EndsWalk}
+use Rattle.lock_floor.proofs.Names.{Description, Slot, Knowledge, Floor, Pass, MaySort, StepsInHop, turnstiles_place}
+use Rattle.std.proofs.Common.{◌≡◌, ◌∙◌}
 use Rattle.lock_floor.proofs.WalkCall.{call_view, call_tied, call_in_hop}
 use Rattle.lock_floor.proofs.WalkStep.{Hopped}
 use Rattle.lock_floor.proofs.WalkWork.{SortedOut, UnsortedOut, sort_before, sorted_out, unsorted_out, shift_may, end_may}

@@ -1,4 +1,4 @@
-use Rattle.lock_floor.specs.Walks.{turnstiles}
+use Rattle.lock_floor.proofs.Names.{turnstiles}
 use Rattle.lock_floor.proofs.WalkHops.{chain_at_slot, taken_there, may_take_there, has_turnstiles}
 use Rattle.lock_floor.proofs.walking.FloorOf+Slot+View+Description+Law.try_take_turnstiles.Goals as goal
 

@@ -1,9 +1,4 @@
-use Rattle.std.proofs.Common.{refl, sym, subst, IsSome}
-use Rattle.lock_model.specs.Queues.{chan_queue}
-use Rattle.lock_model.specs.declared.plan.Side.TheVariants.{X}
-use Rattle.chain_table.specs.Chains.{head_of}
-use Rattle.thread_records.specs.Records.{Record}
-use Rattle.lock_objects.specs.Enters.{CanStand}
+use Rattle.step_machine.proofs.Names.{refl, sym, subst, IsSome, chan_queue, X, head_of, Record, CanStand}
 use Rattle.step_machine.proofs.Kit.{aside_stays, read}
 use Rattle.step_machine.proofs.Blocking.{FallsAsleep, RecordFallsAsleep, add_asks, stands_added}
 use Rattle.step_machine.proofs.machine.Machine.add.Goals as goal

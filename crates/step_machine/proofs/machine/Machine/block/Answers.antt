@@ -1,14 +1,8 @@
-use Rattle.std.proofs.Common.{refl, sym, ap, subst, ◌∙◌, IsSome}
-use Rattle.lock_model.specs.Words.{entered, owner_of, is_free, is_turnstile}
-use Rattle.lock_model.specs.Queues.{lock_queue, side_of}
-use Rattle.lock_model.specs.declared.plan.Side.{Side}
-use Rattle.lock_state.specs.Steps.{May}
-use Rattle.lock_state.specs.Steps.LockWords.{after_ready}
-use Rattle.chain_table.specs.Chains.{head_of}
+use Rattle.step_machine.proofs.Names
+use Names.{refl, sym, ap, subst, IsSome, entered, owner_of, is_free, is_turnstile, lock_queue, side_of, Side, May}
+use Names.{after_ready, head_of, Record, CanStand, RepresentsRecord, record_in}
+use Rattle.std.proofs.Common.{◌∙◌}
 use Rattle.prio_lending.specs.Hops.{walk_up}
-use Rattle.thread_records.specs.Records.{Record}
-use Rattle.lock_objects.specs.Enters.{CanStand}
-use Rattle.lock_objects.specs.Represents.{RepresentsRecord, record_in}
 use Rattle.step_machine.proofs.Kit.{aside_stays, read, word_read, possible_read}
 use Rattle.step_machine.proofs.Blocking.{is_busy, has_turnstile, on_turnstile, on_sleep_queue, lends, queues_ready, record_ready, has_own, stands_free, seen_is, blocked_on_turnstile, FallsAsleep, RecordFallsAsleep, sleep_asks, blocked_on_sleep_queue}
 use Rattle.step_machine.proofs.machine.Machine.block.Goals as goal

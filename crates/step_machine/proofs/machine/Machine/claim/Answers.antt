@@ -1,15 +1,6 @@
-use Rattle.std.proofs.Common.{◌≡◌, ◌++◌, ◌∷◌, [], ap, sym, subst, ◌∙◌}
-use Rattle.std.specs.Prelude.{IsSomeAnd}
-use Rattle.lock_model.specs.Queues.{lock_queue}
-use Rattle.lock_model.specs.Words.{claimed}
-use Rattle.lock_model.specs.declared.plan.Mode.TheVariants.{Excl}
-use Rattle.chain_table.specs.Chains.{head_of}
-use Rattle.thread_records.specs.Records.{Record}
-use Rattle.lock_objects.specs.Hops.{CanBeLent}
-use Rattle.lock_objects.specs.Represents.{RepresentsRecord, record_in}
-use Rattle.lock_objects.proofs.Hops.{can_claim}
-use Rattle.step_machine.specs.declared.thread.Thread.{Thread}
-use Rattle.step_machine.specs.Steps.{Progress, progress_of}
+use Rattle.step_machine.proofs.Names.{[], ap, sym, subst, IsSomeAnd, lock_queue, claimed, Excl, head_of, Record}
+use Rattle.step_machine.proofs.Names.{CanBeLent, RepresentsRecord, record_in, can_claim, Thread, Progress, progress_of}
+use Rattle.std.proofs.Common.{◌≡◌, ◌++◌, ◌∷◌, ◌∙◌}
 use Rattle.step_machine.proofs.Kit.{aside_changed, read, word_read, record_of}
 use Rattle.step_machine.proofs.Holding.{lock_claimed, entry_of, room_left}
 use Rattle.step_machine.proofs.machine.Machine.claim.Goals as goal

@@ -1,7 +1,5 @@
-use Rattle.std.proofs.Common.{ap, sym, subst, ◌∙◌}
-use Rattle.lock_model.specs.Words.{dropped}
-use Rattle.lock_words.specs.Views.{IsHeldIn}
-use Rattle.step_machine.specs.Steps.{with_released}
+use Rattle.step_machine.proofs.Names.{ap, sym, subst, dropped, IsHeldIn, with_released}
+use Rattle.std.proofs.Common.{◌∙◌}
 use Rattle.step_machine.proofs.Kit.{aside_changed, read, word_read, possible_read}
 use Rattle.step_machine.proofs.Holding.{lock_dropped, is_held, released}
 use Rattle.step_machine.proofs.machine.Machine.drop_lock.Goals as goal

@@ -1,6 +1,5 @@
-use Rattle.std.proofs.Common.{◌≡◌, true, false, ◌||◌, sym, ap, ◌∙◌}
-use Rattle.lock_model.specs.Takes.{is_reversal}
-use Rattle.thread_records.specs.Records.{with_base}
+use Rattle.step_machine.proofs.Names.{true, false, sym, ap, is_reversal, with_base}
+use Rattle.std.proofs.Common.{◌≡◌, ◌||◌, ◌∙◌}
 use Rattle.step_machine.proofs.Ending.{read_at}
 use Rattle.step_machine.proofs.Stamping.{is_noted, base_set, no_base_set}
 use Rattle.step_machine.proofs.machine.Machine.edit.Goals.{then-is_reversal, else-is_reversal}

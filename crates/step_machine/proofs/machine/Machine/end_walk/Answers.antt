@@ -1,4 +1,4 @@
-use Rattle.std.proofs.Common.{refl}
+use Rattle.step_machine.proofs.Names.{refl}
 use Rattle.step_machine.proofs.Kit.{aside_stays, read}
 use Rattle.step_machine.proofs.Ending.{walk_ended}
 use Rattle.step_machine.proofs.machine.Machine.end_walk.Goals as goal

@@ -1,7 +1,6 @@
-use Rattle.std.proofs.Common.{◌++◌, ◌∷◌, [], ap, sym, subst, ◌∙◌, arith}
-use Rattle.lock_model.specs.Words.{gained}
+use Rattle.step_machine.proofs.Names.{[], ap, sym, subst, arith, gained, Progress, progress_of}
+use Rattle.std.proofs.Common.{◌++◌, ◌∷◌, ◌∙◌}
 use Rattle.lock_words.specs.Views.{MayGain}
-use Rattle.step_machine.specs.Steps.{Progress, progress_of}
 use Rattle.step_machine.proofs.Kit.{aside_changed, read, word_read, possible_read}
 use Rattle.step_machine.proofs.Holding.{lock_gained, may_gain, entry_of, room_left}
 use Rattle.step_machine.proofs.machine.Machine.gain.Goals as goal

@@ -1,6 +1,5 @@
-use Rattle.std.proofs.Common.{ℕ, ◌<◌, ap, subst}
-use Rattle.lock_model.specs.Operations.{next_at}
-use Rattle.step_machine.specs.Steps.{Progress, progress_of}
+use Rattle.step_machine.proofs.Names.{ℕ, ap, subst, next_at, Progress, progress_of}
+use Rattle.std.proofs.Common.{◌<◌}
 use Rattle.step_machine.proofs.Kit.{aside_changed}
 use Rattle.step_machine.proofs.Ending.{read_at, gone_on}
 use Rattle.step_machine.proofs.machine.Machine.go_on.Goals as goal

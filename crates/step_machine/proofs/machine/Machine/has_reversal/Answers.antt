@@ -1,9 +1,6 @@
-use Rattle.std.proofs.Common.{◌≡◌, ◌||◌, List, [], ◌∷◌, refl, ap, ◌∙◌, rules, tests}
-use Rattle.std.specs.List.{list_any}
-use Rattle.std.proofs.lemmas.Iterator.{YieldsList-from_slice}
-use Rattle.std.proofs.lemmas.Iterator.Search.{any_from_yields_List}
-use Rattle.lock_model.specs.Takes.{is_reversal, has_reversal}
-use Rattle.lock_model.specs.declared.event.Entry.{Entry}
+use Rattle.step_machine.proofs.Names.{List, [], refl, ap, rules, tests, list_any, YieldsList-from_slice}
+use Rattle.step_machine.proofs.Names.{any_from_yields_List, is_reversal, has_reversal, Entry}
+use Rattle.std.proofs.Common.{◌≡◌, ◌||◌, ◌∷◌, ◌∙◌}
 use Rattle.step_machine.proofs.machine.Machine.has_reversal.Goals as goal
 
 some_reversal : (es : List Entry) → list_any (λ e. is_reversal e.event) es ≡ has_reversal es

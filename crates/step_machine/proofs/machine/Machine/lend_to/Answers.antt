@@ -1,11 +1,6 @@
-use Rattle.std.proofs.Common.{arith, sym, ap, subst, ◌∙◌}
-use Rattle.std.specs.Prelude.{IsSomeAnd}
-use Rattle.lock_model.specs.Queues.{lock_queue, names_turnstile}
-use Rattle.chain_table.specs.Chains.{head_of}
-use Rattle.thread_records.specs.Records.{Record}
-use Rattle.lock_objects.specs.Hops.{CanHop}
-use Rattle.lock_objects.specs.Represents.{RepresentsRecord, record_in}
-use Rattle.lock_objects.proofs.Hops.{can_hop}
+use Rattle.step_machine.proofs.Names.{arith, sym, ap, subst, IsSomeAnd, lock_queue, names_turnstile, head_of, Record}
+use Rattle.step_machine.proofs.Names.{CanHop, RepresentsRecord, record_in, can_hop}
+use Rattle.std.proofs.Common.{◌∙◌}
 use Rattle.step_machine.proofs.Kit.{read, record_of}
 use Rattle.step_machine.proofs.Walking.{is_owner, read_behind, lend_shown, asides_stay}
 use Rattle.step_machine.proofs.machine.Machine.lend_to.Goals as goal

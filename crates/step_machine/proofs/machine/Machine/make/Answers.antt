@@ -1,8 +1,6 @@
-use Rattle.std.proofs.Common.{ℕ, ◌*◌, refl, ap, ◌∙◌, length, replicate, List, [], subst}
-use Rattle.witness_orders.specs.Graph.{Graph}
-use Rattle.step_machine.specs.Threads.{AreNew}
-use Rattle.lock_model.specs.declared.plan.LockDecl.{LockDecl}
-use Rattle.lock_model.specs.declared.plan.ThreadDecl.{ThreadDecl}
+use Rattle.step_machine.proofs.Names.{ℕ, refl, ap, length, replicate, List, [], subst, Graph, AreNew, LockDecl}
+use Rattle.step_machine.proofs.Names.{ThreadDecl}
+use Rattle.std.proofs.Common.{◌*◌, ◌∙◌}
 use Rattle.step_machine.proofs.Beginning.{begun}
 use Rattle.step_machine.proofs.machine.Machine.make.Goals as goal
 

@@ -1,6 +1,5 @@
-use Rattle.std.proofs.Common.{arith, refl, ap, subst, sym, ◌∙◌}
-use Rattle.thread_records.specs.Records.{Record}
-use Rattle.lock_objects.specs.Marked.{IsAway, record_woken, node_of}
+use Rattle.step_machine.proofs.Names.{arith, refl, ap, subst, sym, Record, IsAway, record_woken, node_of}
+use Rattle.std.proofs.Common.{◌∙◌}
 use Rattle.step_machine.proofs.Kit.{read, aside_stays}
 use Rattle.step_machine.proofs.Marking.{is_thread, has_object, read_behind, away, own, marked_shown, some_marked, asides_stay}
 use Rattle.step_machine.proofs.machine.Machine.mark.Goals as goal

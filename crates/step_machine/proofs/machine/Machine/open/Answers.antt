@@ -1,18 +1,7 @@
-use Rattle.std.proofs.Common.{◌≡◌, true, refl, sym, ap, subst, ◌∙◌}
-use Rattle.std.specs.Prelude.{IsSomeAnd}
-use Rattle.std.proofs.lemmas.Option.{same_Some}
-use Rattle.lock_model.specs.Queues.{lock_queue}
-use Rattle.lock_model.specs.Words.{is_turnstile, side_woken}
-use Rattle.lock_model.specs.declared.plan.Side.{Side}
-use Rattle.lock_state.specs.Steps.{May}
-use Rattle.chain_table.specs.Chains.{head_of}
-use Rattle.thread_records.specs.Records.{Record}
-use Rattle.lock_objects.specs.Opens.{CanOpen}
-use Rattle.lock_objects.specs.Represents.{RepresentsRecord, record_in}
-use Rattle.lock_objects.proofs.Opens.{can_open, can_release}
-use Rattle.lock_objects.proofs.StepsOfSleepers.{somebody_sleeps}
-use Rattle.step_machine.specs.declared.thread.Thread.{Thread}
-use Rattle.step_machine.specs.Steps.{with_released}
+use Rattle.step_machine.proofs.Names
+use Names.{true, refl, sym, ap, subst, IsSomeAnd, same_Some, lock_queue, is_turnstile, side_woken, Side, May, head_of}
+use Names.{Record, CanOpen, RepresentsRecord, record_in, can_open, can_release, somebody_sleeps, Thread, with_released}
+use Rattle.std.proofs.Common.{◌≡◌, ◌∙◌}
 use Rattle.step_machine.proofs.Kit.{aside_changed, read, word_read, possible_read, record_of}
 use Rattle.step_machine.proofs.Blocking.{has_turnstile}
 use Rattle.step_machine.proofs.Opening.{releases, by_turnstile, by_sleep_queue, word_last, word_held, word_opens, side_is, TakesOff, Takes, turnstile_opened, sleep_queue_opened, put_down_progress}

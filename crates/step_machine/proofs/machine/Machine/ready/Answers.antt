@@ -1,4 +1,4 @@
-use Rattle.std.proofs.Common.{refl}
+use Rattle.step_machine.proofs.Names.{refl}
 use Rattle.step_machine.proofs.Kit.{aside_stays, read}
 use Rattle.step_machine.proofs.Blocking.{readied}
 use Rattle.step_machine.proofs.machine.Machine.ready.Goals as goal

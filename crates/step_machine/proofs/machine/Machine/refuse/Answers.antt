@@ -1,6 +1,4 @@
-use Rattle.lock_state.specs.Steps.{Refuses}
-use Rattle.lock_state.specs.Steps.Orders.{after_refuse}
-use Rattle.lock_laws.proofs.Steps.{keeps}
+use Rattle.step_machine.proofs.Names.{Refuses, after_refuse, keeps}
 use Rattle.step_machine.proofs.Ordering.{refusal_shown}
 use Rattle.step_machine.proofs.machine.Machine.refuse.Goals as goal
 

@@ -1,5 +1,5 @@
-use Rattle.std.proofs.Common.{◌≡◌, true, false, ◌||◌, refl, sym, ap, ◌∙◌}
-use Rattle.step_machine.specs.Threads.{is_back}
+use Rattle.step_machine.proofs.Names.{true, false, refl, sym, ap, is_back}
+use Rattle.std.proofs.Common.{◌≡◌, ◌||◌, ◌∙◌}
 use Rattle.step_machine.proofs.Kit.{aside_stays, read}
 use Rattle.step_machine.proofs.Waking.{resumed}
 use Rattle.step_machine.proofs.machine.Machine.resume.Goals.{then-is_back, else-is_back}

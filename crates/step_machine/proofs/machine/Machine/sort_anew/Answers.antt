@@ -1,11 +1,6 @@
-use Rattle.std.proofs.Common.{◌≡◌, true, arith, refl, sym, subst}
-use Rattle.std.specs.Prelude.{IsSomeAnd}
-use Rattle.lock_model.specs.Queues.{lock_queue}
-use Rattle.chain_table.specs.Chains.{head_of}
-use Rattle.turnstile_core.specs.Changes.{waits}
-use Rattle.thread_records.specs.Records.{Record}
-use Rattle.lock_objects.specs.Represents.{RepresentsRecord, record_in}
-use Rattle.lock_objects.proofs.Hops.{waits_there}
+use Rattle.step_machine.proofs.Names.{true, arith, refl, sym, subst, IsSomeAnd, lock_queue, head_of, waits, Record}
+use Rattle.step_machine.proofs.Names.{RepresentsRecord, record_in, waits_there}
+use Rattle.std.proofs.Common.{◌≡◌}
 use Rattle.step_machine.proofs.Kit.{read, record_of, aside_stays}
 use Rattle.step_machine.proofs.Walking.{is_waiter, shift_shown}
 use Rattle.step_machine.proofs.machine.Machine.sort_anew.Goals as goal

@@ -1,6 +1,5 @@
-use Rattle.std.proofs.Common.{◌≡◌, ℕ, ◌+◌, ◌-◌, ◌<◌, ◌≤◌, List, [], ◌∷◌, ◌++◌, length, sym, ap, subst, ◌∙◌, arith, length-append}
-use Rattle.lock_model.specs.declared.event.Entry.{Entry}
-use Rattle.step_machine.specs.declared.machine.Machine.{Machine}
+use Rattle.step_machine.proofs.Names.{ℕ, List, [], length, sym, ap, subst, arith, length-append, Entry, Machine}
+use Rattle.std.proofs.Common.{◌≡◌, ◌+◌, ◌-◌, ◌<◌, ◌≤◌, ◌∷◌, ◌++◌, ◌∙◌}
 use Rattle.step_machine.proofs.Stamping.{stamped, asides_kept}
 use Rattle.step_machine.proofs.machine.Machine.stamp.Goals as goal
 

@@ -1,7 +1,5 @@
-use Rattle.std.proofs.Common.{refl, ap, ◌∙◌}
-use Rattle.lock_model.specs.Queues.{chan_queue}
-use Rattle.lock_state.specs.Steps.LockWords.{bits_of_threads}
-use Rattle.lock_objects.proofs.StepsOfSleepers.{somebody_sleeps}
+use Rattle.step_machine.proofs.Names.{refl, ap, chan_queue, bits_of_threads, somebody_sleeps}
+use Rattle.std.proofs.Common.{◌∙◌}
 use Rattle.step_machine.proofs.Kit.{aside_stays, read}
 use Rattle.step_machine.proofs.Opening.{woken_are, bits_fit, woken_shown}
 use Rattle.step_machine.proofs.machine.Machine.wake.Goals as goal

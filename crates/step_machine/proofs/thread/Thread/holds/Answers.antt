@@ -1,7 +1,5 @@
-use Rattle.std.proofs.Common.{◌≡◌, not, Option, Some, None, is_some, refl, ap, ◌∙◌}
-use Rattle.lock_model.specs.Holds.{is_unheld}
-use Rattle.lock_model.specs.declared.plan.Mode.{Mode}
-use Rattle.lock_objects.specs.Represents.{hold_of}
+use Rattle.step_machine.proofs.Names.{not, Option, Some, None, is_some, refl, ap, is_unheld, Mode, hold_of}
+use Rattle.std.proofs.Common.{◌≡◌, ◌∙◌}
 use Rattle.step_machine.proofs.thread.Thread.holds.Goals as goal
 
 held_where_some : (mode : Option Mode) → is_some mode ≡ not (is_unheld (hold_of mode))

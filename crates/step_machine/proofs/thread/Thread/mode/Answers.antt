@@ -1,7 +1,5 @@
-use Rattle.std.proofs.Common.{position, sym, ap, ◌∙◌}
-use Rattle.lock_model.proofs.HeldLocks.{held_there, none_held}
-use Rattle.lock_model.specs.Holds.{Holds}
-use Rattle.lock_model.specs.Operations.{holds_lock}
+use Rattle.step_machine.proofs.Names.{position, sym, ap, held_there, none_held, Holds, holds_lock}
+use Rattle.std.proofs.Common.{◌∙◌}
 use Rattle.step_machine.proofs.thread.Thread.mode.Goals as goal
 
 pub returns-in-Some : goal.returns-in-Some

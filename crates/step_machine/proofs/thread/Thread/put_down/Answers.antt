@@ -1,8 +1,5 @@
-use Rattle.std.proofs.Common.{position, sym, ap, ◌∙◌}
-use Rattle.lock_model.proofs.HeldLocks.{held_there, none_held, none_taken}
-use Rattle.lock_model.specs.Holds.{Hold}
-use Rattle.lock_model.specs.Operations.{holds_lock}
-use Rattle.step_machine.specs.Steps.{mode_left}
+use Rattle.step_machine.proofs.Names.{position, sym, ap, held_there, none_held, none_taken, Hold, holds_lock, mode_left}
+use Rattle.std.proofs.Common.{◌∙◌}
 use Rattle.step_machine.proofs.thread.Thread.put_down.Goals as goal
 
 pub returns-in-Some-clause-left : goal.returns-in-Some-clause-left

@@ -1,5 +1,5 @@
-use Rattle.std.proofs.Common.{not, ◌&&◌, ◌==◌, Bool, false, refl, sym, ap, ◌∙◌}
-use Rattle.lock_model.specs.Counts.{has_bit}
+use Rattle.step_world.proofs.Names.{not, Bool, false, refl, sym, ap, has_bit}
+use Rattle.std.proofs.Common.{◌&&◌, ◌==◌, ◌∙◌}
 use Rattle.step_world.proofs.OneTurn.{IsTurned, IsKnown, sound_behind}
 use Rattle.step_world.proofs.schedule.Course.act.Goals as goal
 

@@ -1,5 +1,5 @@
-use Rattle.std.proofs.Common.{ap, ◌∙◌}
-use Rattle.lock_model.specs.Counts.{is_empty}
+use Rattle.step_world.proofs.Names.{ap, is_empty}
+use Rattle.std.proofs.Common.{◌∙◌}
 use Rattle.step_world.proofs.Scheduling.{members_are, round_of_none}
 use Rattle.step_world.proofs.schedule.Course.all_ended.Goals as goal
 

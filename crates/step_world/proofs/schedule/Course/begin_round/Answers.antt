@@ -1,4 +1,4 @@
-use Rattle.std.proofs.Common.{refl, sym}
+use Rattle.step_world.proofs.Names.{refl, sym}
 use Rattle.step_world.proofs.Scheduling.{members_are, sound_round}
 use Rattle.step_world.proofs.schedule.Course.begin_round.Goals as goal
 

@@ -1,11 +1,7 @@
-use Rattle.std.proofs.Common.{◌≡◌, Bool, false, cond, ◌++◌, Option, Some, None, IfNone, sym, ap, subst, refl, ◌∙◌}
-use Rattle.std.specs.Option.{is_none}
-use Rattle.lock_model.specs.Counts.{is_empty}
-use Rattle.lock_model.specs.declared.numbers.ThreadNo.{ThreadNo}
-use Rattle.lock_model.specs.declared.turn.Turn.{Turn}
+use Rattle.step_world.proofs.Names.{Bool, false, cond, Option, Some, None, IfNone, sym, ap, subst, refl, is_none}
+use Rattle.step_world.proofs.Names.{is_empty, ThreadNo, Turn, after_turn, round_of, is_over, first_turn, IsCourse}
+use Rattle.std.proofs.Common.{◌≡◌, ◌++◌, ◌∙◌}
 use Rattle.lock_state.specs.Run as run
-use Rattle.lock_state.specs.Run.{after_turn, round_of, is_over, first_turn}
-use Rattle.step_world.specs.Courses.{IsCourse}
 use Rattle.step_world.proofs.Scheduling.{IsReady, none_comes, one_made, round_ready, still_ready}
 use Rattle.step_world.proofs.schedule.Course.go_on.Goals as goal
 use Rattle.step_world.proofs.schedule.Course.go_on.Goals.{After-make_turn, then-is_through, else-is_through}

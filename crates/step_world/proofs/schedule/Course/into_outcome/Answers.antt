@@ -1,13 +1,8 @@
-use Rattle.std.proofs.Common.{◌≡◌, map, ap, subst, sym, ◌∙◌}
+use Rattle.step_world.proofs.Names.{map, ap, subst, sym, line_seen, outcome_seen, Outcome, outcome_of, Course}
+use Rattle.step_world.proofs.Names.{finals_of, World, Represents, Machine}
+use Rattle.std.proofs.Common.{◌≡◌, ◌∙◌}
 use Rattle.lock_history.specs.Endings.{numbers_of}
-use Rattle.lock_history.specs.Outcomes.{line_seen, outcome_seen}
-use Rattle.lock_history.specs.declared.outcome.Outcome.{Outcome}
 use Rattle.lock_state.specs.Run as run
-use Rattle.lock_state.specs.Run.{outcome_of}
-use Rattle.step_world.specs.Courses.{Course}
-use Rattle.step_world.specs.Outcomes.{finals_of}
-use Rattle.step_world.specs.Worlds.{World, Represents}
-use Rattle.step_machine.specs.declared.machine.Machine.{Machine}
 use Rattle.step_world.proofs.Printed.{log_in_order, printed}
 use Rattle.step_world.proofs.schedule.Course.into_outcome.Goals as goal
 

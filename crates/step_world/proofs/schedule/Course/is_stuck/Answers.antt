@@ -1,5 +1,5 @@
-use Rattle.std.proofs.Common.{true, false, sym, ap, ◌∙◌}
-use Rattle.step_world.specs.Courses.{Course}
+use Rattle.step_world.proofs.Names.{true, false, sym, ap, Course}
+use Rattle.std.proofs.Common.{◌∙◌}
 use Rattle.step_world.proofs.Scheduling.{stuck_as}
 use Rattle.step_world.proofs.schedule.Course.is_stuck.Goals as goal
 

@@ -1,5 +1,5 @@
-use Rattle.std.proofs.Common.{ap, ◌∙◌}
-use Rattle.step_world.specs.Courses.{Course, turn_seen}
+use Rattle.step_world.proofs.Names.{ap, Course, turn_seen}
+use Rattle.std.proofs.Common.{◌∙◌}
 use Rattle.step_world.proofs.OneTurn.{course_turned, course_told, none_turned, none_told}
 use Rattle.step_world.proofs.schedule.Course.make_turn.Goals as goal
 

@@ -1,4 +1,5 @@
-use Rattle.std.proofs.Common.{sym, ◌∙◌}
+use Rattle.step_world.proofs.Names.{sym}
+use Rattle.std.proofs.Common.{◌∙◌}
 use Rattle.step_world.proofs.OneTurn.{is_over_answer, is_over_turn, sleeps_answer, sleeps_turn}
 use Rattle.step_world.proofs.schedule.Course.turn.Goals as goal
 

@@ -1,6 +1,5 @@
-use Rattle.std.proofs.Common.{sym, ap, ◌∙◌}
-use Rattle.lock_model.specs.Takes.{has_reversal}
-use Rattle.step_machine.specs.declared.machine.Machine.{Machine}
+use Rattle.step_world.proofs.Names.{sym, ap, has_reversal, Machine}
+use Rattle.std.proofs.Common.{◌∙◌}
 use Rattle.step_world.proofs.Printed.{ended_with}
 use Rattle.step_world.proofs.schedule.Course.whole_ending.Goals as goal
 

@@ -1,5 +1,5 @@
-use Rattle.std.proofs.Common.{refl, ap, ◌∙◌}
-use Rattle.step_world.specs.Sets.{members}
+use Rattle.step_world.proofs.Names.{refl, ap, members}
+use Rattle.std.proofs.Common.{◌∙◌}
 use Rattle.step_world.proofs.Sets.{first_is, has_none, no_members}
 use Rattle.step_world.proofs.threads.ThreadSet.take_first.Goals as goal
 

@@ -1,11 +1,6 @@
-use Rattle.std.proofs.Common.{◌≡◌, ◌≤◌, ℕ, List, length, map, take, refl, sym, ap, subst, ◌∙◌}
-use Rattle.std.proofs.lemmas.Result.{err_from_is_err_and}
-use Rattle.lock_model.specs.Limits.{most_held}
-use Rattle.lock_model.specs.Plans.{config_of, lock_class}
-use Rattle.lock_model.specs.declared.numbers.ClassNo.{ClassNo}
-use Rattle.lock_model.specs.declared.event.Held.{Held}
-use Rattle.lock_model.specs.declared.plan.Plan.{Plan}
-use Rattle.witness_orders.specs.Graph.{numbers_of}
+use Rattle.step_world.proofs.Names.{ℕ, List, length, map, take, refl, sym, ap, subst, err_from_is_err_and, most_held}
+use Rattle.step_world.proofs.Names.{config_of, lock_class, ClassNo, Held, Plan, numbers_of}
+use Rattle.std.proofs.Common.{◌≡◌, ◌≤◌, ◌∙◌}
 use Rattle.step_world.proofs.ActionsOfTurns.{here}
 use Rattle.step_world.proofs.ActionsOfTakes as actions
 use Rattle.step_world.proofs.turns.locks.admit.Goals as goal

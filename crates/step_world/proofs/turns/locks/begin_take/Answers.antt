@@ -1,4 +1,4 @@
-use Rattle.run_laws.specs.OnTrack.{admitted}
+use Rattle.step_world.proofs.Names.{admitted}
 use Rattle.step_world.proofs.ActionsOfTakes as actions
 use Rattle.step_world.proofs.turns.locks.begin_take.Goals as goal
 

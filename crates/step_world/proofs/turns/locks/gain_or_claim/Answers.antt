@@ -1,5 +1,5 @@
-use Rattle.std.proofs.Common.{◌≤◌, sym, subst, ◌∙◌}
-use Rattle.lock_model.specs.declared.plan.Mode.TheVariants.{Excl}
+use Rattle.step_world.proofs.Names.{sym, subst, Excl}
+use Rattle.std.proofs.Common.{◌≤◌, ◌∙◌}
 use Rattle.step_world.proofs.Turning.{has_room, may_next, may_by, goes, of_method, of_entry}
 use Rattle.step_world.proofs.ActionsOfLocks as actions
 use Rattle.step_world.proofs.ActionsOfLocks.{holding}

@@ -1,10 +1,6 @@
-use Rattle.std.proofs.Common.{ap, sym, subst, ◌∙◌}
-use Rattle.lock_model.specs.Plans.{config_of}
-use Rattle.lock_model.specs.Words.{is_drop}
-use Rattle.lock_state.specs.Steps.{May as MayMake, after, Drops}
+use Rattle.step_world.proofs.Names.{ap, sym, subst, config_of, is_drop, MayMake, after, Drops, opens, read}
+use Rattle.std.proofs.Common.{◌∙◌}
 use Rattle.step_machine.specs.Represents.{Represents}
-use Rattle.step_machine.specs.Steps.{opens}
-use Rattle.step_machine.proofs.Kit.{read}
 use Rattle.step_world.proofs.Turning.{is_there}
 use Rattle.step_world.proofs.ActionsOfLocks as actions
 use Rattle.step_world.proofs.turns.locks.give_back.Goals as goal

@@ -1,5 +1,5 @@
-use Rattle.std.proofs.Common.{◌-◌, length, slice_get, List, ap, ◌∙◌}
-use Rattle.lock_model.specs.declared.event.Held.{Held}
+use Rattle.step_world.proofs.Names.{length, slice_get, List, ap, Held}
+use Rattle.std.proofs.Common.{◌-◌, ◌∙◌}
 use Rattle.step_world.proofs.Turning.{has_room_cut}
 use Rattle.step_world.proofs.ActionsOfLocks as actions
 use Rattle.step_world.proofs.ActionsOfTurns.{here}

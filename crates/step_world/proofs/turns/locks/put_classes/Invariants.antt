@@ -1,6 +1,5 @@
-use Rattle.std.proofs.Common.{◌≡◌, map, take}
-use Rattle.lock_model.specs.Plans.{lock_class}
-use Rattle.witness_orders.specs.Graph.{numbers_of}
+use Rattle.step_world.proofs.Names.{map, take, lock_class, numbers_of}
+use Rattle.std.proofs.Common.{◌≡◌}
 use Rattle.step_world.proofs.turns.locks.put_classes.Given as goal
 
 abbrev pub invariant-loop-i : goal.invariant-loop-i

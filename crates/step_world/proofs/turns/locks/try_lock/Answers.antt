@@ -1,4 +1,5 @@
-use Rattle.std.proofs.Common.{sym, ◌∙◌}
+use Rattle.step_world.proofs.Names.{sym}
+use Rattle.std.proofs.Common.{◌∙◌}
 use Rattle.step_world.proofs.Turning.{has_room, may_next, goes, of_look, of_entry}
 use Rattle.step_world.proofs.ActionsOfLocks as actions
 use Rattle.step_world.proofs.turns.locks.try_lock.Goals as goal

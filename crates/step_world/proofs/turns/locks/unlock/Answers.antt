@@ -1,5 +1,4 @@
-use Rattle.lock_model.specs.Plans.{config_of}
-use Rattle.step_machine.proofs.Kit.{read}
+use Rattle.step_world.proofs.Names.{config_of, read}
 use Rattle.step_world.proofs.ActionsOfLocks as actions
 use Rattle.step_world.proofs.turns.locks.unlock.Goals as goal
 

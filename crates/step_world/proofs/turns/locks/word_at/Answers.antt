@@ -1,4 +1,4 @@
-use Rattle.step_machine.proofs.Kit.{word_read}
+use Rattle.step_world.proofs.Names.{word_read}
 use Rattle.step_world.proofs.ActionsOfLocks.{is_well_formed}
 use Rattle.step_world.proofs.turns.locks.word_at.Goals as goal
 

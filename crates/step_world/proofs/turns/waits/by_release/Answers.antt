@@ -1,5 +1,5 @@
-use Rattle.std.proofs.Common.{option_map, ap, sym, ◌∙◌}
-use Rattle.lock_model.specs.declared.numbers.LockNo.{LockNo}
+use Rattle.step_world.proofs.Names.{option_map, ap, sym, LockNo}
+use Rattle.std.proofs.Common.{◌∙◌}
 use Rattle.step_world.proofs.ActionsOfWaits as actions
 use Rattle.step_world.proofs.turns.waits.by_release.Goals as goal
 

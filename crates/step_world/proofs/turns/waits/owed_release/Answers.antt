@@ -1,6 +1,5 @@
-use Rattle.std.proofs.Common.{refl, sym, ap, ◌∙◌, option_map}
-use Rattle.std.proofs.lemmas.Bool.{eqb-true}
-use Rattle.lock_model.specs.declared.numbers.LockNo.{LockNo}
+use Rattle.step_world.proofs.Names.{refl, sym, ap, option_map, eqb-true, LockNo}
+use Rattle.std.proofs.Common.{◌∙◌}
 use Rattle.step_world.proofs.ActionsOfTurns.{here}
 use Rattle.step_world.proofs.ActionsOfWaits as actions
 use Rattle.step_world.proofs.turns.waits.owed_release.Goals as goal

@@ -1,5 +1,5 @@
-use Rattle.std.proofs.Common.{sym, ◌∙◌}
-use Rattle.lock_model.specs.declared.numbers.LockNo.{LockNo}
+use Rattle.step_world.proofs.Names.{sym, LockNo}
+use Rattle.std.proofs.Common.{◌∙◌}
 use Rattle.step_world.proofs.Owing.{by_busy, by_release}
 use Rattle.step_world.proofs.ActionsOfTurns.{here}
 use Rattle.step_world.proofs.turns.waits.owes.Goals as goal

@@ -1,5 +1,5 @@
-use Rattle.std.proofs.Common.{◌≤◌, subst, sym, ◌∙◌}
-use Rattle.lock_model.specs.declared.plan.QueueName.TheVariants.{Chan}
+use Rattle.step_world.proofs.Names.{subst, sym, Chan}
+use Rattle.std.proofs.Common.{◌≤◌, ◌∙◌}
 use Rattle.step_world.proofs.Turning.{has_room, may_next, may_by, goes, of_step, of_entry}
 use Rattle.step_world.proofs.ActionsOfTurns.{here}
 use Rattle.step_world.proofs.ActionsOfWaits as actions

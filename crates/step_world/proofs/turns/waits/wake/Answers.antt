@@ -1,5 +1,5 @@
-use Rattle.std.proofs.Common.{◌≡◌, ◌≤◌, refl, subst, sym, ◌∙◌}
-use Rattle.lock_model.specs.Plans.{config_of}
+use Rattle.step_world.proofs.Names.{refl, subst, sym, config_of}
+use Rattle.std.proofs.Common.{◌≡◌, ◌≤◌, ◌∙◌}
 use Rattle.step_world.proofs.Turning.{may_next, goes, of_step, of_entry}
 use Rattle.step_world.proofs.ActionsOfWaits as actions
 use Rattle.step_world.proofs.ActionsOfWaits.{noting}

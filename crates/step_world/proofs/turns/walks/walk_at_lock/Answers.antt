@@ -1,6 +1,5 @@
-use Rattle.std.proofs.Common.{refl, ◌∙◌}
-use Rattle.lock_state.specs.Steps.Lending.{after_lend, after_end_walk}
-use Rattle.lock_model.specs.Plans.{config_of}
+use Rattle.step_world.proofs.Names.{refl, after_lend, after_end_walk, config_of}
+use Rattle.std.proofs.Common.{◌∙◌}
 use Rattle.step_world.proofs.Turning.{may_by, may_next, of_step, of_step_where, one_made}
 use Rattle.step_world.proofs.ActionsOfWalks.{lends, ends_at_lock}
 use Rattle.step_world.proofs.turns.walks.walk_at_lock.Goals as goal

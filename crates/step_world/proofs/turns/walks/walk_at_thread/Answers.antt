@@ -1,5 +1,4 @@
-use Rattle.std.proofs.Common.{refl}
-use Rattle.lock_state.specs.Steps.Lending.{after_shift, after_end_walk}
+use Rattle.step_world.proofs.Names.{refl, after_shift, after_end_walk}
 use Rattle.step_world.proofs.Turning.{may_by, may_next, of_step, one_made}
 use Rattle.step_world.proofs.ActionsOfWalks.{shifts, ends_at_thread}
 use Rattle.step_world.proofs.turns.walks.walk_at_thread.Goals as goal

@@ -1,6 +1,5 @@
-use Rattle.std.proofs.Common.{◌≡◌, ◌<◌, false, length, sym, subst}
-use Rattle.lock_state.specs.Run.{Run, run_behind, has_ended}
-use Rattle.step_world.specs.Worlds.{World, Represents}
+use Rattle.step_world.proofs.Names.{false, length, sym, subst, Run, run_behind, has_ended, World, Represents}
+use Rattle.std.proofs.Common.{◌≡◌, ◌<◌}
 use Rattle.step_world.proofs.WorldsAreSound.{behind_going}
 use Rattle.step_world.proofs.world.World.act.Goals as goal
 

@@ -1,9 +1,6 @@
-use Rattle.std.proofs.Common.{◌<◌, length, List, sym, ap, subst, ◌∙◌}
-use Rattle.lock_model.specs.declared.plan.Op.{Op}
-use Rattle.step_machine.specs.Threads.{thread_has_ended}
-use Rattle.step_world.specs.Worlds.{World}
+use Rattle.step_world.proofs.Names.{length, List, sym, ap, subst, Op, thread_has_ended, World, read}
+use Rattle.std.proofs.Common.{◌<◌, ◌∙◌}
 use Rattle.step_world.proofs.Ends.{ends_as_said}
-use Rattle.step_machine.proofs.Kit.{read}
 use Rattle.step_world.proofs.world.World.has_ended.Goals as goal
 
 pub returns : goal.returns

@@ -1,5 +1,5 @@
-use Rattle.std.proofs.Common.{sym, ap, ◌∙◌}
-use Rattle.lock_state.specs.State.{gained_order}
+use Rattle.step_world.proofs.Names.{sym, ap, gained_order}
+use Rattle.std.proofs.Common.{◌∙◌}
 use Rattle.step_world.proofs.Telling.{in_order}
 use Rattle.step_world.proofs.world.World.held.Goals as goal
 

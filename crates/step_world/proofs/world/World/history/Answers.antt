@@ -1,4 +1,4 @@
-use Rattle.std.proofs.Common.{arith, length, ap}
+use Rattle.step_world.proofs.Names.{arith, length, ap}
 use Rattle.step_world.proofs.world.World.history.Goals as goal
 
 pub returns-clause-few : goal.returns-clause-few

@@ -1,5 +1,4 @@
-use Rattle.lock_model.specs.Plans.{config_of}
-use Rattle.lock_state.specs.Run.{start_run}
+use Rattle.step_world.proofs.Names.{config_of, start_run}
 use Rattle.step_world.proofs.WorldsAreSound.{at_begin}
 use Rattle.step_world.proofs.world.World.make.Goals as goal
 

@@ -1,4 +1,5 @@
-use Rattle.std.proofs.Common.{ap, ◌∙◌}
+use Rattle.step_world.proofs.Names.{ap}
+use Rattle.std.proofs.Common.{◌∙◌}
 use Rattle.step_world.proofs.world.World.priorities.Goals as goal
 
 pub returns-clause-base : goal.returns-clause-base

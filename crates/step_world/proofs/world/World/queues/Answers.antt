@@ -1,5 +1,4 @@
-use Rattle.lock_model.specs.Plans.{config_of}
-use Rattle.step_world.specs.Outcomes.{lines_of}
+use Rattle.step_world.proofs.Names.{config_of, lines_of}
 use Rattle.step_world.proofs.Outcomes.{all_short, lines_are}
 use Rattle.step_world.proofs.Telling.{lines_told}
 use Rattle.step_world.proofs.world.World.queues.Goals as goal

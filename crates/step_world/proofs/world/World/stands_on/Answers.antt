@@ -1,6 +1,5 @@
-use Rattle.std.proofs.Common.{◌≡◌, Some, None, rules, sym, subst, ◌∙◌}
-use Rattle.lock_model.specs.Plans.{config_of}
-use Rattle.step_world.specs.Worlds.{World, Represents}
+use Rattle.step_world.proofs.Names.{Some, None, rules, sym, subst, config_of, World, Represents}
+use Rattle.std.proofs.Common.{◌≡◌, ◌∙◌}
 use Rattle.step_world.proofs.Telling.{stands_nowhere, stands_there}
 use Rattle.step_world.proofs.world.World.stands_on.Goals as goal
 

@@ -1,13 +1,7 @@
-use Rattle.std.proofs.Common.{◌≡◌, ◌↔◌, true, sym, subst, ◌<◌, length}
-use Rattle.lock_model.specs.Plans.{config_of}
-use Rattle.lock_model.specs.declared.turn.Turn.{Turn}
-use Rattle.lock_model.specs.declared.turn.Turn.TheVariants.{Idle, Ended}
-use Rattle.lock_state.specs.Run.{Run, run_behind, has_ended}
-use Rattle.run_laws.specs.OnTrack.{IsSleeping}
-use Rattle.lock_laws.proofs.Best.{effective_best}
+use Rattle.step_world.proofs.Names.{true, sym, subst, length, config_of, Turn, Idle, Ended, Run, run_behind, has_ended}
+use Rattle.step_world.proofs.Names.{IsSleeping, effective_best, no_cycle, World}
+use Rattle.std.proofs.Common.{◌≡◌, ◌↔◌, ◌<◌}
 use Rattle.run_laws.proofs.Idle as idle
-use Rattle.order_laws.proofs.OrderFacts.Cycle.{no_cycle}
-use Rattle.step_world.specs.Worlds.{World}
 use Rattle.step_world.proofs.WorldsAreSound.{behind_turn}
 use Rattle.step_world.proofs.world.World.turn.Goals as goal
 

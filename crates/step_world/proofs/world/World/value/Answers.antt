@@ -1,7 +1,5 @@
-use Rattle.std.proofs.Common.{ℕ, sym, ap, ◌∙◌}
-use Rattle.std.specs.FinMap.{FinMap, get}
-use Rattle.lock_model.specs.History.{place_cmp, value_at}
-use Rattle.lock_state.specs.Facts.{TablesReplay}
+use Rattle.step_world.proofs.Names.{ℕ, sym, ap, FinMap, get, place_cmp, value_at, TablesReplay}
+use Rattle.std.proofs.Common.{◌∙◌}
 use Rattle.step_world.proofs.world.World.value.Goals as goal
 
 pub returns : goal.returns

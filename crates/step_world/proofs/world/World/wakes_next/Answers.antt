@@ -1,16 +1,8 @@
-use Rattle.std.proofs.Common.{◌≡◌, ◌<◌, length, map, List, [], ◌∷◌, Option, Some, None, IfSome, option_map, refl, sym, ap, subst, ◌∙◌}
-use Rattle.std.proofs.lemmas.Option.{none-some, same_Some}
-use Rattle.lock_model.specs.Plans.{config_of}
-use Rattle.lock_model.specs.Queues.{Mark}
-use Rattle.lock_model.specs.declared.numbers.ThreadNo.{ThreadNo}
-use Rattle.lock_model.specs.declared.plan.QueueName.{QueueName}
-use Rattle.lock_laws.proofs.Standing.{marked_thread}
-use Rattle.lock_objects.specs.Marked.{places_of}
-use Rattle.lock_objects.specs.Represents.{mark_of}
-use Rattle.lock_state.specs.Run.{Run}
-use Rattle.step_machine.proofs.Kit.{read}
-use Rattle.wait_objects.specs.Seen.{Place}
-use Rattle.step_world.specs.Worlds.{World, Represents, first_marked, first_thread}
+use Rattle.step_world.proofs.Names
+use Names.{length, map, List, [], Option, Some, None, IfSome, option_map, refl, sym, ap, subst, none-some, same_Some}
+use Names.{config_of, Mark, ThreadNo, QueueName, marked_thread, places_of, mark_of, Run, read, Place, World, Represents}
+use Names.{first_marked, first_thread}
+use Rattle.std.proofs.Common.{◌≡◌, ◌<◌, ◌∷◌, ◌∙◌}
 use Rattle.step_world.proofs.world.World.wakes_next.Goals as goal
 
 firsts : (q : QueueName) (ps : List Place) → first_thread ps ≡ first_marked (map (mark_of q) ps)

@@ -1,4 +1,4 @@
-use Rattle.std.proofs.Common.{ap}
+use Rattle.step_world.proofs.Names.{ap}
 use Rattle.step_world.proofs.world.World.walk.Goals as goal
 
 pub returns : goal.returns

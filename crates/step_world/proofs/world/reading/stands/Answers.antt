@@ -1,5 +1,5 @@
-use Rattle.std.proofs.Common.{sym, ◌∙◌}
-use Rattle.lock_model.specs.Plans.{config_of}
+use Rattle.step_world.proofs.Names.{sym, config_of}
+use Rattle.std.proofs.Common.{◌∙◌}
 use Rattle.step_world.proofs.Telling.{waits_in_chain, waits_in_sleepers}
 use Rattle.step_world.proofs.world.reading.stands.Goals as goal
 
