@@ -17,6 +17,7 @@ Decides-is_queue (Chan c) (Chan d) =
 pub is_queue_equiv : IsEquivalence is_queue
 is_queue_equiv = record {
   refl = λ a. (Decides-is_queue a a).1 refl;
-  symm = λ a b. same_from_decides (is_queue a b) (is_queue b a) (Decides-is_queue a b) ((λ h. sym ((Decides-is_queue b a).0 h)), λ e. (Decides-is_queue b a).1 (sym e));
+  symm = λ a b. same_from_decides (is_queue a b) (is_queue b a) (Decides-is_queue a b)
+      ((λ h. sym ((Decides-is_queue b a).0 h)), λ e. (Decides-is_queue b a).1 (sym e));
   congr = λ a b n h. ap (λ (q : QueueName). is_queue q n) ((Decides-is_queue a b).0 h);
 }

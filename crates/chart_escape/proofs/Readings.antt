@@ -31,17 +31,21 @@ decimal_stays : (t : Text) (elements : List (List ℕ)) (n : ℕ)
 unfolding digits
 decimal_stays t elements n = digits_stay t elements 64 n []
 
-reference_stays : (t : Text) (elements : List (List ℕ)) (b : ℕ) → behind (at (InText t) elements) (markup_byte b) ≡ at (InText t) elements
+reference_stays : (t : Text) (elements : List (List ℕ)) (b : ℕ)
+    → behind (at (InText t) elements) (markup_byte b) ≡ at (InText t) elements
 reference_stays t elements b = grind arith
 
-escaped_stays : (t : Text) (elements : List (List ℕ)) (text : List ℕ) → behind (at (InText t) elements) (escaped text) ≡ at (InText t) elements
+escaped_stays : (t : Text) (elements : List (List ℕ)) (text : List ℕ)
+    → behind (at (InText t) elements) (escaped text) ≡ at (InText t) elements
 escaped_stays t elements [] = refl
 escaped_stays t elements (b ∷ bs) =
-    behind-append (at (InText t) elements) (markup_byte b) (escaped bs) ∙ ap (λ r. behind r (escaped bs)) (reference_stays t elements b) ∙ escaped_stays t elements bs
+    behind-append (at (InText t) elements) (markup_byte b) (escaped bs)
+    ∙ ap (λ r. behind r (escaped bs)) (reference_stays t elements b) ∙ escaped_stays t elements bs
 
 -- 2. Pieces
 
-words_stay : (p : Place) (elements : List (List ℕ)) (bytes : List ℕ) → ((t : Text) → behind (at (InText t) elements) bytes ≡ at (InText t) elements)
+words_stay : (p : Place) (elements : List (List ℕ)) (bytes : List ℕ)
+    → ((t : Text) → behind (at (InText t) elements) bytes ≡ at (InText t) elements)
     → behind (at p elements) bytes ≡ behind_words p elements bytes
 words_stay p elements bytes h = grind (arith, h)
 
@@ -50,7 +54,8 @@ piece_read r (piece.Own text) = refl
 piece_read r (piece.Number n) = words_stay r.place r.elements (decimal n) (λ t. decimal_stays t r.elements n)
 piece_read r (piece.Optional None) = refl
 piece_read r (piece.Optional (Some n)) = words_stay r.place r.elements (decimal n) (λ t. decimal_stays t r.elements n)
-piece_read r (piece.Text text) = words_stay r.place r.elements (escaped text.now) (λ t. escaped_stays t r.elements text.now)
+piece_read r (piece.Text text) =
+    words_stay r.place r.elements (escaped text.now) (λ t. escaped_stays t r.elements text.now)
 piece_read r (piece.Json text) = refl
 
 pub pieces_read : (r : Reader) (ps : List Piece) → behind r (pieces_bytes ps) ≡ behind_pieces r ps
@@ -59,14 +64,16 @@ pieces_read r (p ∷ ps) =
     behind-append r (written decimal p) (pieces_bytes ps) ∙ ap (λ s. behind s (pieces_bytes ps)) (piece_read r p)
     ∙ pieces_read (behind_piece r p) ps
 
-pub pieces_read_on : (old new : List ℕ) (ps : List Piece) → new ≡ old ++ pieces_bytes ps → read new ≡ behind_pieces (read old) ps
+pub pieces_read_on : (old new : List ℕ) (ps : List Piece) → new ≡ old ++ pieces_bytes ps
+    → read new ≡ behind_pieces (read old) ps
 pieces_read_on old new ps e =
     ap read e ∙ behind-append (at (InText Between) []) old (pieces_bytes ps) ∙ pieces_read (read old) ps
 
 -- 3. Whole elements
 
 -- pieces that leave a reader of text where it was
-pub adds : (old new : List ℕ) (ps : List Piece) → IsBetweenTags old → AreElements ps → read new ≡ behind_pieces (read old) ps
+pub adds : (old new : List ℕ) (ps : List Piece) → IsBetweenTags old → AreElements ps
+    → read new ≡ behind_pieces (read old) ps
     → AddsElements old new
 adds old new ps between same e =
     let is = ap (λ (p : Place). at p (read old).elements) between in

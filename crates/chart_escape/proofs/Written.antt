@@ -68,7 +68,8 @@ unfolding lex punctuate
 separator_read first own_line r = grind arith
 
 name_read : (first : Bool) (name r : List ℕ)
-    → punctuate (behind first) (lex between (json_string name ++ 58 ∷ r)) ≡ Token.key name ∷ punctuate fresh (lex between r)
+    → punctuate (behind first) (lex between (json_string name ++ 58 ∷ r)) ≡ Token.key name
+    ∷ punctuate fresh (lex between r)
 unfolding lex punctuate
 name_read first name r = grind (arith, string_lexed name (58 ∷ r))
 
@@ -76,14 +77,16 @@ mutual
   unfolding lex punctuate
 
   value_read : (first : Bool) (v : Value) (r : List ℕ) → Ends r
-      → punctuate (behind first) (lex between (value_bytes v ++ r)) ≡ json_tokens (json_of v) ++ punctuate after_value (lex between r)
+      → punctuate (behind first) (lex between (value_bytes v ++ r)) ≡ json_tokens (json_of v)
+      ++ punctuate after_value (lex between r)
   value_read first (Number n) r e = grind (arith, lex-number (number_bytes n) r (is_number n) e.word)
   value_read first (String text) r e = grind (arith, string_lexed text r, e.colon)
   value_read first (Array is) r e = grind (arith, items_read true is r)
   value_read first (Object ms) r e = grind (arith, members_read true ms r)
 
   items_read : (first : Bool) (is : Items) (r : List ℕ)
-      → punctuate (before first) (lex between (items_bytes first is ++ r)) ≡ items_tokens (json_items is) ++ punctuate after_value (lex between r)
+      → punctuate (before first) (lex between (items_bytes first is ++ r)) ≡ items_tokens (json_items is)
+      ++ punctuate after_value (lex between r)
   items_read first NoItems r = grind arith
   items_read first (Item own_line v is) r =
       let rest = items_bytes false is ++ r in
@@ -92,7 +95,8 @@ mutual
       ∙ ap (λ ts. json_tokens (json_of v) ++ ts) (items_read false is r))
 
   members_read : (first : Bool) (ms : Members) (r : List ℕ)
-      → punctuate (before first) (lex between (members_bytes first ms ++ r)) ≡ members_tokens (json_members ms) ++ punctuate after_value (lex between r)
+      → punctuate (before first) (lex between (members_bytes first ms ++ r)) ≡ members_tokens (json_members ms)
+      ++ punctuate after_value (lex between r)
   members_read first NoMembers r = grind arith
   members_read first (Member own_line name v ms) r =
       let rest = members_bytes false ms ++ r in
@@ -109,7 +113,8 @@ mutual
 read_whole : (v : Value) (r : List ℕ) → Ends r → punctuate after_value (lex between r) ≡ [] → IsShallow 128 v
     → document (value_bytes v ++ r) ≡ Some (json_of v)
 read_whole v r ends none shallow =
-    ap (λ ts. option_and_then (λ p. if_last p.0 p.1) (value max_depth ts)) (value_read true v r ends ∙ ap (λ ts. json_tokens (json_of v) ++ ts) none)
+    ap (λ ts. option_and_then (λ p. if_last p.0 p.1) (value max_depth ts))
+    (value_read true v r ends ∙ ap (λ ts. json_tokens (json_of v) ++ ts) none)
     ∙ ap (option_and_then (λ p. if_last p.0 p.1)) (value-json_tokens (json_of v) max_depth [] shallow)
 
 pub is_json : (v : Value) → IsShallow 128 v → IsJson (text_bytes v)
@@ -118,10 +123,12 @@ is_json v shallow = (json_of v, read_whole v (codes "\n") (record { word = refl;
 
 pub is_read_back : (text : List ℕ) → IsReadBack text
 unfolding lex punctuate
-is_read_back text = ap document (sym (append-nil (json_string text))) ∙ read_whole (String text) [] (record { word = refl; colon = refl }) refl (omega arith)
+is_read_back text = ap document (sym (append-nil (json_string text)))
+    ∙ read_whole (String text) [] (record { word = refl; colon = refl }) refl (omega arith)
 
 -- how deep lines nest
-pub numbered_is_shallow : {T : Type 0} (told : ℕ → T → Value) (k : ℕ) → ((i : ℕ) (x : T) → IsShallow k (told i x)) → (i : ℕ) (xs : List T)
+pub numbered_is_shallow : {T : Type 0} (told : ℕ → T → Value) (k : ℕ) → ((i : ℕ) (x : T) → IsShallow k (told i x))
+    → (i : ℕ) (xs : List T)
     → items_depth (json_items (items true (told_from told i xs))) ≤ k
 numbered_is_shallow told k each i [] = omega arith
 numbered_is_shallow told k each i (x ∷ xs) = omega (arith, each i x, numbered_is_shallow told k each (i + 1) xs)

@@ -20,7 +20,8 @@ module _ {T : Type 0} (tells : T → List ℕ) where
   rest_ascends x rows up i j d l m = up (suc i) (suc j) d (omega arith) (omega arith)
 
   -- a change that is left is one of the rows',
-  all_changed : (P : ℕ × T → Type 0) (last : Option (List ℕ)) (rows : List (ℕ × T)) → All P rows → All P (changed tells last rows)
+  all_changed : (P : ℕ × T → Type 0) (last : Option (List ℕ)) (rows : List (ℕ × T)) → All P rows
+      → All P (changed tells last rows)
   all_changed P last [] h = h
   all_changed P last (x ∷ rows) h =
       let later : All P rows = λ k d l. h (suc k) d (omega arith) in
@@ -66,10 +67,12 @@ module _ {T : Type 0} (tells : T → List ℕ) where
     | inl l ↦
         let behind : All (λ y. n < y.0) (x ∷ rows) = All-cons (λ y. n < y.0) x rows l
         (λ k d j. let later = up 0 (suc k) d (omega arith) (omega arith) in omega (arith, l, later)) in
-        ap (option_map tells) (unchanged n mine (changed tells last (x ∷ rows)) (all_changed (λ y. n < y.0) last (x ∷ rows) behind))
+        ap (option_map tells)
+        (unchanged n mine (changed tells last (x ∷ rows)) (all_changed (λ y. n < y.0) last (x ∷ rows) behind))
         ∙ sym is ∙ same ∙ sym (ap (option_map tells) (unchanged n its (x ∷ rows) behind))
     | inr l ↦
-        let here : (o : Option T) → replaced n o x ≡ Some x.1 = λ o. ap (λ (b : Bool). cond b (Some x.1) o) (le-leb x.0 n l) in
+        let here : (o : Option T)
+        → replaced n o x ≡ Some x.1 = λ o. ap (λ (b : Bool). cond b (Some x.1) o) (le-leb x.0 n l) in
         let theirs = ap (λ o. told_by n o rows) (sym (here its)) in
         elim (cases_Bool (is_told last (tells x.1))) [
           | inl so ↦ rw so (agree n last mine (Some x.1) rows rest is (told_is last (tells x.1) so) ∙ theirs)

@@ -23,7 +23,8 @@ use Rattle.run_tracks.specs.declared.threads.ThreadRows.{ThreadRows}
 track_is : {T : Type 0} (told : T → Value) → ((x : T) → IsShallow 0 (told x)) → (changes : List (ℕ × T))
     → IsShallow 2 (track told changes)
 track_is told each changes =
-    let pairs = numbered_is_shallow (λ i. pair told) 1 (λ i change. let e = each change.1 in omega (arith, e)) 0 changes in
+    let pairs = numbered_is_shallow (λ i. pair told) 1
+    (λ i change. let e = each change.1 in omega (arith, e)) 0 changes in
     omega (arith, pairs)
 
 hold_is : (mode : Option Mode) → IsShallow 0 (hold mode)

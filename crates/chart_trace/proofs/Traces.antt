@@ -10,11 +10,14 @@ use Rattle.lock_model.specs.declared.plan.Plan.{Plan}
 
 -- events that are pushed behind others
 pub lines_more : (o : List ℕ) (xs ys : List Event) → o ++ next_lines (xs ++ ys) ≡ o ++ next_lines xs ++ next_lines ys
-lines_more o xs ys = ap (λ w. o ++ w) (flat_map-append next_line xs ys) ∙ sym (append_assoc o (next_lines xs) (next_lines ys))
+lines_more o xs ys = ap (λ w. o ++ w) (flat_map-append next_line xs ys)
+    ∙ sym (append_assoc o (next_lines xs) (next_lines ys))
 
-lines_end : (i : ℕ) (es : List Event) → items_bytes false (items true (told_from (λ n. event_value) i es)) ≡ next_lines es ++ codes "]"
+lines_end : (i : ℕ) (es : List Event)
+    → items_bytes false (items true (told_from (λ n. event_value) i es)) ≡ next_lines es ++ codes "]"
 lines_end i [] = refl
-lines_end i (e ∷ es) = ap (λ w. next_line e ++ w) (lines_end (i + 1) es) ∙ sym (append_assoc (next_line e) (next_lines es) (codes "]"))
+lines_end i (e ∷ es) = ap (λ w. next_line e ++ w) (lines_end (i + 1) es)
+    ∙ sym (append_assoc (next_line e) (next_lines es) (codes "]"))
 
 in_a_row : (j v n : List ℕ) → (j ++ (codes "},\"traceEvents\":[\n" ++ v)) ++ n ++ codes "]}\n"
     ≡ (j ++ codes "}") ++ (codes ",\"traceEvents\":[\n" ++ ((v ++ (n ++ codes "]")) ++ codes "}")) ++ codes "\n"
@@ -37,4 +40,7 @@ event_is_shallow other = omega arith
 
 pub trace_is_json : (plan : Plan) (chart : Chart) (title : List ℕ) → IsJson (trace_bytes plan chart title)
 trace_is_json plan chart title =
-    is_json (trace_value plan chart title) (omega (arith, numbered_is_shallow (λ i. event_value) 2 (λ i. event_is_shallow) 0 (end_event chart ∷ other_events plan chart)))
+    is_json (trace_value plan chart title) (omega (
+      arith,
+      numbered_is_shallow (λ i. event_value) 2 (λ i. event_is_shallow) 0 (end_event chart ∷ other_events plan chart),
+    ))

@@ -22,7 +22,8 @@ pub made : {A : Type 0} {told_as : A → Next} {behind : A → Stage}
 made part did = record { part = part; tells = refl; stands = refl; did = did }
 
 -- where that is the stage the thread stands at it
-pub at_stage : (f : Floor Description) (q : Pass Knowledge) {stage is : Stage} → stage ≡ is → IsAt f is q → IsAt f stage q
+pub at_stage : (f : Floor Description) (q : Pass Knowledge) {stage is : Stage} → stage ≡ is → IsAt f is q
+    → IsAt f stage q
 at_stage f q e at = subst (λ (s : Stage). IsAt f s q) (sym e) at
 
 -- a part of a lock's call was told so, with the stage behind it

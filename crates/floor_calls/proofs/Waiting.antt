@@ -96,7 +96,8 @@ module _ (floor : Description) (on : WaitOn) (v : Knowledge) where
             noted = ap (λ (k : Knowledge). k.share.doing.noted) kept;
             woken_from = ap (λ (k : Knowledge). k.share.doing.woken_from) kept;
           };
-          unburdened = assumption (ap (λ (k : Knowledge). k.share.doing.walk) kept ∙ r.unburdened.no_walk, d.nobody, d.down.may);
+          unburdened =
+              assumption (ap (λ (k : Knowledge). k.share.doing.walk) kept ∙ r.unburdened.no_walk, d.nobody, d.down.may);
           held = ap (λ (k : Knowledge). k.share.held) kept;
           begun = ap (λ (k : Knowledge). k.share.begun) kept;
           pose = ap (λ (k : Knowledge). k.pose) kept;

@@ -13,4 +13,5 @@ module _ (floor : Description) (threads : List ℕ) (x : Closing) (k : IsClosing
 
   pub few_entries : length (entries_in x.logs.items) < 2 ^ 32
   few_entries =
-      subst (λ n. n < 2 ^ 32) (sym (logs_long threads x.logs.items k.history k.logs k.legal.tickets_run ∙ length-reverse k.history)) k.few
+      subst (λ n. n < 2 ^ 32)
+      (sym (logs_long threads x.logs.items k.history k.logs k.legal.tickets_run ∙ length-reverse k.history)) k.few

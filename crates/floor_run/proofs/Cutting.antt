@@ -89,7 +89,8 @@ module _ (plan : Plan) (f : Floor Description) (given : IsFor plan f.description
         n = n;
         left = length (held_of ops n);
         held = holds ∙ sym (take_all (length (held_of ops n)) (held_of ops n) (omega arith));
-        leads = subst (λ (hs : List Held). LeadsTo (config_of plan).kind ops y.view.share.log (Cut (reverse hs))) (sym holds)
+        leads = subst (λ (hs : List Held). LeadsTo (config_of plan).kind ops y.view.share.log (Cut (reverse hs)))
+            (sym holds)
             leads;
         stamped = stamped;
         room = omega (arith, room, ap length holds);
@@ -120,7 +121,8 @@ module _ (plan : Plan) (f : Floor Description) (given : IsFor plan f.description
       let low : n < length ops = slice_get_within ops n (Sleep d) at in
       let few = few_held plan p t (length ops - suc n) (suc n) (omega (arith, low)) in
       is_cut y ready (s.ended.thread ∙ s.slept.thread ∙ b.thread) s.ended.held
-      (subst (λ (es : List Entry). LeadsTo (config_of plan).kind ops es (Cut (reverse (held_of ops n)))) (sym s.ended.log)
+      (subst (λ (es : List Entry). LeadsTo (config_of plan).kind ops es (Cut (reverse (held_of ops n))))
+      (sym s.ended.log)
       (law.is_woken_by_a_halt last
       (lies_asleep plan f given p t n x b s.asleep d x.view.share.held at s.slept) at refl))
       (both_stamped plan f given p t n x b y.view d ByAbort s)

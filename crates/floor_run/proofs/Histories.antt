@@ -69,7 +69,8 @@ unheld_halt ps qs run = go h.moment (h.comes_first.0 refl) (h.honest 0 (omega ar
 
 -- or which q has, who is awake: its next entry gives a back
 awake_halt : List Entry
-awake_halt = entry 2 1 (Unlocked (lock 0) Excl) ∷ entry 1 0 (HaltedLock (lock 0)) ∷ entry 0 1 (Locked (lock 0) Excl) ∷ []
+awake_halt =
+    entry 2 1 (Unlocked (lock 0) Excl) ∷ entry 1 0 (HaltedLock (lock 0)) ∷ entry 0 1 (Locked (lock 0) Excl) ∷ []
 
 holder_goes_on : (ps qs : List Op) → Prints ps qs awake_halt → ⊥
 unfolding awake_halt HaltsComeSince entries_below entries_since any_below sections_in

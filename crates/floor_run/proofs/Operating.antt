@@ -44,10 +44,13 @@ plan_named plan t n l key op e i = go (slice_get plan.threads t) refl
     test d = list_any (op_names l key) d.ops
 
     go : (o : Option ThreadDecl) → slice_get plan.threads t ≡ o → IsTrue (plan_names plan l key)
-    go None f = absurd (none-some op (let ops : operations_of plan t ≡ [] = ap (λ x. unwrap_or x []) (slice_get-map (λ d. d.ops) plan.threads t ∙ ap (option_map (λ (d : ThreadDecl). d.ops)) f) in rw ops at e))
+    go None f = absurd (none-some op (let ops : operations_of plan t ≡ [] = ap (λ x. unwrap_or x [])
+        (slice_get-map (λ d. d.ops) plan.threads t ∙ ap (option_map (λ (d : ThreadDecl). d.ops)) f) in rw ops at e))
     go (Some d) f =
-        let ops : operations_of plan t ≡ d.ops = ap (λ x. unwrap_or x []) (slice_get-map (λ d. d.ops) plan.threads t ∙ ap (option_map (λ (d : ThreadDecl). d.ops)) f) in
-        any_passes_from_place test plan.threads t d f (any_passes_from_place (op_names l key) d.ops n op (rw ops at e) i)
+        let ops : operations_of plan t ≡ d.ops = ap (λ x. unwrap_or x [])
+        (slice_get-map (λ d. d.ops) plan.threads t ∙ ap (option_map (λ (d : ThreadDecl). d.ops)) f) in
+        any_passes_from_place test plan.threads t d f
+        (any_passes_from_place (op_names l key) d.ops n op (rw ops at e) i)
 
 -- so the key is one of the floor's
 named : (plan : Plan) (floor : Description) → IsFor plan floor → (t n l key : ℕ) (op : Op)
@@ -74,10 +77,13 @@ is_covered plan floor given l mode low of_mutex = record {
 }
 
 -- a thread has as many operations as all have together, or fewer
-few_ops : (threads : List ThreadDecl) (t : ℕ) → length (unwrap_or (slice_get (map (λ d. d.ops) threads) t) []) ≤ sum (map (λ d. length d.ops) threads)
+few_ops : (threads : List ThreadDecl) (t : ℕ)
+    → length (unwrap_or (slice_get (map (λ d. d.ops) threads) t) []) ≤ sum (map (λ d. length d.ops) threads)
 few_ops [] t = omega arith
-few_ops (d ∷ ds) zero = omega (arith, sum_by-cons (λ (n : ℕ). n) (length d.ops) (map (λ (e : ThreadDecl). length e.ops) ds))
-few_ops (d ∷ ds) (suc t) = omega (arith, few_ops ds t, sum_by-cons (λ (n : ℕ). n) (length d.ops) (map (λ (e : ThreadDecl). length e.ops) ds))
+few_ops (d ∷ ds) zero =
+    omega (arith, sum_by-cons (λ (n : ℕ). n) (length d.ops) (map (λ (e : ThreadDecl). length e.ops) ds))
+few_ops (d ∷ ds) (suc t) =
+    omega (arith, few_ops ds t, sum_by-cons (λ (n : ℕ). n) (length d.ops) (map (λ (e : ThreadDecl). length e.ops) ds))
 
 pub few_operations : (plan : Plan) (t : ℕ) → IsProper plan → length (operations_of plan t) < 2 ^ 32
 few_operations plan t p = omega (arith, few_ops plan.threads t, p.operations)
@@ -251,7 +257,8 @@ module _ (plan : Plan) (f : Floor Description) (given : IsFor plan f.description
   abbrev pub MayEdit : ℕ → ℕ → Type 0
   MayEdit l key = (hold_in x.view.share.held l ≡ Holds Excl) × Contains f.description.keys (l, key) × (1 ≤ x.view.spare)
 
-  may_edit : (op : Op) (l : LockNo) (key : ℕ) → slice_get ops n ≡ Some op → op_names l.0 key op ≡ true → Passes (edit_tests l held) → MayEdit l.0 key
+  may_edit : (op : Op) (l : LockNo) (key : ℕ) → slice_get ops n ≡ Some op → op_names l.0 key op ≡ true
+      → Passes (edit_tests l held) → MayEdit l.0 key
   may_edit op l key e names tests = (
     holds_so l.0 ∙ exclusive_is (hold_in held l.0) (passed _ _ (passed _ _ tests).1).0,
     named plan f.description
@@ -313,7 +320,8 @@ module _ (plan : Plan) (f : Floor Description) (given : IsFor plan f.description
       let fits = wait_fits plan d held _ (next_leads plan p t n (Sleep d) e) in
       record {
         chan = chan_of_floor d.0 fits.chan;
-        last = subst (λ (z : ℕ × List Held). is_last z.0 z.1 ≡ true) (λ i. (sym (same_lock plan f.description given d.0) i, sym b.held i)) fits.last;
+        last = subst (λ (z : ℕ × List Held). is_last z.0 z.1 ≡ true)
+            (λ i. (sym (same_lock plan f.description given d.0) i, sym b.held i)) fits.last;
         sleepable = λ k other blocks. holds_so k
             ∙ others_sleepable plan d held (next_leads plan p t n (Sleep d) e).passes k
             (λ same. other (same ∙ sym (same_lock plan f.description given d.0)))
@@ -327,9 +335,13 @@ module _ (plan : Plan) (f : Floor Description) (given : IsFor plan f.description
       → lock_of f.description d.0 < length f.description.locks
   lock_there d e =
       let fits = wait_fits plan d held _ (next_leads plan p t n (Sleep d) e) in
-      let low : chan_lock plan d.0 < length plan.locks = (held_are_locks plan p t n).within (chan_lock plan d.0) fits.held in
+      let low : chan_lock plan d.0
+      < length plan.locks = (held_are_locks plan p t n).within (chan_lock plan d.0) fits.held in
       subst (λ (z : ℕ × ℕ). z.0 < z.1)
-      (λ i. (sym (same_lock plan f.description given d.0) i, sym (ap (λ c. c.locks) (ap config_in given ∙ same_config plan f.description.chains)) i))
+      (λ i. (
+        sym (same_lock plan f.description given d.0) i,
+        sym (ap (λ c. c.locks) (ap config_in given ∙ same_config plan f.description.chains)) i,
+      ))
       low
 
   pub may_wake : (op : Op) (d : ChanNo) → slice_get ops n ≡ Some op → d.0 < length plan.chans

@@ -38,7 +38,9 @@ abbrev pub AreDone : Plan → Floor Description → List (Pass Knowledge) → Ty
 AreDone plan f passes = (t : ℕ) (d : Pass Knowledge) → t < length passes → IsDone plan f t (get_or passes t d)
 
 -- what is so at each place of a list, by the places
-map_same : {A B : Type 0} (xs : List A) (f : A → B) (g : ℕ → B) (a : ℕ) → ((k : ℕ) (d : A) → k < length xs → f (get_or xs k d) ≡ g (a + k)) → map f xs ≡ map g (range_with_len a (length xs))
+map_same : {A B : Type 0} (xs : List A) (f : A → B) (g : ℕ → B) (a : ℕ)
+    → ((k : ℕ) (d : A) → k < length xs → f (get_or xs k d) ≡ g (a + k))
+    → map f xs ≡ map g (range_with_len a (length xs))
 map_same [] f g a h = refl
 map_same (x ∷ xs) f g a h =
     let first : f x ≡ g a = h 0 x (omega arith) ∙ ap g (omega arith) in
@@ -75,7 +77,8 @@ some_reversal (e ∷ es) = ap (λ b. is_reversal e.event || b) (some_reversal es
 same_ending : (es : List Entry) → ending_left es ≡ ending_of_run (reverse es)
 same_ending es =
     let turned = IsPermutation-reverse es in
-    ap (λ (b : Bool). if b then text.IsStuck else (if list_any (λ (e : Entry). is_reversal e.event) es then text.IsReversed else text.IsDone))
+    ap (λ (b : Bool). if b then text.IsStuck else
+    (if list_any (λ (e : Entry). is_reversal e.event) es then text.IsReversed else text.IsDone))
     (list_any-IsPermutation (λ (e : Entry). is_halt e.event) es (reverse es) turned)
     ∙ ap (λ (b : Bool). if has_halt (reverse es) then text.IsStuck else (if b then text.IsReversed else text.IsDone))
     (list_any-IsPermutation (λ (e : Entry). is_reversal e.event) es (reverse es) turned ∙ some_reversal (reverse es))
@@ -99,13 +102,17 @@ module _ (plan : Plan) (chains : ℕ) (x : Closing)
   count = closing.count ∙ length-map plan.threads thread_part
 
   -- a thread's part of the history, where the logs are those
-  its_part : (logs : List (List Entry)) → map (λ b. b.entries) x.logs.items ≡ map reverse logs → (t : ℕ) → t < length plan.threads → get_or logs t [] ≡ entries_of history t
+  its_part : (logs : List (List Entry)) → map (λ b. b.entries) x.logs.items ≡ map reverse logs → (t : ℕ)
+      → t < length plan.threads → get_or logs t [] ≡ entries_of history t
   its_part logs same t lt =
-      let all : map reverse logs ≡ map (λ u. reverse (entries_of history u)) (threads_of plan) = sym same ∙ closing.logs.parts in
-      let long : length logs ≡ length plan.threads = sym (length-map logs reverse) ∙ ap length all ∙ length-map-range_with_len (λ u. reverse (entries_of history u)) 0 (length plan.threads) in
+      let all : map reverse logs ≡ map (λ u. reverse (entries_of history u)) (threads_of plan) = sym same
+      ∙ closing.logs.parts in
+      let long : length logs ≡ length plan.threads = sym (length-map logs reverse) ∙ ap length all
+      ∙ length-map-range_with_len (λ u. reverse (entries_of history u)) 0 (length plan.threads) in
       let at : reverse (get_or logs t []) ≡ reverse (entries_of history t) =
       sym (get_or-map reverse logs t [] [] (omega (arith, long, lt))) ∙ ap (λ ls. get_or ls t []) all
-      ∙ get_or-map-range_with_len (λ u. reverse (entries_of history u)) 0 (length plan.threads) t t [] lt (omega arith) in
+      ∙ get_or-map-range_with_len (λ u. reverse (entries_of history u)) 0 (length plan.threads) t t [] lt
+      (omega arith) in
       sym (reverse-reverse (get_or logs t [])) ∙ ap reverse at ∙ reverse-reverse (entries_of history t)
 
   follows : (logs : List (List Entry)) → map (λ b. b.entries) x.logs.items ≡ map reverse logs
@@ -117,11 +124,13 @@ module _ (plan : Plan) (chains : ℕ) (x : Closing)
         subst (IsWhole plan floor t) (its_part logs same t lt) (whole t lt) in
         record { point = w.point; leads = w.leads; whole = λ e. w.at_end }
     | inr le ↦
-        let none : entries_of history t ≡ [] = none_of (entries_of history t) (λ some. absurd (omega (arith, closing.logs.no_other t some, absent_from 0 (length plan.threads) t (omega (arith, le))))) in
+        let none : entries_of history t ≡ [] = none_of (entries_of history t) (λ some. absurd
+        (omega (arith, closing.logs.no_other t some, absent_from 0 (length plan.threads) t (omega (arith, le))))) in
         let ops : operations_of plan t ≡ [] = no_operations plan t le in
         record {
           point = Before 0;
-          leads = subst (λ (es : List Entry). LeadsTo (config_of plan).kind (operations_of plan t) es (Before 0)) (sym none) law.begins;
+          leads = subst (λ (es : List Entry). LeadsTo (config_of plan).kind (operations_of plan t) es (Before 0))
+              (sym none) law.begins;
           whole = λ e. sym (ap (λ (os : List Op). length os) ops);
         }
   ]
@@ -185,10 +194,13 @@ module _ (plan : Plan) (chains : ℕ) (x : Closing)
 -- 4. What is gathered
 
 -- a list whose items were changed in their places
-pub written_back : {A : Type 0} (xs ys : List A) (n : ℕ) → length ys ≡ length xs → n ≡ length xs → take n (ys ++ drop (length ys) xs) ≡ ys
-written_back xs ys n same count = ap (λ zs. take n (ys ++ zs)) (drop_all (length ys) xs (omega (arith, same))) ∙ ap (take n) (append-nil ys) ∙ take_all n ys (omega (arith, same, count))
+pub written_back : {A : Type 0} (xs ys : List A) (n : ℕ) → length ys ≡ length xs → n ≡ length xs
+    → take n (ys ++ drop (length ys) xs) ≡ ys
+written_back xs ys n same count = ap (λ zs. take n (ys ++ zs)) (drop_all (length ys) xs (omega (arith, same)))
+    ∙ ap (take n) (append-nil ys) ∙ take_all n ys (omega (arith, same, count))
 
-logs_in : (passes : List (Pass Knowledge)) → map (λ g. reverse g.1.log) (parts passes) ≡ map reverse (map (λ p. p.view.share.log) passes)
+logs_in : (passes : List (Pass Knowledge))
+    → map (λ g. reverse g.1.log) (parts passes) ≡ map reverse (map (λ p. p.view.share.log) passes)
 logs_in [] = refl
 logs_in (p ∷ ps) = ap (λ ls. reverse p.view.share.log ∷ ls) (logs_in ps)
 

@@ -37,10 +37,12 @@ module _ (plan : Plan) where
     abbrev is_allowed : Held → Bool
     is_allowed h = (h.l.0 == l) || is_of_kind plan.locks Sx h.l
 
-    not_that : (m : ℕ) → m ≡ k → (b : Bool) → (m == l) ≡ b → (b || is_of_kind plan.locks Sx (record { 0 = m })) ≡ true → ⊥
+    not_that : (m : ℕ) → m ≡ k → (b : Bool) → (m == l) ≡ b → (b || is_of_kind plan.locks Sx (record { 0 = m })) ≡ true
+        → ⊥
     not_that m same true is_l e = other (sym same ∙ eqb-true m l is_l)
     not_that m same false is_l e =
-        let z : true ≡ false = sym turnstile ∙ ap (λ (u : ℕ). is_turnstile (lock_kind plan u)) (sym same) ∙ sx_sleeps m e in
+        let z : true ≡ false = sym turnstile ∙ ap (λ (u : ℕ). is_turnstile (lock_kind plan u)) (sym same)
+        ∙ sx_sleeps m e in
         cc
 
     sleepable : (hs : List Held) → list_all is_allowed hs ≡ true → hold_in hs k ≡ NotHeld

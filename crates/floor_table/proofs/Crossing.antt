@@ -14,7 +14,20 @@ use Rattle.floor_table.specs.contracts.slot.Slot as slot
 use Rattle.thread_records.specs.contracts.record.ThreadRec as rec
 
 record_send : IsSend rec.the_row
-record_send = search (sendable, crosses, objects.send-Object, objects.send-Node, loans.send-Loan, sleeping.the_send, thread_no.the_send, lock_no.the_send, prio.the_send, queue_name.the_send, thread_no.the_field_send, prio.the_field_send) depth 40 fits 100000
+record_send = search (
+  sendable,
+  crosses,
+  objects.send-Object,
+  objects.send-Node,
+  loans.send-Loan,
+  sleeping.the_send,
+  thread_no.the_send,
+  lock_no.the_send,
+  prio.the_send,
+  queue_name.the_send,
+  thread_no.the_field_send,
+  prio.the_field_send,
+) depth 40 fits 100000
 
 pub slot_send : IsSend slot.the_row
 slot_send = search (

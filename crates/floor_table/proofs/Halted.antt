@@ -32,7 +32,8 @@ behind_first [] = []
 behind_first (x ∷ xs) = xs
 
 -- where one of the steps that led to a state set it
-pub halted_by : (floor : Description) {past : List Step} {s : State} → LeadsTo floor past s → (later earlier : List Step)
+pub halted_by : (floor : Description) {past : List Step} {s : State} → LeadsTo floor past s
+    → (later earlier : List Step)
     (t : ℕ) → past ≡ later ++ Halts t ∷ earlier → s.halted ≡ true
 unfolding after_halt
 halted_by floor none [] earlier t e = absurd cc

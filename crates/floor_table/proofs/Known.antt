@@ -16,8 +16,10 @@ use Rattle.floor_table.proofs.Seats.{seat_of}
 use Rattle.floor_table.proofs.Items.{has_just}
 
 -- it has seen all steps up to its thread's last one
-pub seen_of : (vs : List Knowledge) (past : List Step) (v : Knowledge) → thread_in vs v.thread ≡ v → AreSeen vs past → v.role ≡ OfThread → IsSeenBy v.thread v.seen past
-seen_of vs past v here seen is = subst (λ (w : Knowledge). IsSeenBy v.thread w.seen past) here (seen.thread v.thread (ap (λ (w : Knowledge). w.role) here ∙ is))
+pub seen_of : (vs : List Knowledge) (past : List Step) (v : Knowledge) → thread_in vs v.thread ≡ v → AreSeen vs past
+    → v.role ≡ OfThread → IsSeenBy v.thread v.seen past
+seen_of vs past v here seen is = subst (λ (w : Knowledge). IsSeenBy v.thread w.seen past) here
+    (seen.thread v.thread (ap (λ (w : Knowledge). w.role) here ∙ is))
 
 pub fits_of : (floor : Description) (b : Board) {past : List Step} (s : State) (i : ℕ) (v : Knowledge)
     → IsSound floor past s → Represents floor b s → AreSeen b.views past → get_elem? b.views i ≡ some v
@@ -25,7 +27,8 @@ pub fits_of : (floor : Description) (b : Board) {past : List Step} (s : State) (
     → (i ≡ suc v.thread) × Fits floor v s
 fits_of floor b {past} s i v sound r seen at is =
     let seat = seat_of floor b.views s r.seats i v at is in
-    let here : thread_in b.views v.thread ≡ v = at_or b.views (suc v.thread) v nothing (subst (λ j. get_elem? b.views j ≡ some v) seat.0 at) in
+    let here : thread_in b.views v.thread
+    ≡ v = at_or b.views (suc v.thread) v nothing (subst (λ j. get_elem? b.views j ≡ some v) seat.0 at) in
     let just = has_just floor s (latch_word b.words) (home_at b.homes) (λ t. (thread_in b.views t).out) r.content
     v.thread r.latches r.shelves r.objects in (
       seat.0,

@@ -40,11 +40,14 @@ module _ {A : Type 0} where
   snoc_there (y ∷ ys) x d = snoc_there ys x d
 
 -- the field of an item, read at each place, after a write
-pub field_set : {A B : Type 0} (f : A → B) (xs : List A) (i : ℕ) (x d : A) → i < length xs → (λ j. f (get_or (set xs i x) j d)) ≡ put (λ j. f (get_or xs j d)) i (f x)
+pub field_set : {A B : Type 0} (f : A → B) (xs : List A) (i : ℕ) (x d : A) → i < length xs
+    → (λ j. f (get_or (set xs i x) j d)) ≡ put (λ j. f (get_or xs j d)) i (f x)
 field_set f xs i x d fits = λ k j. at j k
   where
     at : (j : ℕ) → f (get_or (set xs i x) j d) ≡ put (λ j. f (get_or xs j d)) i (f x) j
     at j = elim (cases_eq i j) [
-      | inl e ↦ ap (λ m. f (get_or (set xs i x) m d)) (sym e) ∙ ap f (get_or-set_same xs i x d fits) ∙ sym (put_same (λ j. f (get_or xs j d)) i (f x)) ∙ ap (put (λ j. f (get_or xs j d)) i (f x)) e
-      | inr ne ↦ ap f (get_or-set_other xs i j x d (λ e. ne (sym e))) ∙ sym (put_other (λ j. f (get_or xs j d)) i (f x) j ne)
+      | inl e ↦ ap (λ m. f (get_or (set xs i x) m d)) (sym e) ∙ ap f (get_or-set_same xs i x d fits)
+          ∙ sym (put_same (λ j. f (get_or xs j d)) i (f x)) ∙ ap (put (λ j. f (get_or xs j d)) i (f x)) e
+      | inr ne ↦ ap f (get_or-set_other xs i j x d (λ e. ne (sym e)))
+          ∙ sym (put_other (λ j. f (get_or xs j d)) i (f x) j ne)
     ]

@@ -34,7 +34,8 @@ module _ {X : Type 0} (p : X → Bool) (E : X → X → Bool) (alike : (x y : X)
   passes_from : (k : X) (xs : List X) → list_any p (dedup_from E k xs) ≡ (p k || list_any p xs)
   passes_from k [] = refl
   passes_from k (x ∷ xs) =
-      elim (E x k) as (λ b. E x k ≡ b → list_any p (cond b (dedup_from E k xs) (k ∷ dedup_from E x xs)) ≡ (p k || (p x || list_any p xs))) [
+      elim (E x k) as (λ b. E x k ≡ b
+      → list_any p (cond b (dedup_from E k xs) (k ∷ dedup_from E x xs)) ≡ (p k || (p x || list_any p xs))) [
         | true ↦ λ e. passes_from k xs ∙ twice (p k) (p x) (list_any p xs) (alike x k e)
         | false ↦ λ e. ap (λ b. p k || b) (passes_from x xs)
       ] refl
@@ -75,7 +76,8 @@ keys_are : (xs : List (ℕ × ℕ)) → map (λ (e : (ℕ × ℕ) × Unit {0}). 
 keys_are [] = refl
 keys_are (x ∷ xs) = ap (λ ys. x ∷ ys) (keys_are xs)
 
-below : (x : ℕ × ℕ) (xs : List (ℕ × ℕ)) → AllByRecursion (λ y. place_cmp x y ≡ Less) xs → below_all place_cmp x (map alone xs) ≡ true
+below : (x : ℕ × ℕ) (xs : List (ℕ × ℕ)) → AllByRecursion (λ y. place_cmp x y ≡ Less) xs
+    → below_all place_cmp x (map alone xs) ≡ true
 below x [] h = refl
 below x (y ∷ ys) h = ap (λ r. is_lt r && below_all place_cmp x (map alone ys)) h.0 ∙ below x ys h.1
 
@@ -88,7 +90,8 @@ is_eq-cmp : (a b : ℕ) → is_eq (nat_cmp a b) ≡ eqb a b
 is_eq-cmp a b = grind arith
 
 same_ties : (x y : ℕ × ℕ) → same x y ≡ eq_by_cmp place_cmp x y
-same_ties x y = sym (sym (tied_then (nat_cmp x.0 y.0) (nat_cmp x.1 y.1)) ∙ rw (is_eq-cmp x.0 y.0, is_eq-cmp x.1 y.1) refl)
+same_ties x y =
+    sym (sym (tied_then (nat_cmp x.0 y.0) (nat_cmp x.1 y.1)) ∙ rw (is_eq-cmp x.0 y.0, is_eq-cmp x.1 y.1) refl)
 
 named : List (ℕ × ℕ) → FinMap place_cmp (Unit {0})
 named ks = from_entries (map alone ks)
@@ -96,7 +99,8 @@ named ks = from_entries (map alone ks)
 key_there : (q : ℕ × ℕ) (ks : List (ℕ × ℕ)) → get (named ks) q ≡ marked (list_any (eq_by_cmp place_cmp q) ks)
 unfolding named marked
 key_there q [] = get-empty place_cmp q
-key_there q (k ∷ ks) = get-insert place_total (named ks) k tt q ∙ ap (cond (eq_by_cmp place_cmp q k) (Some tt)) (key_there q ks) ∙ marked_or (eq_by_cmp place_cmp q k) _
+key_there q (k ∷ ks) = get-insert place_total (named ks) k tt q
+    ∙ ap (cond (eq_by_cmp place_cmp q k) (Some tt)) (key_there q ks) ∙ marked_or (eq_by_cmp place_cmp q k) _
 
 -- so a sorted list without its repetitions has the keys of a map in order
 pub set_in_order : (ks sorted : List (ℕ × ℕ)) → IsPermutation ks sorted → IsSorted place_cmp sorted
@@ -104,14 +108,18 @@ pub set_in_order : (ks sorted : List (ℕ × ℕ)) → IsPermutation ks sorted �
 unfolding named
 set_in_order ks sorted perm up =
     let out : List (ℕ × ℕ) = dedup same sorted in
-    let strictly : T (is_sorted place_cmp (map alone out)) = subst T (sym (rising out (IsStrictlySortedBy-dedup place_total same_ties sorted up))) tt in
+    let strictly : T (is_sorted place_cmp (map alone out)) = subst T
+    (sym (rising out (IsStrictlySortedBy-dedup place_total same_ties sorted up))) tt in
     let there : FinMap place_cmp (Unit {0}) = from_sorted (map alone out) in
-    let list : keys there ≡ out = ap (λ es. map (λ (e : (ℕ × ℕ) × Unit {0}). e.0) es) (entries-from_sorted place_cmp (map alone out) strictly) ∙ keys_are out in
+    let list : keys there ≡ out = ap (λ es. map (λ (e : (ℕ × ℕ) × Unit {0}). e.0) es)
+    (entries-from_sorted place_cmp (map alone out) strictly) ∙ keys_are out in
     let test : ℕ × ℕ → ℕ × ℕ → Bool = λ q. eq_by_cmp place_cmp q in
     let among : (q : ℕ × ℕ) → list_any (test q) out ≡ list_any (test q) ks =
-    λ q. passes (test q) same (λ x y e. ap (test q) (same_is x y e)) sorted ∙ sym (list_any-IsPermutation (test q) ks sorted perm) in
+    λ q. passes (test q) same (λ x y e. ap (test q) (same_is x y e)) sorted
+    ∙ sym (list_any-IsPermutation (test q) ks sorted perm) in
     let alike : (q : ℕ × ℕ) → get there q ≡ get (named ks) q =
-    λ q. marks (get there q) ∙ ap marked (contains_key-keys there q ∙ ap (list_any (test q)) list ∙ among q) ∙ sym (key_there q ks) in
+    λ q. marks (get there q) ∙ ap marked (contains_key-keys there q ∙ ap (list_any (test q)) list ∙ among q)
+    ∙ sym (key_there q ks) in
     sym list ∙ ap (λ m. keys m) (same_map place_total place_exact there (named ks) alike)
 
 -- 2. The keys of a map rise
@@ -163,7 +171,8 @@ both_same a b x y = (λ i. swap a b i && swap x y i)
 pub cell_test : (l key : ℕ) → is_cell l key ≡ eq_by_cmp place_cmp (l, key)
 cell_test l key = λ i cell. (both_same cell.0 l cell.1 key ∙ same_ties (l, key) cell) i
 
-any_flat : {X Y : Type 0} (p : Y → Bool) (f : X → List Y) (xs : List X) → list_any p (flat_map f xs) ≡ list_any (λ x. list_any p (f x)) xs
+any_flat : {X Y : Type 0} (p : Y → Bool) (f : X → List Y) (xs : List X)
+    → list_any p (flat_map f xs) ≡ list_any (λ x. list_any p (f x)) xs
 any_flat p f [] = refl
 any_flat p f (x ∷ xs) = list_any-append p (f x) (flat_map f xs) ∙ ap (λ b. list_any p (f x) || b) (any_flat p f xs)
 
@@ -178,11 +187,14 @@ one_named l key (Some place) = or_false (is_cell l key place)
 all_keys : List ThreadDecl → List (ℕ × ℕ)
 all_keys ds = flat_map (λ (d : ThreadDecl). keys_named d.ops) ds
 
-named_by : (l key : ℕ) (ds : List ThreadDecl) → list_any (is_cell l key) (all_keys ds) ≡ list_any (λ (d : ThreadDecl). list_any (op_names l key) d.ops) ds
+named_by : (l key : ℕ) (ds : List ThreadDecl)
+    → list_any (is_cell l key) (all_keys ds) ≡ list_any (λ (d : ThreadDecl). list_any (op_names l key) d.ops) ds
 unfolding all_keys
 named_by l key ds =
     any_flat (is_cell l key) (λ (d : ThreadDecl). keys_named d.ops) ds
-    ∙ ap (λ (f : ThreadDecl → Bool). list_any f ds) (λ i d. (any_flat (is_cell l key) (λ (op : Op). option_to_list (place_of op)) d.ops ∙ ap (λ (g : Op → Bool). list_any g d.ops) (λ j op. one_named l key (place_of op) j)) i)
+    ∙ ap (λ (f : ThreadDecl → Bool). list_any f ds)
+    (λ i d. (any_flat (is_cell l key) (λ (op : Op). option_to_list (place_of op)) d.ops
+    ∙ ap (λ (g : Op → Bool). list_any g d.ops) (λ j op. one_named l key (place_of op) j)) i)
 
 pub keys_are_named : (plan : Plan) (l key : ℕ) → list_any (is_cell l key) (keys_in plan.threads) ≡ plan_names plan l key
 unfolding keys_in named marked all_keys
@@ -248,5 +260,6 @@ unfolding keys_in named all_keys
 few_keys plan =
     let ks : List (ℕ × ℕ) = all_keys plan.threads in
     let m : FinMap place_cmp (Unit {0}) = named ks in
-    let size : length (keys m) ≡ len m = length-map (entries m) (λ (e : (ℕ × ℕ) × Unit {0}). e.0) ∙ sym (len-entries m) in
+    let size : length (keys m) ≡ len m = length-map (entries m) (λ (e : (ℕ × ℕ) × Unit {0}). e.0)
+    ∙ sym (len-entries m) in
     omega (arith, size, few_marked ks, few_all plan.threads)

@@ -14,7 +14,8 @@ use Rattle.floor_table.proofs.Lists.{inside, at_or}
 
 -- 1. Sums over seats
 
-pub total_set : (f : Knowledge → ℕ) (vs : List Knowledge) (i : ℕ) (v w : Knowledge) → get_elem? vs i ≡ some v → total f (set vs i w) + f v ≡ total f vs + f w
+pub total_set : (f : Knowledge → ℕ) (vs : List Knowledge) (i : ℕ) (v w : Knowledge) → get_elem? vs i ≡ some v
+    → total f (set vs i w) + f v ≡ total f vs + f w
 total_set f [] i v w e = absurd (some-ne-none v (sym e))
 total_set f (x ∷ xs) zero v w e = let p : f x ≡ f v = ap f (some-injective x v e) in omega arith
 total_set f (x ∷ xs) (suc i) v w e = let p = total_set f xs i v w e in omega arith
@@ -22,14 +23,16 @@ total_set f (x ∷ xs) (suc i) v w e = let p = total_set f xs i v w e in omega a
 -- 2. Whose seat it is
 
 -- a share is known by the columns of its thread alone
-pub same_share : {x : Share} {a b : State} {t : ℕ} → share_in b t ≡ share_in a t → RepresentsShare x a t → RepresentsShare x b t
+pub same_share : {x : Share} {a b : State} {t : ℕ} → share_in b t ≡ share_in a t → RepresentsShare x a t
+    → RepresentsShare x b t
 same_share e h = record { columns = h.columns ∙ sym e; held_once = h.held_once }
 
 module _ (floor : Description) (vs : List Knowledge) (a : State) (r : RepresentsSeats floor vs a) where
   -- a thread's seat stands behind the keeper's, at the thread's number
   pub seat_of : (i : ℕ) (v : Knowledge) → get_elem? vs i ≡ some v → v.role ≡ OfThread → (i ≡ suc v.thread)
       × (v.thread < length floor.threads) × RepresentsShare v.share a v.thread
-  seat_of zero v at is = absurd (let e : OfKeeper ≡ OfThread = sym r.keeper ∙ ap (λ (w : Knowledge). w.role) (at_or vs 0 v nothing at) ∙ is in cc)
+  seat_of zero v at is = absurd
+      (let e : OfKeeper ≡ OfThread = sym r.keeper ∙ ap (λ (w : Knowledge). w.role) (at_or vs 0 v nothing at) ∙ is in cc)
   seat_of (suc t) v at is =
       let here : thread_in vs t ≡ v = at_or vs (suc t) v nothing at in
       let h = r.thread t (ap (λ (w : Knowledge). w.role) here ∙ is) in
@@ -37,7 +40,8 @@ module _ (floor : Description) (vs : List Knowledge) (a : State) (r : Represents
       let low : t < length floor.threads = let p = inside vs (suc t) v at in omega (arith, r.made, r.few, p) in (
         ap suc (sym same),
         subst (λ u. u < length floor.threads) (sym same) low,
-        subst (λ u. RepresentsShare v.share a u) (sym same) (subst (λ (w : Knowledge). RepresentsShare w.share a t) here h.share),
+        subst (λ u. RepresentsShare v.share a u) (sym same)
+            (subst (λ (w : Knowledge). RepresentsShare w.share a t) here h.share),
       )
 
   -- 3. A step of a thread changes what its seat knows, and no share but its own. What others' seats know of where their
@@ -69,10 +73,12 @@ module _ (floor : Description) (vs : List Knowledge) (a : State) (r : Represents
     threads_are : (u : ℕ) → (thread_in new u).role ≡ OfThread → IsSeatOf (thread_in new u) b u
     threads_are u role =
         elim (cases_eq u t) [
-          | inl e ↦ subst (λ j. IsSeatOf (thread_in new j) b j) (sym e) (subst (λ (x : Knowledge). IsSeatOf x b t) (sym mine_is) mine)
+          | inl e ↦ subst (λ j. IsSeatOf (thread_in new j) b j) (sym e)
+              (subst (λ (x : Knowledge). IsSeatOf x b t) (sym mine_is) mine)
           | inr ne ↦
               let old = r.thread u (ap (λ (x : Knowledge). x.role) (sym (others_are u ne)) ∙ role) in
-              subst (λ (x : Knowledge). IsSeatOf x b u) (sym (others_are u ne)) (record { thread = old.thread; share = same_share (others u ne) old.share })
+              subst (λ (x : Knowledge). IsSeatOf x b u) (sym (others_are u ne))
+              (record { thread = old.thread; share = same_share (others u ne) old.share })
         ]
 
     taken_stay : (u : ℕ) (x : Share) → IsTakenIn vs a u x → IsTakenIn new b u x
@@ -99,17 +105,21 @@ module _ (floor : Description) (vs : List Knowledge) (a : State) (r : Represents
       made = length-set vs (suc t) w ∙ r.made ∙ ap (λ (k : Knowledge). suc k.made) (sym first_stays);
       few = subst (λ (k : Knowledge). k.made ≤ length floor.threads) (sym first_stays) r.few;
       thread = threads_are;
-      unmade = λ u past. let n : (keeper_in vs).made ≤ u = subst (λ (k : Knowledge). k.made ≤ u) first_stays past in others u (λ e. let m = made_before in omega arith) ∙ r.unmade u n;
+      unmade = λ u past. let n : (keeper_in vs).made ≤ u = subst (λ (k : Knowledge). k.made ≤ u) first_stays past in
+          others u (λ e. let m = made_before in omega arith) ∙ r.unmade u n;
       taken_in = λ i d low. let same = ap (λ (k : Knowledge). k.gathered) first_stays in
-          subst (λ gs. IsTakenIn new b (get_or gs i d).0 (get_or gs i d).1) (sym same) (taken_stay _ _ (r.taken_in i d (subst (λ gs. i < length gs) same low)));
+          subst (λ gs. IsTakenIn new b (get_or gs i d).0 (get_or gs i d).1) (sym same)
+          (taken_stay _ _ (r.taken_in i d (subst (λ gs. i < length gs) same low)));
       each = λ u low gone. elim (cases_eq u t) [
         | inl e ↦ absurd (gone (ap (λ j. (thread_in new j).role) e ∙ ap (λ (k : Knowledge). k.role) mine_is ∙ is))
         | inr ne ↦ subst (λ (k : Knowledge). list_any (λ g. g.0 == u) k.gathered ≡ true) (sym first_stays)
-            (r.each u (subst (λ (k : Knowledge). u < k.made) first_stays low) (λ e. gone (ap (λ (k : Knowledge). k.role) (others_are u ne) ∙ e)))
+            (r.each u (subst (λ (k : Knowledge). u < k.made) first_stays low)
+            (λ e. gone (ap (λ (k : Knowledge). k.role) (others_are u ne) ∙ e)))
       ];
       none_out = λ u gone. elim (cases_eq u t) [
         | inl e ↦ absurd (gone (ap (λ j. (thread_in new j).role) e ∙ ap (λ (k : Knowledge). k.role) mine_is ∙ is))
-        | inr ne ↦ ap (λ (k : Knowledge). k.out) (others_are u ne) ∙ r.none_out u (λ e. gone (ap (λ (k : Knowledge). k.role) (others_are u ne) ∙ e))
+        | inr ne ↦ ap (λ (k : Knowledge). k.out) (others_are u ne)
+            ∙ r.none_out u (λ e. gone (ap (λ (k : Knowledge). k.role) (others_are u ne) ∙ e))
       ];
       counted =
           let sums = total_set live vs (suc t) v w at in

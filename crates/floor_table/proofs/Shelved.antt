@@ -24,14 +24,16 @@ found_or_not j [] = inl refl
 found_or_not j (x ∷ xs) =
     elim (cases_eq x.0 j) [
       | inl e ↦ inr (x.1, ap (λ b. cond b (some x.1) (found j xs)) (eq-eqb x.0 j e))
-      | inr ne ↦ let same = found_later x.0 j x.1 xs ne in elim (found_or_not j xs) [ inl e ↦ inl (same ∙ e) | inr t ↦ inr (t.0, same ∙ t.1) ]
+      | inr ne ↦ let same = found_later x.0 j x.1 xs ne in
+          elim (found_or_not j xs) [ inl e ↦ inl (same ∙ e) | inr t ↦ inr (t.0, same ∙ t.1) ]
     ]
 
 module _ (n : ℕ) (latch : ℕ → ℕ) (home : ℕ → Option Slot) (out : ℕ → List (ℕ × Slot)) (content : ℕ → Slot)
     (k : Shelves n latch home out content) where
   -- what is at home is out with nobody
   at_home_nowhere : (j t : ℕ) → latch j ≡ 0 → found j (out t) ≡ none
-  at_home_nowhere j t free = elim (found_or_not j (out t)) [ inl e ↦ e | inr p ↦ absurd (let q = k.taken j t p.0 p.1 in let r = q.1 in omega arith) ]
+  at_home_nowhere j t free = elim (found_or_not j
+      (out t)) [ inl e ↦ e | inr p ↦ absurd (let q = k.taken j t p.0 p.1 in let r = q.1 in omega arith) ]
 
   -- the value of a free latch goes out
   pub shelf_taken : (j t : ℕ) → j < n → latch j ≡ 0
@@ -41,7 +43,9 @@ module _ (n : ℕ) (latch : ℕ → ℕ) (home : ℕ → Option Slot) (out : ℕ
         (λ l z. absurd (omega arith)) (λ m ne l z. put_other home j none m ne ∙ k.at_home m l z);
     away = λ m u. at_put (λ m w. m < n → w ≡ suc u → found m (put out t ((j, content j) ∷ out t) u) ≡ some (content m))
         latch j (suc t)
-        (λ l z. let e : t ≡ u = omega arith in subst (λ v. found j (put out t ((j, content j) ∷ out t) v) ≡ some (content j)) e (ap (found j) (put_same out t ((j, content j) ∷ out t)) ∙ found_first j (content j) (out t)))
+        (λ l z. let e : t ≡ u = omega arith in
+        subst (λ v. found j (put out t ((j, content j) ∷ out t) v) ≡ some (content j)) e
+        (ap (found j) (put_same out t ((j, content j) ∷ out t)) ∙ found_first j (content j) (out t)))
         (λ m ne l z. at_put (λ v xs. latch m ≡ suc v → found m xs ≡ some (content m)) out t ((j, content j) ∷ out t)
         (λ q. found_later j m (content j) (out t) ne ∙ k.away m t l q) (λ v nv q. k.away m v l q) u z) m;
     taken = λ m u x. at_put (λ v xs. found m xs ≡ some x → (m < n) × (put latch j (suc t) m ≡ suc v) × (x ≡ content m))
@@ -57,7 +61,8 @@ module _ (n : ℕ) (latch : ℕ → ℕ) (home : ℕ → Option Slot) (out : ℕ
               (λ e. let z : latch m ≡ 0 = ap latch (sym e) ∙ free in let y = q.1 in omega arith) ∙ q.1,
           q.2,
         )) u;
-    apart = at_put (λ v xs. AreApart xs) out t ((j, content j) ∷ out t) (at_home_nowhere j t free, k.apart t) (λ v ne. k.apart v);
+    apart = at_put (λ v xs. AreApart xs) out t ((j, content j) ∷ out t) (at_home_nowhere j t free, k.apart t)
+        (λ v ne. k.apart v);
   }
 
   -- the value taken last comes home
@@ -69,11 +74,13 @@ module _ (n : ℕ) (latch : ℕ → ℕ) (home : ℕ → Option Slot) (out : ℕ
       let gone : found j xs ≡ none = (subst AreApart is (k.apart t)).0 in
       record {
         at_home = at_put (λ m w. m < n → w ≡ 0 → put home j (some x) m ≡ some (content m)) latch j 0
-            (λ l z. put_same home j (some x) ∙ ap some was.2) (λ m ne l z. put_other home j (some x) m ne ∙ k.at_home m l z);
+            (λ l z. put_same home j (some x) ∙ ap some was.2)
+            (λ m ne l z. put_other home j (some x) m ne ∙ k.at_home m l z);
         away = λ m u. at_put (λ m w. m < n → w ≡ suc u → found m (put out t xs u) ≡ some (content m)) latch j 0
             (λ l z. absurd (omega arith))
             (λ m ne l z. at_put (λ v ys. latch m ≡ suc v → found m ys ≡ some (content m)) out t xs
-            (λ q. sym (found_later j m x xs ne) ∙ ap (found m) (sym is) ∙ k.away m t l q) (λ v nv q. k.away m v l q) u z) m;
+            (λ q. sym (found_later j m x xs ne) ∙ ap (found m) (sym is) ∙ k.away m t l q)
+            (λ v nv q. k.away m v l q) u z) m;
         taken = λ m u y. at_put (λ v ys. found m ys ≡ some y → (m < n) × (put latch j 0 m ≡ suc v) × (y ≡ content m))
             out t xs
             (λ h. elim (cases_eq j m) [
@@ -105,7 +112,8 @@ module _ (n : ℕ) (latch : ℕ → ℕ) (home : ℕ → Option Slot) (out : ℕ
         away = λ m u l z. at_put (λ v ys. latch m ≡ suc v → found m ys ≡ some (put content j y m)) out t ((j, y) ∷ xs)
             (λ q. each_place j (λ m. m < n → latch m ≡ suc t → found m ((j, y) ∷ xs) ≡ some (put content j y m))
             (λ l q. found_first j y xs ∙ ap some (sym (put_same content j y)))
-            (λ m ne l q. found_later j m y xs ne ∙ sym (found_later j m x xs ne) ∙ ap (found m) (sym is) ∙ k.away m t l q ∙ ap some (sym (put_other content j y m ne))) m l q)
+            (λ m ne l q. found_later j m y xs ne ∙ sym (found_later j m x xs ne) ∙ ap (found m) (sym is)
+            ∙ k.away m t l q ∙ ap some (sym (put_other content j y m ne))) m l q)
             (λ v nv q. k.away m v l q
             ∙ ap some (sym (put_other content j y m
             (λ e. nv (let a = was.1 in let c : latch m ≡ latch j = ap latch (sym e) in omega arith))))) u z;
@@ -114,7 +122,9 @@ module _ (n : ℕ) (latch : ℕ → ℕ) (home : ℕ → Option Slot) (out : ℕ
             (λ h. each_place j (λ m. found m ((j, y) ∷ xs) ≡ some w → (m < n) × (latch m ≡ suc t)
             × (w ≡ put content j y m))
             (λ h. (was.0, was.1, some-injective w y (sym h ∙ found_first j y xs) ∙ sym (put_same content j y)))
-            (λ m ne h. let q = k.taken m t w (ap (found m) is ∙ found_later j m x xs ne ∙ sym (found_later j m y xs ne) ∙ h) in (q.0, q.1, q.2 ∙ sym (put_other content j y m ne))) m h)
+            (λ m ne h.
+            let q = k.taken m t w (ap (found m) is ∙ found_later j m x xs ne ∙ sym (found_later j m y xs ne) ∙ h) in
+            (q.0, q.1, q.2 ∙ sym (put_other content j y m ne))) m h)
             (λ v nv h. let q = k.taken m v w h in (
               q.0,
               q.1,

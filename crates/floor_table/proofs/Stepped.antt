@@ -22,14 +22,17 @@ use Rattle.floor_table.proofs.Words.{lock_written, wait_written, ticket_written,
 use Rattle.floor_table.proofs.Seats.{total_set, seats_stepped}
 
 -- what is out with each thread, after a write of one seat
-pub outs_after : (vs : List Knowledge) (t : ℕ) (w : Knowledge) → suc t < length vs → (λ u. (thread_in (set vs (suc t) w) u).out) ≡ put (λ u. (thread_in vs u).out) t w.out
+pub outs_after : (vs : List Knowledge) (t : ℕ) (w : Knowledge) → suc t < length vs
+    → (λ u. (thread_in (set vs (suc t) w) u).out) ≡ put (λ u. (thread_in vs u).out) t w.out
 outs_after vs t w fits = λ k u. at u k
   where
     at : (u : ℕ) → (thread_in (set vs (suc t) w) u).out ≡ put (λ u. (thread_in vs u).out) t w.out u
     at u = elim (cases_eq t u) [
       | inl e ↦ subst (λ j. (thread_in (set vs (suc t) w) j).out ≡ put (λ u. (thread_in vs u).out) t w.out j) e
-          (ap (λ (x : Knowledge). x.out) (get_or-set_same vs (suc t) w nothing fits) ∙ sym (put_same (λ u. (thread_in vs u).out) t w.out))
-      | inr ne ↦ ap (λ (x : Knowledge). x.out) (get_or-set_other vs (suc t) (suc u) w nothing (λ e. ne (omega arith))) ∙ sym (put_other (λ u. (thread_in vs u).out) t w.out u ne)
+          (ap (λ (x : Knowledge). x.out) (get_or-set_same vs (suc t) w nothing fits)
+          ∙ sym (put_same (λ u. (thread_in vs u).out) t w.out))
+      | inr ne ↦ ap (λ (x : Knowledge). x.out) (get_or-set_other vs (suc t) (suc u) w nothing (λ e. ne (omega arith)))
+          ∙ sym (put_other (λ u. (thread_in vs u).out) t w.out u ne)
     ]
 
 module _ (floor : Description) (b : Board) (s n : State) (r : Represents floor b s) (t : ℕ) (v w : Knowledge)

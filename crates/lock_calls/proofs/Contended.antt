@@ -81,7 +81,8 @@ on_floor floor l low (Some t) ownerless = (low, go (is_turnstile ((config_in flo
     go false e = absurd (let z : Some t ≡ None = ownerless e in cc)
 
 module _ (floor : Description) (l : LockNo) (mode : Mode) (covered : IsCovered floor l.0 mode)
-    (one_chain : floor.chains ≡ 1) (a b : Knowledge) (calls : CanAcquire floor (kept_of a)) (there : IsThere floor l.0 a)
+    (one_chain : floor.chains ≡ 1) (a b : Knowledge) (calls : CanAcquire floor (kept_of a))
+    (there : IsThere floor l.0 a)
     (to : run_time.Walk) (e : EntersStep floor l.0 mode (walk_of to) a b) where
   abbrev stands : Knowledge
   stands = entered a l.0 e.owner e.out

@@ -105,7 +105,8 @@ module _ (floor : Description) (l : LockNo) (mode : Mode) (begun : Knowledge) wh
   hs = begun.share.held
 
   module _ (now : Knowledge) where
-    pub given_first : (at : ReleaseAt) → BeginsGivingUp floor l mode at begun now → GivesUpSince floor l mode begun at now
+    pub given_first : (at : ReleaseAt) → BeginsGivingUp floor l mode at begun now
+        → GivesUpSince floor l mode begun at now
     given_first at b = assumption (
       subst (λ a. let_go.IsAt floor l mode 2 t hs begun a now) (sym b.by_it) (go (is_drop (word_of b.seen))),
       b,

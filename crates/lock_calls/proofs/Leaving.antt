@@ -138,7 +138,8 @@ module _ (floor : Description) (l : LockNo) (mode : Mode) (a : Knowledge) (m : L
   pub may_take_own : who < length floor.threads
       → MayMake floor a (λ s. s.record_with who ≡ None) (TakesItem a.thread (RecordOf who) ∷ [])
   may_take_own low =
-      wait.may_take_record_settled floor a (lock_queue l.0) m.chain m.out who low (off_the_way (with_none_out a) m.may.there)
+      wait.may_take_record_settled floor a (lock_queue l.0) m.chain m.out who low
+      (off_the_way (with_none_out a) m.may.there)
       (record { awake = m.may.going.awake; unended = m.may.going.unended; stamped = m.may.going.stamped })
 
   pub stays_coming_in : (b : Knowledge) → b ≡ seeing b.seen a → FindsOut floor (RecordOf who) a b
@@ -260,10 +261,12 @@ module _ (floor : Description) (l : LockNo) (mode : Mode) (seen : ℕ) (v w : Kn
           (ap (λ (k : Knowledge). k.share.doing.counting) freed ∙ m.may.uncounted)
       marks_on (inr (d, stands)) =
           sleepers_mark y d l.0 g.places (ap (λ (k : Knowledge). k.pose) freed ∙ stands)
-          (ap (λ (k : Knowledge). k.share.doing.marked) freed ∙ g.of_queue) (ap (λ (k : Knowledge). k.out) freed) going_on
+          (ap (λ (k : Knowledge). k.share.doing.marked) freed ∙ g.of_queue)
+          (ap (λ (k : Knowledge). k.out) freed) going_on
           (ap (λ (k : Knowledge). k.share.doing.counting) freed ∙ m.may.uncounted)
 
-      pub frees_on : MakesEach floor (gives_both floor w.thread l.0) w y → ReleasesOn floor l mode (Frees seen) Wakes v y
+      pub frees_on : MakesEach floor (gives_both floor w.thread l.0) w y
+          → ReleasesOn floor l mode (Frees seen) Wakes v y
       frees_on gives =
           let give_steps : MakesEach floor (gives_both floor v.thread l.0) w y =
           subst (λ t. MakesEach floor (gives_both floor t l.0) w y) (ap (λ (k : Knowledge). k.thread) g.view) gives in

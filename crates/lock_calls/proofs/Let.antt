@@ -44,7 +44,8 @@ pub record HasTakenChain (floor : Description) (l : LockNo) (mode : Mode) (most 
     pub took : Makes floor (TakesItem t (its_chain floor (lock_queue l.0)) ∷ []) missed now
 
 -- and its own record, and looked so often
-pub record HasComeIn (floor : Description) (l : LockNo) (mode : Mode) (most t : ℕ) (begun now : Knowledge) : Type 0 where
+pub record HasComeIn (floor : Description) (l : LockNo) (mode : Mode) (most t : ℕ)
+    (begun now : Knowledge) : Type 0 where
   pub chain : Knowledge
   pub has_chain : HasTakenChain floor l mode most t begun chain
   pub there : Knowledge

@@ -184,8 +184,14 @@ begins floor l mode ticket old v r held room p u q may is says step found formed
       found = found;
       call = call_noted u q (calls.Release l mode (outside mode found)) noted;
       there = assumption (
-        subst (IsReleasing floor l.0 mode (outside mode found)) same (stands_outside floor l.0 mode found u.view (leaving_behind floor l.0 mode v u.view (word_of found) view leaving) (subst (λ t. IsOwn t mode found) (sym (ap (λ (k : Knowledge). k.thread) view)) (saw_own floor l.0 mode found (counts v l.0) v u.view leaving.held formed view look))),
-        subst (λ k. hold_in (held_once l.0 (outside mode found) k.share.held) l.0 ≡ NotHeld → IsAtRest floor (once_released l.0 (outside mode found) k)) same (λ unheld. subst (IsAtRest floor) (sym kept) (rest_once floor l mode ticket old v u.view r held room says (sym (ap (λ (k : Knowledge). hold_in k.share.held l.0) kept) ∙ unheld))),
+        subst (IsReleasing floor l.0 mode (outside mode found)) same (stands_outside floor l.0 mode found u.view
+            (leaving_behind floor l.0 mode v u.view (word_of found) view leaving)
+            (subst (λ t. IsOwn t mode found) (sym (ap (λ (k : Knowledge). k.thread) view))
+            (saw_own floor l.0 mode found (counts v l.0) v u.view leaving.held formed view look))),
+        subst (λ k. hold_in (held_once l.0 (outside mode found) k.share.held) l.0 ≡ NotHeld
+            → IsAtRest floor (once_released l.0 (outside mode found) k)) same
+            (λ unheld. subst (IsAtRest floor) (sym kept) (rest_once floor l mode ticket old v u.view r held room says
+            (sym (ap (λ (k : Knowledge). hold_in k.share.held l.0) kept) ∙ unheld))),
         may,
       );
       saw = ap (λ (k : Knowledge). k.share.doing.last_look) (sym same ∙ view);

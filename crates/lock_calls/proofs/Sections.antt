@@ -124,7 +124,8 @@ module _ (floor : Description) (l : ℕ) where
       let c = turnstiles_out turnstile h.chain h.of_lock in
       record { box = h.box; chain = c.0; out = h.out ∙ (λ i. section_out floor v.thread l h.box (c.1 i)) }
 
-  abbrev pub as_sleeper : is_turnstile ((config_in floor).kind l) ≡ false → (v : Knowledge) → HasRecordAndChain floor l v
+  abbrev pub as_sleeper : is_turnstile ((config_in floor).kind l) ≡ false → (v : Knowledge)
+      → HasRecordAndChain floor l v
       → HasSleeperOut floor (lock_queue l) v
   as_sleeper sleeps v h =
       let c = sleepers_out sleeps h.chain h.of_lock in

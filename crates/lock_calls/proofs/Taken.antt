@@ -38,7 +38,8 @@ pub record HasLookedInRound (floor : Description) (l : ℕ) (mode : Mode) (back 
     pub round : IsInRound floor l mode back last looks begun now
 
 -- it took the lock's chain behind at most 100
-pub record HasTakenChain (floor : Description) (l : ℕ) (mode : Mode) (back : Bool) (begun now : Knowledge) : Type 0 where
+pub record HasTakenChain (floor : Description) (l : ℕ) (mode : Mode) (back : Bool)
+    (begun now : Knowledge) : Type 0 where
   pub looked : Knowledge
   pub rounds : HasLookedInRound floor l mode back begun looked
   pub few : rounds.looks ≤ 100
@@ -598,7 +599,8 @@ under_take_on floor l mode at to old new u on = record {
 
 -- so is that of a refusal, before which the thread made no exchange, since it holds a lock
 pub refused_since : (floor : Description) (l : LockNo) (mode : Mode) (at : TakeAt) (begun now new : Knowledge)
-    (r : Reversal) → kept_at at now ≡ kept_of begun → IsAt floor l.0 mode false begun Checks now → IsRefused floor l r now new
+    (r : Reversal) → kept_at at now ≡ kept_of begun → IsAt floor l.0 mode false begun Checks now
+    → IsRefused floor l r now new
     → IsRefused floor l r begun new
 refused_since floor l mode at begun now new r kept h x =
     record {

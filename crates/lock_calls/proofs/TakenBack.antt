@@ -105,7 +105,8 @@ module _ (floor : Description) (l : LockNo) (mode : Mode) (begun : Knowledge) (r
       off_checks floor l mode at to now new on.leg s.off,
       subst (CanAcquire floor) (sym on.kept) s.under.calling,
       on.kept ∙ s.kept,
-      goes_on floor l mode true begun now new its (ap (λ (k : Kept). k.thread) on.kept ∙ its) at to is_back s.under.there s.is_at on.leg,
+      goes_on floor l mode true begun now new its
+          (ap (λ (k : Kept). k.thread) on.kept ∙ its) at to is_back s.under.there s.is_at on.leg,
       s.under,
       on,
     )

@@ -261,7 +261,8 @@ module _ (floor : Description) (l : LockNo) (mode : Mode) (seen : ℕ) (old v : 
     (
       mode,
       assumption (
-        sym (ap (λ (x : ShareColumns). x.held l.0) f.share.columns) ∙ ap (λ (x : Kept). hold_in x.held l.0) h.kept ∙ unheld,
+        sym (ap (λ (x : ShareColumns). x.held l.0) f.share.columns) ∙ ap (λ (x : Kept). hold_in x.held l.0) h.kept
+            ∙ unheld,
         sym (ap (λ (x : ShareColumns). x.doing.last_look) f.share.columns) ∙ h.saw,
         word,
         covered,

@@ -334,7 +334,9 @@ module _ (floor : Description) (l : LockNo) (mode : Mode) (begun : Knowledge) (p
   gained is =
       let d = subst (λ n. GoesOnTrying floor l mode s.at n p q) is w in
       assumption (
-        entry_since floor (Event.Tried l mode) (p.view.share.held ++ as_tried l mode ∷ []) (begun.share.held ++ as_tried l mode ∷ []) begun p.view q.view s.kept (ap (λ (k : Kept). k.held ++ as_tried l mode ∷ []) s.kept) d.1.entry,
+        entry_since floor (Event.Tried l mode) (p.view.share.held ++ as_tried l mode ∷ [])
+            (begun.share.held ++ as_tried l mode ∷ []) begun p.view q.view s.kept
+            (ap (λ (k : Kept). k.held ++ as_tried l mode ∷ []) s.kept) d.1.entry,
         ends_gained floor l mode begun p.view q.view its_own s.at s.is_at d.2,
         d.1,
       )
@@ -343,7 +345,8 @@ module _ (floor : Description) (l : LockNo) (mode : Mode) (begun : Knowledge) (p
   busy seen is =
       let d = subst (λ n. GoesOnTrying floor l mode s.at n p q) is w in
       assumption (
-        entry_since floor (Event.Busy l seen) p.view.share.held begun.share.held begun p.view q.view s.kept (ap (λ (k : Kept). k.held) s.kept) d.1.entry,
+        entry_since floor (Event.Busy l seen) p.view.share.held begun.share.held begun p.view q.view s.kept
+            (ap (λ (k : Kept). k.held) s.kept) d.1.entry,
         ends_busy floor l mode begun p.view q.view its_own s.at seen s.is_at d.2 d.1,
         d.1,
       )

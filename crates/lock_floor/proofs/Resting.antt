@@ -139,7 +139,8 @@ rest_with floor v a i j plain r taken =
 -- 5. Behind the use of an item: it is taken, an entry is made, and it is given back
 
 -- the value may have changed meanwhile
-pub used_is : (c : Config) (v : Knowledge) (entry : Entry) (i : Item) (j k : ℕ) (x y : Slot) → is_chain i ≡ false → gave (record (stamped c (took v i j x) entry) { out = (k, y) ∷ v.out }) i ≡ stamped c v entry
+pub used_is : (c : Config) (v : Knowledge) (entry : Entry) (i : Item) (j k : ℕ) (x y : Slot) → is_chain i ≡ false
+    → gave (record (stamped c (took v i j x) entry) { out = (k, y) ∷ v.out }) i ≡ stamped c v entry
 used_is c v entry i j k x y plain =
     let w : Knowledge = stamped c v entry in
     let d : Doing = w.share.doing in
@@ -227,7 +228,8 @@ module _ (floor : Description) (i : Item) (j : ℕ) (e : Event) (v a b : Knowled
 
 module _ (f : Floor Description) (i : Item) (j : ℕ) (e : Event) (plain : is_chain i ≡ false)
     (quiet : changes_sections e ≡ false) where
-  pub uses_changed : (p a b q : Pass Knowledge) (ticket : ℕ) (y : Slot) → IsReady f p → 1 ≤ p.view.spare → Takes f.description i j p.view a.view
+  pub uses_changed : (p a b q : Pass Knowledge) (ticket : ℕ) (y : Slot) → IsReady f p → 1 ≤ p.view.spare
+      → Takes f.description i j p.view a.view
       → Noted f.description ticket e j y a.view b.view → Makes f.description (Stamps a.view.thread e ∷ []) a.view b.view
       → IsOf f q → q.view ≡ seeing q.view.seen (gave b.view i)
       → Makes f.description (GivesItem b.view.thread i ∷ []) b.view q.view → Used f i e p q
@@ -278,7 +280,9 @@ module _ (f : Floor Description) (i : Item) (j : ℕ) (e : Event) (plain : is_ch
       (noted_same f.description i j e p.view a.view b.view ticket taken noted)
 
   -- the same where the entry changed the value
-  pub uses_change : (p a b q : Pass Knowledge) (ticket : ℕ) → IsReady f p → 1 ≤ p.view.spare → Takes f.description i j p.view a.view → b.view ≡ seeing b.view.seen (stamped_change (config_in f.description) a.view (entry_by a.view.thread ticket e))
+  pub uses_change : (p a b q : Pass Knowledge) (ticket : ℕ) → IsReady f p → 1 ≤ p.view.spare
+      → Takes f.description i j p.view a.view
+      → b.view ≡ seeing b.view.seen (stamped_change (config_in f.description) a.view (entry_by a.view.thread ticket e))
       → Makes f.description (Stamps a.view.thread e ∷ []) a.view b.view → IsOf f q
       → q.view ≡ seeing q.view.seen (gave b.view i)
       → Makes f.description (GivesItem b.view.thread i ∷ []) b.view q.view → Used f i e p q

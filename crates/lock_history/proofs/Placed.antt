@@ -26,7 +26,8 @@ length-placed_by places [] = refl
 length-placed_by places (e ∷ es) = length-placed_by (set places e.ticket e) es ∙ length-set places e.ticket e
 
 -- what holds of all entries holds of those of a log
-pub All-of_log : (P : Entry → Type 0) (logs : List Book) (i : ℕ) (g : Book) → i < length logs → All P (entries_in logs) → All P (get_or logs i g).entries
+pub All-of_log : (P : Entry → Type 0) (logs : List Book) (i : ℕ) (g : Book) → i < length logs → All P (entries_in logs)
+    → All P (get_or logs i g).entries
 All-of_log P logs i g lt all k d below =
     let within = length-flat_map-take (λ (h : Book). h.entries) logs i g lt in
     let at = get_or-flat_map (λ (h : Book). h.entries) logs i k g d lt below in
@@ -35,19 +36,23 @@ All-of_log P logs i g lt all k d below =
 -- 2. What stands where
 
 -- no entry comes to a place that is none's ticket
-kept_place : (k : ℕ) (places es : List Entry) (d : Entry) → All (λ e. k ≢ e.ticket) es → get_or (placed_by places es) k d ≡ get_or places k d
+kept_place : (k : ℕ) (places es : List Entry) (d : Entry) → All (λ e. k ≢ e.ticket) es
+    → get_or (placed_by places es) k d ≡ get_or places k d
 kept_place k places [] d apart = refl
 kept_place k places (e ∷ es) d apart =
     kept_place k (set places e.ticket e) es d (All-tail (λ f. k ≢ f.ticket) e es apart)
     ∙ get_or-set_other places e.ticket k e d (All-head (λ f. k ≢ f.ticket) e es apart)
 
-apart_head : (e : Entry) (es : List Entry) → AllPairs (λ x y. x.ticket ≢ y.ticket) (e ∷ es) → All (λ f. e.ticket ≢ f.ticket) es
+apart_head : (e : Entry) (es : List Entry) → AllPairs (λ x y. x.ticket ≢ y.ticket) (e ∷ es)
+    → All (λ f. e.ticket ≢ f.ticket) es
 apart_head e es once k d lt = once 0 (suc k) d (omega arith) (omega arith)
 
-apart_tail : (e : Entry) (es : List Entry) → AllPairs (λ x y. x.ticket ≢ y.ticket) (e ∷ es) → AllPairs (λ x y. x.ticket ≢ y.ticket) es
+apart_tail : (e : Entry) (es : List Entry) → AllPairs (λ x y. x.ticket ≢ y.ticket) (e ∷ es)
+    → AllPairs (λ x y. x.ticket ≢ y.ticket) es
 apart_tail e es once i j d lt within = once (suc i) (suc j) d (omega arith) (omega arith)
 
-pub placed_at : (places es : List Entry) → All (λ e. e.ticket < length places) es → AllPairs (λ x y. x.ticket ≢ y.ticket) es → All (λ e. slice_get (placed_by places es) e.ticket ≡ Some e) es
+pub placed_at : (places es : List Entry) → All (λ e. e.ticket < length places) es
+    → AllPairs (λ x y. x.ticket ≢ y.ticket) es → All (λ e. slice_get (placed_by places es) e.ticket ≡ Some e) es
 placed_at places [] below once = λ k d lt. absurd (omega arith)
 placed_at places (e ∷ es) below once =
     let next = set places e.ticket e in
@@ -58,27 +63,33 @@ placed_at places (e ∷ es) below once =
     let within : e.ticket < length (placed_by next es) = omega (arith, length-placed_by next es) in
     All-cons (λ f. slice_get (placed_by next es) f.ticket ≡ Some f) e es
     (slice_get-get_or (placed_by next es) e.ticket e within ∙ ap Some there)
-    (placed_at next es (subst (λ n. All (λ f. f.ticket < n) es) (sym long) (All-tail (λ f. f.ticket < length places) e es below)) (apart_tail e es once))
+    (placed_at next es
+    (subst (λ n. All (λ f. f.ticket < n) es) (sym long) (All-tail (λ f. f.ticket < length places) e es below))
+    (apart_tail e es once))
 
 -- 3. Each place is some entry's ticket
 
 abbrev pub tickets_of : List Entry → List ℕ
 tickets_of es = map (λ e. e.ticket) es
 
-each_apart : (k : ℕ) (es : List Entry) → All (λ f. k ≢ f.ticket) es → AllByRecursion (λ y. eqb k y ≡ false) (tickets_of es)
+each_apart : (k : ℕ) (es : List Entry) → All (λ f. k ≢ f.ticket) es
+    → AllByRecursion (λ y. eqb k y ≡ false) (tickets_of es)
 each_apart k [] h = tt
-each_apart k (e ∷ es) h = (ne_eqb k e.ticket (All-head (λ f. k ≢ f.ticket) e es h), each_apart k es (All-tail (λ f. k ≢ f.ticket) e es h))
+each_apart k (e ∷ es) h =
+    (ne_eqb k e.ticket (All-head (λ f. k ≢ f.ticket) e es h), each_apart k es (All-tail (λ f. k ≢ f.ticket) e es h))
 
 distinct_tickets : (es : List Entry) → AllPairs (λ x y. x.ticket ≢ y.ticket) es → IsDistinct eqb (tickets_of es)
 distinct_tickets [] once = IsDistinct-from_apart eqb [] (λ i j d lt within. absurd (omega arith))
 distinct_tickets (e ∷ es) once =
-    IsDistinct-cons eqb e.ticket (tickets_of es) (each_apart e.ticket es (apart_head e es once)) (distinct_tickets es (apart_tail e es once))
+    IsDistinct-cons eqb e.ticket (tickets_of es) (each_apart e.ticket es (apart_head e es once))
+    (distinct_tickets es (apart_tail e es once))
 
 -- a number below n is among 0 to n - 1
 in_range : (n q : ℕ) → q < n → list_any (eqb q) (range_with_len 0 n) ≡ true
 in_range n q lt =
     let at = get_or-range_with_len 0 n q 0 lt in
-    list_any_at (eqb q) (range_with_len 0 n) q 0 (omega (arith, length-range_with_len 0 n)) (eq-eqb q _ (omega (arith, at)))
+    list_any_at (eqb q) (range_with_len 0 n) q 0 (omega (arith, length-range_with_len 0 n))
+    (eq-eqb q _ (omega (arith, at)))
 
 below_member : (n q : ℕ) (xs : List ℕ) → All (λ x. x < n) xs → list_any (eqb q) xs ≡ true → q < n
 below_member n q xs below h =
@@ -95,26 +106,38 @@ covered es h k lt = go (list_any (eqb k) (tickets_of es)) refl
     go true e = refl
     go false e =
         let below : All (λ x. x < length es) (tickets_of es ++ k ∷ []) =
-        All-push (λ x. x < length es) (tickets_of es) k (All-map (λ x. x < length es) (λ (f : Entry). f.ticket) es h.below) lt in
+        All-push (λ x. x < length es) (tickets_of es) k
+        (All-map (λ x. x < length es) (λ (f : Entry). f.ticket) es h.below) lt in
         let apart = IsDistinct-push nat_eq_equiv (tickets_of es) k (distinct_tickets es h.once) e in
-        let few = length-le_from_is_member nat_eq_equiv (tickets_of es ++ k ∷ []) (range_with_len 0 (length es)) apart (λ q m. in_range (length es) q (below_member (length es) q _ below m)) in
-        absurd (omega (arith, few, length-append (tickets_of es) (k ∷ []), length-map es (λ (f : Entry). f.ticket), length-range_with_len 0 (length es)))
+        let few = length-le_from_is_member nat_eq_equiv (tickets_of es ++ k ∷ []) (range_with_len 0 (length es)) apart
+        (λ q m. in_range (length es) q (below_member (length es) q _ below m)) in
+        absurd (omega (
+          arith,
+          few,
+          length-append (tickets_of es) (k ∷ []),
+          length-map es (λ (f : Entry). f.ticket),
+          length-range_with_len 0 (length es),
+        ))
 
 -- where each entry stands at the place of its ticket, the entry at each place has the place as its ticket
-pub InOrder-placed : (es h : List Entry) → TicketsOnce es → length h ≡ length es → All (λ e. slice_get h e.ticket ≡ Some e) es → InOrder h
+pub InOrder-placed : (es h : List Entry) → TicketsOnce es → length h ≡ length es
+    → All (λ e. slice_get h e.ticket ≡ Some e) es → InOrder h
 InOrder-placed es h once len placed k d lt =
     let a = Any-from_list_any (eqb k) (tickets_of es) (covered es once k (omega (arith, len))) in
     let i : ℕ = a.0 in
     let e : Entry = get_or es i d in
     let within : i < length es = omega (arith, a.2, length-map es (λ (f : Entry). f.ticket)) in
-    let ticket : e.ticket ≡ k = sym (get_or-map (λ (f : Entry). f.ticket) es i d a.1 within) ∙ a.3 ∙ sym (eqb-true k a.1 a.4) in
+    let ticket : e.ticket ≡ k = sym (get_or-map (λ (f : Entry). f.ticket) es i d a.1 within) ∙ a.3
+    ∙ sym (eqb-true k a.1 a.4) in
     let there : get_or h e.ticket d ≡ e = get_or_from_slice_get h e.ticket e d (placed i d within) in
     ap (λ (n : ℕ). (get_or h n d).ticket) (sym ticket) ∙ ap (λ (f : Entry). f.ticket) there ∙ ticket
 
 -- entries that were put among as many places
-pub placed_all : (places es h : List Entry) → TicketsOnce es → length places ≡ length es → h ≡ placed_by places es → All (λ e. slice_get h e.ticket ≡ Some e) es
+pub placed_all : (places es h : List Entry) → TicketsOnce es → length places ≡ length es → h ≡ placed_by places es
+    → All (λ e. slice_get h e.ticket ≡ Some e) es
 placed_all places es h once len is =
-    subst (λ l. All (λ e. slice_get l e.ticket ≡ Some e) es) (sym is) (placed_at places es (subst (λ n. All (λ e. e.ticket < n) es) (sym len) once.below) once.once)
+    subst (λ l. All (λ e. slice_get l e.ticket ≡ Some e) es) (sym is)
+    (placed_at places es (subst (λ n. All (λ e. e.ticket < n) es) (sym len) once.below) once.once)
 
 -- a `Vec` whose slice was written
 pub written : (n : ℕ) (new old : List Entry) → length new ≡ n → take n (new ++ drop (length new) old) ≡ new

@@ -15,7 +15,8 @@ place_exact = exact_pairs nat_cmp nat_cmp exact_unsigned exact_unsigned
 
 -- a place that was set holds its value
 pub get-insert_same : (m : FinMap place_cmp ℕ) (p : ℕ × ℕ) (v : ℕ) → get (insert m p v) p ≡ Some v
-get-insert_same m p v = get-insert place_total m p v p ∙ ap (λ r. cond (is_eq r) (Some v) (get m p)) (tied_itself place_total p)
+get-insert_same m p v = get-insert place_total m p v p
+    ∙ ap (λ r. cond (is_eq r) (Some v) (get m p)) (tied_itself place_total p)
 
 -- another place holds what it held
 pub get-insert_other : (m : FinMap place_cmp ℕ) (p q : ℕ × ℕ) (v : ℕ) → q ≢ p → get (insert m p v) q ≡ get m q

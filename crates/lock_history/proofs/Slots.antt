@@ -26,7 +26,8 @@ use Rattle.lock_history.specs.Books.{changed, filled, filled_on, place_eq, prese
 use Rattle.lock_history.proofs.Places.{place_total, place_exact}
 
 -- a place that is below each place is below each that has a value
-below_filled : (x : ℕ × ℕ) (slots : List ((ℕ × ℕ) × Option ℕ)) → AllByRecursion (λ y. place_cmp x y ≡ Less) (keys_of slots) → below_all place_cmp x (filled slots) ≡ true
+below_filled : (x : ℕ × ℕ) (slots : List ((ℕ × ℕ) × Option ℕ))
+    → AllByRecursion (λ y. place_cmp x y ≡ Less) (keys_of slots) → below_all place_cmp x (filled slots) ≡ true
 below_filled x [] h = refl
 below_filled x (s ∷ ss) h =
     elim s.1 as (λ o. below_all place_cmp x (filled_on s.0 o (filled ss)) ≡ true) [
@@ -34,39 +35,49 @@ below_filled x (s ∷ ss) h =
       | Some v ↦ ap (λ r. is_lt r && below_all place_cmp x (filled ss)) h.0 ∙ below_filled x ss h.1
     ]
 
-sorted_filled : (slots : List ((ℕ × ℕ) × Option ℕ)) → IsStrictlySortedBy place_cmp (keys_of slots) → is_sorted place_cmp (filled slots) ≡ true
+sorted_filled : (slots : List ((ℕ × ℕ) × Option ℕ)) → IsStrictlySortedBy place_cmp (keys_of slots)
+    → is_sorted place_cmp (filled slots) ≡ true
 sorted_filled [] h = refl
 sorted_filled (s ∷ ss) h =
     let rest : is_sorted place_cmp (filled ss) ≡ true = sorted_filled ss (sorted_tail place_cmp s.0 (keys_of ss) h) in
     elim s.1 as (λ o. is_sorted place_cmp (filled_on s.0 o (filled ss)) ≡ true) [
       | None ↦ rest
-      | Some v ↦ ap (λ b. b && is_sorted place_cmp (filled ss)) (below_filled s.0 ss (sorted_head place_cmp s.0 (keys_of ss) h)) ∙ rest
+      | Some v ↦ ap (λ b. b && is_sorted place_cmp (filled ss))
+          (below_filled s.0 ss (sorted_head place_cmp s.0 (keys_of ss) h)) ∙ rest
     ]
 
 -- no later place ties with one that ties with the first
-none_later : (q x : ℕ × ℕ) (slots : List ((ℕ × ℕ) × Option ℕ)) → place_cmp q x ≡ Equal → AllByRecursion (λ y. place_cmp x y ≡ Less) (keys_of slots) → NonePasses (is_at (place_cmp q)) slots
+none_later : (q x : ℕ × ℕ) (slots : List ((ℕ × ℕ) × Option ℕ)) → place_cmp q x ≡ Equal
+    → AllByRecursion (λ y. place_cmp x y ≡ Less) (keys_of slots) → NonePasses (is_at (place_cmp q)) slots
 none_later q x [] e h = tt
 none_later q x (s ∷ ss) e h = (ap is_eq (place_total.congr q x s.0 e ∙ h.0), none_later q x ss e h.1)
 
-find_some : (b : Bool) (v : ℕ) (x : Option ℕ) (y : Option (Option ℕ)) → x ≡ option_flatten y → cond b (Some v) x ≡ option_flatten (cond b (Some (Some v)) y)
+find_some : (b : Bool) (v : ℕ) (x : Option ℕ) (y : Option (Option ℕ)) → x ≡ option_flatten y
+    → cond b (Some v) x ≡ option_flatten (cond b (Some (Some v)) y)
 find_some true v x y e = refl
 find_some false v x y e = e
 
-find_none : (r : Ordering) (x : Option ℕ) (y : Option (Option ℕ)) → x ≡ option_flatten y → (r ≡ Equal → y ≡ None) → x ≡ option_flatten (cond (is_eq r) (Some None) y)
+find_none : (r : Ordering) (x : Option ℕ) (y : Option (Option ℕ)) → x ≡ option_flatten y → (r ≡ Equal → y ≡ None)
+    → x ≡ option_flatten (cond (is_eq r) (Some None) y)
 find_none Less x y e h = e
 find_none Equal x y e h = e ∙ ap option_flatten (h refl)
 find_none Greater x y e h = e
 
-find_filled : (q : ℕ × ℕ) (slots : List ((ℕ × ℕ) × Option ℕ)) → IsStrictlySortedBy place_cmp (keys_of slots) → find place_cmp q (filled slots) ≡ option_flatten (lookup (is_at (place_cmp q)) slots)
+find_filled : (q : ℕ × ℕ) (slots : List ((ℕ × ℕ) × Option ℕ)) → IsStrictlySortedBy place_cmp (keys_of slots)
+    → find place_cmp q (filled slots) ≡ option_flatten (lookup (is_at (place_cmp q)) slots)
 find_filled q [] h = refl
 find_filled q (s ∷ ss) h =
-    let rest : find place_cmp q (filled ss) ≡ option_flatten (lookup (is_at (place_cmp q)) ss) = find_filled q ss (sorted_tail place_cmp s.0 (keys_of ss) h) in
-    elim s.1 as (λ o. find place_cmp q (filled_on s.0 o (filled ss)) ≡ option_flatten (cond (is_eq (place_cmp q s.0)) (Some o) (lookup (is_at (place_cmp q)) ss))) [
-      | None ↦ find_none (place_cmp q s.0) _ _ rest (λ e. lookup-none _ ss (none_later q s.0 ss e (sorted_head place_cmp s.0 (keys_of ss) h)))
+    let rest : find place_cmp q (filled ss)
+    ≡ option_flatten (lookup (is_at (place_cmp q)) ss) = find_filled q ss (sorted_tail place_cmp s.0 (keys_of ss) h) in
+    elim s.1 as (λ o. find place_cmp q (filled_on s.0 o (filled ss))
+    ≡ option_flatten (cond (is_eq (place_cmp q s.0)) (Some o) (lookup (is_at (place_cmp q)) ss))) [
+      | None ↦ find_none (place_cmp q s.0) _ _ rest
+          (λ e. lookup-none _ ss (none_later q s.0 ss e (sorted_head place_cmp s.0 (keys_of ss) h)))
       | Some v ↦ find_some (is_eq (place_cmp q s.0)) v _ _ rest
     ]
 
-flattened : (b c : Bool) (v : ℕ) (x : Option ℕ) (y : Option (Option ℕ)) → b ≡ c → x ≡ option_flatten y → option_flatten (cond b (Some (Some v)) y) ≡ cond c (Some v) x
+flattened : (b c : Bool) (v : ℕ) (x : Option ℕ) (y : Option (Option ℕ)) → b ≡ c → x ≡ option_flatten y
+    → option_flatten (cond b (Some (Some v)) y) ≡ cond c (Some v) x
 flattened b c v x y e f = sym (find_some b v x y f) ∙ ap (λ d. cond d (Some v) x) e
 
 some_or : (b : Bool) (w x : Option (Option ℕ)) → is_some w ≡ true → is_some (cond b w x) ≡ (b || is_some x)

@@ -7,10 +7,13 @@ use Rattle.std.proofs.Common.{◌≡◌, ◌∙◌}
 use Rattle.lock_laws.proofs.Kit.{columns}
 
 -- what is out once the class graph is home
-pub less_out : (s : State) (i : Item) (t : ℕ) → out_with s.turnstile_chain_with s.sleep_chain_with s.record_with s.cell_with None i ≡ Some t → item_with s i ≡ Some t
+pub less_out : (s : State) (i : Item) (t : ℕ)
+    → out_with s.turnstile_chain_with s.sleep_chain_with s.record_with s.cell_with None i ≡ Some t
+    → item_with s i ≡ Some t
 less_out s i t e = grind arith
 
-narrow : (c : Config) (s : State) → Lawful c s → OutIsNarrow s.turnstile_chain_with s.sleep_chain_with s.record_with s.cell_with None
+narrow : (c : Config) (s : State) → Lawful c s
+    → OutIsNarrow s.turnstile_chain_with s.sleep_chain_with s.record_with s.cell_with None
 unfolding OutIsNarrow
 narrow c s h t i j e f = h.items.out_is_narrow t i j (less_out s i t e) (less_out s j t f)
 

@@ -25,17 +25,26 @@ at_home : (o : Option ℕ) → some o ≡ 1 → (x : ℕ) × (o ≡ Some x)
 at_home o e = grind arith
 
 -- a thread that stands on no queue has its turnstile
-pub has_turnstile : (c : Config) (s : State) (t : ℕ) → Lawful c s → s.blocked_on t ≡ None → (x : ℕ) × (s.turnstile t ≡ Some x)
+pub has_turnstile : (c : Config) (s : State) (t : ℕ) → Lawful c s → s.blocked_on t ≡ None
+    → (x : ℕ) × (s.turnstile t ≡ Some x)
 unfolding TurnstileIsLent
-has_turnstile c s t h e = let a = h.queues.turnstile_is_lent t in let b : some (s.turnstile t) + 0 ≡ 1 = rw e at a in at_home (s.turnstile t) (omega (arith, b))
+has_turnstile c s t h e =
+    let a = h.queues.turnstile_is_lent t in
+    let b : some (s.turnstile t) + 0 ≡ 1 = rw e at a in
+    at_home (s.turnstile t) (omega (arith, b))
 
 -- and its sleep queue
-pub has_sleep_queue : (c : Config) (s : State) (t : ℕ) → Lawful c s → s.blocked_on t ≡ None → (x : ℕ) × (s.sleep_queue t ≡ Some x)
+pub has_sleep_queue : (c : Config) (s : State) (t : ℕ) → Lawful c s → s.blocked_on t ≡ None
+    → (x : ℕ) × (s.sleep_queue t ≡ Some x)
 unfolding SleepQueueIsLent
-has_sleep_queue c s t h e = let a = h.queues.sleep_queue_is_lent t in let b : some (s.sleep_queue t) + 0 ≡ 1 = rw e at a in at_home (s.sleep_queue t) (omega (arith, b))
+has_sleep_queue c s t h e =
+    let a = h.queues.sleep_queue_is_lent t in
+    let b : some (s.sleep_queue t) + 0 ≡ 1 = rw e at a in
+    at_home (s.sleep_queue t) (omega (arith, b))
 
 -- a lock's queue has a head where its word shows waiters
-pub shown_head : (c : Config) (s : State) (l : ℕ) → Lawful c s → shows_waiters (s.word l) ≡ true → (x : ℕ) × (s.head (lock_queue l) ≡ Some x)
+pub shown_head : (c : Config) (s : State) (l : ℕ) → Lawful c s → shows_waiters (s.word l) ≡ true
+    → (x : ℕ) × (s.head (lock_queue l) ≡ Some x)
 unfolding BitsShowWaiters
 shown_head c s l h e = go (s.head (lock_queue l)) refl
   where
@@ -43,11 +52,14 @@ shown_head c s l h e = go (s.head (lock_queue l)) refl
     go None i =
         let bare = headless_bare c s (lock_queue l) h i in
         let shown = h.queues.bits_show_waiters l in
-        absurd (let z : (false || false) ≡ true = rw (shown.exclusive, shown.shared, bare.no_exclusive, bare.no_shared) at e in cc)
+        absurd
+        (let z : (false || false) ≡ true = rw (shown.exclusive, shown.shared, bare.no_exclusive, bare.no_shared) at e in
+        cc)
     go (Some x) i = (x, i)
 
 -- a queue without a head has no waiter,
-pub none_stands : (c : Config) (s : State) (q : QueueName) (t : ℕ) → Lawful c s → s.head q ≡ None → stands t (s.lists q) ≡ 0
+pub none_stands : (c : Config) (s : State) (q : QueueName) (t : ℕ) → Lawful c s → s.head q ≡ None
+    → stands t (s.lists q) ≡ 0
 none_stands c s q t h e = let bare = headless_bare c s q h e in rw (bare.no_exclusive, bare.no_shared) refl
 
 -- and no owner
@@ -56,13 +68,15 @@ unfolding HeadsFitWaiters
 no_owner c s q h e = (h.queues.heads_fit_waiters q).no_owner e
 
 -- a queue with an owner has a head, and its lock's word says the owner
-pub owner_found : (c : Config) (s : State) (l o : ℕ) → Lawful c s → is_turnstile (c.kind l) ≡ true → s.owner (lock_queue l) ≡ Some o
+pub owner_found : (c : Config) (s : State) (l o : ℕ) → Lawful c s → is_turnstile (c.kind l) ≡ true
+    → s.owner (lock_queue l) ≡ Some o
     → (x : ℕ) × (s.head (lock_queue l) ≡ Some x) × (owner_of (s.word l).holder ≡ Some o)
 unfolding OwnersHold
 owner_found c s l o h k e = grind arith
 
 -- where it has none, there is no head or the word says none
-pub no_owner_found : (c : Config) (s : State) (l : ℕ) → Lawful c s → is_turnstile (c.kind l) ≡ true → s.owner (lock_queue l) ≡ None
+pub no_owner_found : (c : Config) (s : State) (l : ℕ) → Lawful c s → is_turnstile (c.kind l) ≡ true
+    → s.owner (lock_queue l) ≡ None
     → (s.head (lock_queue l) ≡ None) ⊎ (owner_of (s.word l).holder ≡ None)
 unfolding OwnersHold
 no_owner_found c s l h k e = grind arith

@@ -80,14 +80,17 @@ module _ (c : Config) (s : State) (t l x : ℕ) (by_try : Bool) (g : MayClaim c 
 
   holders : WordsMatchHolders c n.word n.held
   unfolding after_claim WordsMatchHolders
-  holders = all_match-put c s.word s.held t l _ (Holds Excl) h.words.words_match_holders (matches-claim c (s.word l) s.held t l g.thread g.free g.unheld (h.words.words_match_holders l))
+  holders = all_match-put c s.word s.held t l _ (Holds Excl) h.words.words_match_holders
+      (matches-claim c (s.word l) s.held t l g.thread g.free g.unheld (h.words.words_match_holders l))
 
   owners : OwnersHold c n.owner n.head n.word
   unfolding after_claim OwnersHold
   owners k =
       elim (cases_eq l k) [
-        | inl e ↦ rw (← e) (simp (put_same, put_lock_same) (owner_claimed (is_turnstile (c.kind l)) (s.head q) x t turnstile g.head))
-        | inr e ↦ rw (put_other s.word l (claimed (s.word l) t) k e, put_lock_other s.owner l (Some t) k e) (h.loans.owners_hold k)
+        | inl e ↦ rw (← e)
+            (simp (put_same, put_lock_same) (owner_claimed (is_turnstile (c.kind l)) (s.head q) x t turnstile g.head))
+        | inr e ↦ rw (put_other s.word l (claimed (s.word l) t) k e, put_lock_other s.owner l (Some t) k e)
+            (h.loans.owners_hold k)
       ]
 
   channels : ChannelsHaveNoOwner n.owner
@@ -105,9 +108,11 @@ module _ (c : Config) (s : State) (t l x : ℕ) (by_try : Bool) (g : MayClaim c 
   loans_least k o e w =
       elim (cases_eq l k) [
         | inl i ↦
-            let j : t ≡ o = (let y = sym (put_lock_same s.owner l (Some t)) ∙ ap (λ z. put_queue s.owner q (Some t) (lock_queue z)) i ∙ e in cc) in
+            let j : t ≡ o = (let y = sym (put_lock_same s.owner l (Some t))
+            ∙ ap (λ z. put_queue s.owner q (Some t) (lock_queue z)) i ∙ e in cc) in
             rw (← i, ← j, put_at_same s.loan t l new) (prio_loan_of x (least_of (s.lists q)))
-        | inr i ↦ rw (put_at_beside s.loan t l new o k i) (h.loans.loans_are_least k o (sym (put_lock_other s.owner l (Some t) k i) ∙ e) w)
+        | inr i ↦ rw (put_at_beside s.loan t l new o k i)
+            (h.loans.loans_are_least k o (sym (put_lock_other s.owner l (Some t) k i) ∙ e) w)
       ]
 
   -- a loan for the lock is the new one
@@ -122,15 +127,18 @@ module _ (c : Config) (s : State) (t l x : ℕ) (by_try : Bool) (g : MayClaim c 
   unfolding after_claim LoansAreWithOwners
   loans_owned u k y e =
       elim (cases_eq l k) [
-        | inl i ↦ let r = only_new u y (ap (put_at s.loan t l new u) i ∙ e) in rw (← i, put_lock_same s.owner l (Some t)) (ap Some r.0)
-        | inr i ↦ rw (put_lock_other s.owner l (Some t) k i) (h.loans.loans_are_with_owners u k y (sym (put_at_beside s.loan t l new u k i) ∙ e))
+        | inl i ↦ let r = only_new u y (ap (put_at s.loan t l new u) i ∙ e) in
+            rw (← i, put_lock_same s.owner l (Some t)) (ap Some r.0)
+        | inr i ↦ rw (put_lock_other s.owner l (Some t) k i)
+            (h.loans.loans_are_with_owners u k y (sym (put_at_beside s.loan t l new u k i) ∙ e))
       ]
 
   loans_on_heads : LoansAreOnHeads n.loan n.head
   unfolding after_claim LoansAreOnHeads
   loans_on_heads u k y e =
       elim (cases_eq l k) [
-        | inl i ↦ let r = only_new u y (ap (put_at s.loan t l new u) i ∙ e) in rw (← i) (g.head ∙ ap Some (number_loan_of x (least_of (s.lists q)) y r.1))
+        | inl i ↦ let r = only_new u y (ap (put_at s.loan t l new u) i ∙ e) in
+            rw (← i) (g.head ∙ ap Some (number_loan_of x (least_of (s.lists q)) y r.1))
         | inr i ↦ h.loans.loans_are_on_heads u k y (sym (put_at_beside s.loan t l new u k i) ∙ e)
       ]
 
@@ -140,7 +148,8 @@ module _ (c : Config) (s : State) (t l x : ℕ) (by_try : Bool) (g : MayClaim c 
 
   kept : KeptIsEffective c n.walk n.effective n.lists
   unfolding after_claim KeptIsEffective
-  kept k i = each_of-elsewhere c s.walk s.effective t _ (s.lists (lock_queue k)) (nowhere k) (h.loans.kept_is_effective k i)
+  kept k i =
+      each_of-elsewhere c s.walk s.effective t _ (s.lists (lock_queue k)) (nowhere k) (h.loans.kept_is_effective k i)
 
   new_known : (y : Loan) → new ≡ Some y → IsKnown c s.history y.prio
   unfolding KeptIsKnown
@@ -156,4 +165,22 @@ module _ (c : Config) (s : State) (t l x : ℕ) (by_try : Bool) (g : MayClaim c 
 
   pub lawful : Lawful c n
   unfolding after_claim
-  lawful = assumption (listed.gained s t l h.words.held_are_listed Excl by_try, nodes, heads, bits, called, free_mutex, holders, owners, channels, least, loans_least, loans_owned, loans_on_heads, kept, effective_known, loans_known, gained_lock c s t l Excl g.thread g.unheld g.acting h)
+  lawful = assumption (
+    listed.gained s t l h.words.held_are_listed Excl by_try,
+    nodes,
+    heads,
+    bits,
+    called,
+    free_mutex,
+    holders,
+    owners,
+    channels,
+    least,
+    loans_least,
+    loans_owned,
+    loans_on_heads,
+    kept,
+    effective_known,
+    loans_known,
+    gained_lock c s t l Excl g.thread g.unheld g.acting h,
+  )

@@ -9,13 +9,15 @@ use Rattle.lock_laws.proofs.Standing.{times_named}
 
 -- 1. Those that are dealt
 
-pub no_signals_of_lock : (t l : ℕ) (ws : List Waiter) (xs : List ℕ) (h : Option ℕ) → signals t (dealt (lock_queue l) ws xs h) ≡ 0
+pub no_signals_of_lock : (t l : ℕ) (ws : List Waiter) (xs : List ℕ) (h : Option ℕ)
+    → signals t (dealt (lock_queue l) ws xs h) ≡ 0
 no_signals_of_lock t l [] xs h = refl
 no_signals_of_lock t l (w ∷ ws) [] None = refl
 no_signals_of_lock t l (w ∷ ws) [] (Some h) = omega (arith, no_signals_of_lock t l ws [] None)
 no_signals_of_lock t l (w ∷ ws) (x ∷ xs) h = omega (arith, no_signals_of_lock t l ws xs h)
 
-pub signals-dealt : (t d : ℕ) (ws : List Waiter) (xs : List ℕ) (h : Option ℕ) → length ws ≤ length xs + some h → signals t (dealt (chan_queue d) ws xs h) ≡ times_waiting t ws
+pub signals-dealt : (t d : ℕ) (ws : List Waiter) (xs : List ℕ) (h : Option ℕ) → length ws ≤ length xs + some h
+    → signals t (dealt (chan_queue d) ws xs h) ≡ times_waiting t ws
 signals-dealt t d [] xs h p = refl
 signals-dealt t d (w ∷ ws) [] None p = absurd (omega arith)
 signals-dealt t d (w ∷ []) [] (Some h) p = refl
@@ -33,7 +35,8 @@ times-map t [] = refl
 times-map t (w ∷ ws) = omega (arith, times-map t ws)
 
 -- where there are objects enough, their marks name each of them
-pub threads-dealt : (q : QueueName) (ws : List Waiter) (xs : List ℕ) (h : Option ℕ) → length ws ≤ length xs + some h → map (λ m. m.thread) (dealt q ws xs h) ≡ map (λ w. w.thread) ws
+pub threads-dealt : (q : QueueName) (ws : List Waiter) (xs : List ℕ) (h : Option ℕ) → length ws ≤ length xs + some h
+    → map (λ m. m.thread) (dealt q ws xs h) ≡ map (λ w. w.thread) ws
 threads-dealt q [] xs h p = refl
 threads-dealt q (w ∷ ws) [] None p = absurd (omega arith)
 threads-dealt q (w ∷ []) [] (Some h) p = refl
@@ -53,7 +56,8 @@ pub marked_sum : (n t u : ℕ) (f : ℕ → Option Wake) (x : ℕ → List Mark)
 marked_sum n t u f x ms lt =
     let e = ap (signals_noted u (f t)) (put_same x t ms) in
     let here = λ (v : ℕ) (ne : t ≡ v → ⊥). ap (signals_noted u (f v)) (put_other x t ms v ne) in
-    omega (arith, sum_below-change n (λ v. signals_noted u (f v) (put x t ms v)) (λ v. signals_noted u (f v) (x v)) t lt here)
+    omega
+    (arith, sum_below-change n (λ v. signals_noted u (f v) (put x t ms v)) (λ v. signals_noted u (f v) (x v)) t lt here)
 
 -- a wake begins, or is noted
 pub unstamped_sum : (n t u : ℕ) (f : ℕ → Option Wake) (x : ℕ → List Mark) (w : Option Wake) → t < n
@@ -62,7 +66,8 @@ pub unstamped_sum : (n t u : ℕ) (f : ℕ → Option Wake) (x : ℕ → List Ma
 unstamped_sum n t u f x w lt =
     let e = ap (λ y. signals_noted u y (x t)) (put_same f t w) in
     let here = λ (v : ℕ) (ne : t ≡ v → ⊥). ap (λ y. signals_noted u y (x v)) (put_other f t w v ne) in
-    omega (arith, sum_below-change n (λ v. signals_noted u (put f t w v) (x v)) (λ v. signals_noted u (f v) (x v)) t lt here)
+    omega
+    (arith, sum_below-change n (λ v. signals_noted u (put f t w v) (x v)) (λ v. signals_noted u (f v) (x v)) t lt here)
 
 -- 3. Signals are marks
 

@@ -27,7 +27,8 @@ module _ (c : Config) (s : State) (t l : ℕ) (mode : Mode) (g : MayDrop c s t l
 
   holders : WordsMatchHolders c n.word n.held
   unfolding after_drop WordsMatchHolders
-  holders = all_match-put c s.word s.held t l _ NotHeld h.words.words_match_holders (matches-drop c (s.word l) _ s.held t l mode g.thread g.held refl (h.words.words_match_holders l))
+  holders = all_match-put c s.word s.held t l _ NotHeld h.words.words_match_holders
+      (matches-drop c (s.word l) _ s.held t l mode g.thread g.held refl (h.words.words_match_holders l))
 
   threads_hold : OnlyThreadsHold c n.held
   unfolding after_drop OnlyThreadsHold
@@ -36,8 +37,11 @@ module _ (c : Config) (s : State) (t l : ℕ) (mode : Mode) (g : MayDrop c s t l
   owners : OwnersHold c n.owner n.head n.word
   unfolding after_drop OwnersHold BitsShowWaiters HeadsFitWaiters
   owners =
-      at_put (λ k w. s.owner (lock_queue k) ≡ owner_if (is_turnstile (c.kind k)) (s.head (lock_queue k)) w.holder) s.word l _
-      (h.loans.owners_hold l ∙ owner_dropped (is_turnstile (c.kind l)) (s.word l) (s.lists (lock_queue l)) (s.free_list (lock_queue l)) (s.head (lock_queue l)) (s.owner (lock_queue l)) g.stays (h.queues.bits_show_waiters l) (h.queues.heads_fit_waiters (lock_queue l)))
+      at_put
+      (λ k w. s.owner (lock_queue k) ≡ owner_if (is_turnstile (c.kind k)) (s.head (lock_queue k)) w.holder) s.word l _
+      (h.loans.owners_hold l ∙ owner_dropped (is_turnstile (c.kind l)) (s.word l) (s.lists (lock_queue l))
+      (s.free_list (lock_queue l)) (s.head (lock_queue l)) (s.owner (lock_queue l)) g.stays
+      (h.queues.bits_show_waiters l) (h.queues.heads_fit_waiters (lock_queue l)))
       (λ k ne. h.loans.owners_hold k)
 
   sections : SectionsAreHeld c n.history n.held
@@ -46,4 +50,5 @@ module _ (c : Config) (s : State) (t l : ℕ) (mode : Mode) (g : MayDrop c s t l
 
   pub lawful : Lawful c n
   unfolding after_drop
-  lawful = assumption (listed.released s t l h.words.held_are_listed, bits, called, free_mutex, holders, threads_hold, owners, sections)
+  lawful = assumption
+      (listed.released s t l h.words.held_are_listed, bits, called, free_mutex, holders, threads_hold, owners, sections)

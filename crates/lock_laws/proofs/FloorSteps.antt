@@ -25,7 +25,8 @@ module _ (s : State) (h : QueuedHasRecord s.wait s.blocked_on s.record_with) whe
   unfolding QueuedHasRecord
   stands t q u = grind (arith, columns, h u)
 
-  woken : (t : ℕ) (q : QueueName) (cause : Cause) → QueuedHasRecord (put s.wait t (Woken q cause)) (put s.blocked_on t None) s.record_with
+  woken : (t : ℕ) (q : QueueName) (cause : Cause)
+      → QueuedHasRecord (put s.wait t (Woken q cause)) (put s.blocked_on t None) s.record_with
   unfolding QueuedHasRecord
   woken t q cause u = grind (arith, columns, h u)
 
@@ -33,11 +34,13 @@ module _ (s : State) (h : QueuedHasRecord s.wait s.blocked_on s.record_with) whe
   unfolding QueuedHasRecord
   taken t v o u = grind (arith, columns, h u, o)
 
-  given : (t v : ℕ) → s.record_with v ≡ Some t → (v ≡ t → s.wait t ≡ Queued → s.blocked_on t ≢ None) → QueuedHasRecord s.wait s.blocked_on (put s.record_with v None)
+  given : (t v : ℕ) → s.record_with v ≡ Some t → (v ≡ t → s.wait t ≡ Queued → s.blocked_on t ≢ None)
+      → QueuedHasRecord s.wait s.blocked_on (put s.record_with v None)
   unfolding QueuedHasRecord
   given t v o d u = grind (arith, columns, h u, o, d)
 
-record_kept : (chains : ℕ) (c : Config) (s : State) (step : Step) → May c s step → HasOut chains c s step → QueuedHasRecord s.wait s.blocked_on s.record_with
+record_kept : (chains : ℕ) (c : Config) (s : State) (step : Step) → May c s step → HasOut chains c s step
+    → QueuedHasRecord s.wait s.blocked_on s.record_with
     → QueuedHasRecord (after c s step).wait (after c s step).blocked_on (after c s step).record_with
 unfolding after_seek after_look after_gain after_drop after_stamp after_ready after_unready after_enter after_open
     after_mark after_resume after_enter_sleep after_open_sleep after_add after_wake after_claim after_lend after_shift

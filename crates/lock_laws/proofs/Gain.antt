@@ -25,7 +25,8 @@ pub gained_lock : (c : Config) (s : State) (t l : ℕ) (mode : Mode) → t < c.t
 unfolding StandingWants WokenWants CalledWants StandingIsUncalled WokenIsUncalled OnlyThreadsHold SectionsAreHeld
 gained_lock c s t l mode thread unheld acting h = grind (arith, columns)
 
-module _ (c : Config) (s : State) (t l : ℕ) (mode : Mode) (by_try : Bool) (g : MayGain c s t l mode) (h : Lawful c s) where
+module _ (c : Config) (s : State) (t l : ℕ) (mode : Mode) (by_try : Bool) (g : MayGain c s t l mode)
+    (h : Lawful c s) where
   abbrev n : State
   n = after_gain s t l mode by_try
 
@@ -45,15 +46,27 @@ module _ (c : Config) (s : State) (t l : ℕ) (mode : Mode) (by_try : Bool) (g :
 
   holders : WordsMatchHolders c n.word n.held
   unfolding after_gain WordsMatchHolders
-  holders = all_match-put c s.word s.held t l _ (Holds mode) h.words.words_match_holders (matches-gain c (c.kind l) (s.word l) s.held t l mode g.thread g.admitted g.unheld (h.words.words_match_holders l))
+  holders = all_match-put c s.word s.held t l _ (Holds mode) h.words.words_match_holders (matches-gain c (c.kind l)
+      (s.word l) s.held t l mode g.thread g.admitted g.unheld (h.words.words_match_holders l))
 
   owners : OwnersHold c n.owner n.head n.word
   unfolding after_gain OwnersHold BitsShowWaiters HeadsFitWaiters
   owners =
-      at_put (λ k w. s.owner (lock_queue k) ≡ owner_if (is_turnstile (c.kind k)) (s.head (lock_queue k)) w.holder) s.word l _
-      (h.loans.owners_hold l ∙ owner_gained (c.kind l) (s.word l) (s.lists (lock_queue l)) (s.free_list (lock_queue l)) (s.head (lock_queue l)) (s.owner (lock_queue l)) t mode g.admitted g.plainly (h.queues.bits_show_waiters l) (h.queues.heads_fit_waiters (lock_queue l)))
+      at_put
+      (λ k w. s.owner (lock_queue k) ≡ owner_if (is_turnstile (c.kind k)) (s.head (lock_queue k)) w.holder) s.word l _
+      (h.loans.owners_hold l ∙ owner_gained (c.kind l) (s.word l) (s.lists (lock_queue l)) (s.free_list (lock_queue l))
+      (s.head (lock_queue l)) (s.owner (lock_queue l)) t mode g.admitted g.plainly (h.queues.bits_show_waiters l)
+      (h.queues.heads_fit_waiters (lock_queue l)))
       (λ k ne. h.loans.owners_hold k)
 
   pub lawful : Lawful c n
   unfolding after_gain
-  lawful = assumption (listed.gained s t l h.words.held_are_listed mode by_try, bits, called, free_mutex, holders, owners, gained_lock c s t l mode g.thread g.unheld g.acting h)
+  lawful = assumption (
+    listed.gained s t l h.words.held_are_listed mode by_try,
+    bits,
+    called,
+    free_mutex,
+    holders,
+    owners,
+    gained_lock c s t l mode g.thread g.unheld g.acting h,
+  )

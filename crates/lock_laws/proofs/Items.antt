@@ -19,7 +19,9 @@ by_cell f i k o j l =
 
 -- who has an item out, once the item i goes to a thread, or home
 abbrev pub with_then : State → Item → Option ℕ → Item → Option ℕ
-with_then s i o = out_with (turnstile_chains_after i o s.turnstile_chain_with) (sleep_chains_after i o s.sleep_chain_with) (records_after i o s.record_with) (cells_after i o s.cell_with) (graph_after i o s.graph_with)
+with_then s i o =
+    out_with (turnstile_chains_after i o s.turnstile_chain_with) (sleep_chains_after i o s.sleep_chain_with)
+    (records_after i o s.record_with) (cells_after i o s.cell_with) (graph_after i o s.graph_with)
 
 -- the item is where it went,
 pub at_itself : (s : State) (i : Item) (o : Option ℕ) → with_then s i o i ≡ o
@@ -31,10 +33,14 @@ at_itself s ClassGraph o = refl
 
 -- and another where it was
 pub beside : (s : State) (i : Item) (o : Option ℕ) (j : Item) → (i ≡ j) ⊎ (with_then s i o j ≡ item_with s j)
-beside s (TurnstileChain a) o (TurnstileChain b) = elim (by_place s.turnstile_chain_with a o b) [ inl x ↦ inl (ap TurnstileChain x) | inr x ↦ inr x ]
-beside s (SleepChain a) o (SleepChain b) = elim (by_place s.sleep_chain_with a o b) [ inl x ↦ inl (ap SleepChain x) | inr x ↦ inr x ]
-beside s (RecordOf a) o (RecordOf b) = elim (by_place s.record_with a o b) [ inl x ↦ inl (ap RecordOf x) | inr x ↦ inr x ]
-beside s (CellOf a k) o (CellOf b l) = elim (by_cell s.cell_with a k o b l) [ inl x ↦ inl (λ i. CellOf (x.0 i) (x.1 i)) | inr x ↦ inr x ]
+beside s (TurnstileChain a) o (TurnstileChain b) =
+    elim (by_place s.turnstile_chain_with a o b) [ inl x ↦ inl (ap TurnstileChain x) | inr x ↦ inr x ]
+beside s (SleepChain a) o (SleepChain b) =
+    elim (by_place s.sleep_chain_with a o b) [ inl x ↦ inl (ap SleepChain x) | inr x ↦ inr x ]
+beside s (RecordOf a) o (RecordOf b) =
+    elim (by_place s.record_with a o b) [ inl x ↦ inl (ap RecordOf x) | inr x ↦ inr x ]
+beside s (CellOf a k) o (CellOf b l) =
+    elim (by_cell s.cell_with a k o b l) [ inl x ↦ inl (λ i. CellOf (x.0 i) (x.1 i)) | inr x ↦ inr x ]
 beside s ClassGraph o ClassGraph = inl refl
 beside s (TurnstileChain a) o (SleepChain b) = inr refl
 beside s (TurnstileChain a) o (RecordOf b) = inr refl
@@ -58,14 +64,18 @@ beside s ClassGraph o (RecordOf b) = inr refl
 beside s ClassGraph o (CellOf b l) = inr refl
 
 -- what a thread has out then is that item, or was out before
-pub changed : (s : State) (i : Item) (o : Option ℕ) (j : Item) (t : ℕ) → with_then s i o j ≡ Some t → ((i ≡ j) × (o ≡ Some t)) ⊎ (item_with s j ≡ Some t)
-changed s i o j t e = elim (beside s i o j) [ inl x ↦ inl (x, sym (at_itself s i o) ∙ ap (with_then s i o) x ∙ e) | inr x ↦ inr (sym x ∙ e) ]
+pub changed : (s : State) (i : Item) (o : Option ℕ) (j : Item) (t : ℕ) → with_then s i o j ≡ Some t
+    → ((i ≡ j) × (o ≡ Some t)) ⊎ (item_with s j ≡ Some t)
+changed s i o j t e = elim (beside s i o
+    j) [ inl x ↦ inl (x, sym (at_itself s i o) ∙ ap (with_then s i o) x ∙ e) | inr x ↦ inr (sym x ∙ e) ]
 
 with_itself : (i : Item) → go_together i i ≡ true
 with_itself i = grind arith
 
 abbrev Narrow : State → Item → Option ℕ → Type 0
-Narrow s i o = OutIsNarrow (turnstile_chains_after i o s.turnstile_chain_with) (sleep_chains_after i o s.sleep_chain_with) (records_after i o s.record_with) (cells_after i o s.cell_with) (graph_after i o s.graph_with)
+Narrow s i o =
+    OutIsNarrow (turnstile_chains_after i o s.turnstile_chain_with) (sleep_chains_after i o s.sleep_chain_with)
+    (records_after i o s.record_with) (cells_after i o s.cell_with) (graph_after i o s.graph_with)
 
 taken_narrow : (c : Config) (s : State) (t : ℕ) (i : Item) → MayTake c s t i → Lawful c s → Narrow s i (Some t)
 unfolding OutIsNarrow
@@ -86,13 +96,16 @@ unfolding OutIsNarrow
 given_narrow c s i h u j k p q =
     elim (changed s i None j u p) [
       | inl x ↦ absurd (let e = x.1 in cc)
-      | inr x ↦ elim (changed s i None k u q) [ inl y ↦ absurd (let e = y.1 in cc) | inr y ↦ h.items.out_is_narrow u j k x y ]
+      | inr x ↦
+          elim (changed s i None k u q) [ inl y ↦ absurd (let e = y.1 in cc) | inr y ↦ h.items.out_is_narrow u j k x y ]
     ]
 
-pub take_lawful : (c : Config) (s : State) (t : ℕ) (i : Item) → MayTake c s t i → Lawful c s → Lawful c (after_take s t i)
+pub take_lawful : (c : Config) (s : State) (t : ℕ) (i : Item) → MayTake c s t i → Lawful c s
+    → Lawful c (after_take s t i)
 unfolding after_take
 take_lawful c s t i g h = assumption (h, taken_narrow c s t i g h)
 
-pub give_lawful : (c : Config) (s : State) (t : ℕ) (i : Item) → MayGive c s t i → Lawful c s → Lawful c (after_give s t i)
+pub give_lawful : (c : Config) (s : State) (t : ℕ) (i : Item) → MayGive c s t i → Lawful c s
+    → Lawful c (after_give s t i)
 unfolding after_give
 give_lawful c s t i g h = assumption (h, given_narrow c s i h)

@@ -40,17 +40,20 @@ put_at_row f i k v j h = λ p l. put_at_other f i k v j l h p
 
 pub put_at_beside : {A : Type 0} (f : ℕ → ℕ → A) (i k : ℕ) (v : A) (j l : ℕ) → (k ≡ l → ⊥) → put_at f i k v j l ≡ f j l
 unfolding put_at
-put_at_beside f i k v j l h = rw (ne_eqb k l h) (elim (eqb i j) as (λ b. cond (b && false) v (f j l) ≡ f j l) [ true ↦ refl | false ↦ refl ])
+put_at_beside f i k v j l h =
+    rw (ne_eqb k l h) (elim (eqb i j) as (λ b. cond (b && false) v (f j l) ≡ f j l) [ true ↦ refl | false ↦ refl ])
 
 pub put_lock_same : {A : Type 0} (f : QueueName → A) (l : ℕ) (v : A) → put_queue f (lock_queue l) v (lock_queue l) ≡ v
 unfolding put_queue
 put_lock_same f l v = ap (λ b. cond b v (f (lock_queue l))) (eq-eqb l l refl)
 
-pub put_lock_other : {A : Type 0} (f : QueueName → A) (l : ℕ) (v : A) (k : ℕ) → (l ≡ k → ⊥) → put_queue f (lock_queue l) v (lock_queue k) ≡ f (lock_queue k)
+pub put_lock_other : {A : Type 0} (f : QueueName → A) (l : ℕ) (v : A) (k : ℕ) → (l ≡ k → ⊥)
+    → put_queue f (lock_queue l) v (lock_queue k) ≡ f (lock_queue k)
 unfolding put_queue
 put_lock_other f l v k h = ap (λ b. cond b v (f (lock_queue k))) (ne_eqb l k h)
 
-pub put_lock_chan : {A : Type 0} (f : QueueName → A) (l : ℕ) (v : A) (d : ℕ) → put_queue f (lock_queue l) v (chan_queue d) ≡ f (chan_queue d)
+pub put_lock_chan : {A : Type 0} (f : QueueName → A) (l : ℕ) (v : A) (d : ℕ)
+    → put_queue f (lock_queue l) v (chan_queue d) ≡ f (chan_queue d)
 unfolding put_queue
 put_lock_chan f l v d = refl
 
@@ -58,7 +61,8 @@ pub put_chan_same : {A : Type 0} (f : QueueName → A) (d : ℕ) (v : A) → put
 unfolding put_queue
 put_chan_same f d v = ap (λ b. cond b v (f (chan_queue d))) (eq-eqb d d refl)
 
-pub put_chan_other : {A : Type 0} (f : QueueName → A) (d : ℕ) (v : A) (k : ℕ) → (d ≡ k → ⊥) → put_queue f (chan_queue d) v (chan_queue k) ≡ f (chan_queue k)
+pub put_chan_other : {A : Type 0} (f : QueueName → A) (d : ℕ) (v : A) (k : ℕ) → (d ≡ k → ⊥)
+    → put_queue f (chan_queue d) v (chan_queue k) ≡ f (chan_queue k)
 unfolding put_queue
 put_chan_other f d v k h = ap (λ b. cond b v (f (chan_queue k))) (ne_eqb d k h)
 
@@ -72,10 +76,12 @@ unfolding put_queue
 put_queue_other f q v r e = rw e refl
 
 -- what an entry of a changed column is
-pub ruleset columns = (put_same, put_other, put_at_same, put_at_other, put_at_beside, put_lock_same, put_lock_other, put_lock_chan)
+pub ruleset columns =
+    (put_same, put_other, put_at_same, put_at_other, put_at_beside, put_lock_same, put_lock_other, put_lock_chan)
 
 -- a fact of a place and its entry, after the entry at i is changed
-pub at_put : {A : Type 0} (P : ℕ → A → Type 0) (f : ℕ → A) (i : ℕ) (v : A) → P i v → ((j : ℕ) → (i ≡ j → ⊥) → P j (f j)) → (j : ℕ) → P j (put f i v j)
+pub at_put : {A : Type 0} (P : ℕ → A → Type 0) (f : ℕ → A) (i : ℕ) (v : A) → P i v → ((j : ℕ) → (i ≡ j → ⊥) → P j (f j))
+    → (j : ℕ) → P j (put f i v j)
 at_put P f i v here there j =
     elim (cases_eq i j) [
       | inl e ↦ let p : P i (put f i v i) = rw put_same here in subst (λ k. P k (put f i v k)) e p
@@ -83,10 +89,12 @@ at_put P f i v here there j =
     ]
 
 -- the same of a column by queue
-pub at_put_lock : {A : Type 0} (P : ℕ → A → Type 0) (f : QueueName → A) (i : ℕ) (v : A) → P i v → ((j : ℕ) → (i ≡ j → ⊥) → P j (f (lock_queue j))) → (j : ℕ) → P j (put_queue f (lock_queue i) v (lock_queue j))
+pub at_put_lock : {A : Type 0} (P : ℕ → A → Type 0) (f : QueueName → A) (i : ℕ) (v : A) → P i v
+    → ((j : ℕ) → (i ≡ j → ⊥) → P j (f (lock_queue j))) → (j : ℕ) → P j (put_queue f (lock_queue i) v (lock_queue j))
 at_put_lock P f i v here there j =
     elim (cases_eq i j) [
-      | inl e ↦ let p : P i (put_queue f (lock_queue i) v (lock_queue i)) = rw put_lock_same here in subst (λ k. P k (put_queue f (lock_queue i) v (lock_queue k))) e p
+      | inl e ↦ let p : P i (put_queue f (lock_queue i) v (lock_queue i)) = rw put_lock_same here in
+          subst (λ k. P k (put_queue f (lock_queue i) v (lock_queue k))) e p
       | inr e ↦ rw (put_lock_other f i v j e) (there j e)
     ]
 
@@ -121,7 +129,8 @@ sum_below-same (suc n) f g h =
     cc
 
 -- two columns agree below n but at i
-pub sum_below-change : (n : ℕ) (f g : ℕ → ℕ) (i : ℕ) → i < n → ((j : ℕ) → (i ≡ j → ⊥) → f j ≡ g j) → sum_below n f + g i ≡ sum_below n g + f i
+pub sum_below-change : (n : ℕ) (f g : ℕ → ℕ) (i : ℕ) → i < n → ((j : ℕ) → (i ≡ j → ⊥) → f j ≡ g j)
+    → sum_below n f + g i ≡ sum_below n g + f i
 unfolding sum_below
 sum_below-change zero f g i l h = absurd (omega arith)
 sum_below-change (suc n) f g i l h =
@@ -148,23 +157,37 @@ pub sum_below-put_at : {A : Type 0} (n : ℕ) (g : A → ℕ) (f : ℕ → ℕ �
     → sum_below n (λ j. g (put_at f i k v j k)) + g (f i k) ≡ sum_below n (λ j. g (f j k)) + g v
 sum_below-put_at n g f i k v l =
     let e : g (put_at f i k v i k) ≡ g v = ap g (put_at_same f i k v) in
-    omega (arith, sum_below-change n (λ j. g (put_at f i k v j k)) (λ j. g (f j k)) i l (λ j h. ap g (put_at_other f i k v j k h)))
+    omega (
+      arith,
+      sum_below-change n (λ j. g (put_at f i k v j k)) (λ j. g (f j k)) i l (λ j h. ap g (put_at_other f i k v j k h)),
+    )
 
 pub sum_below-put_beside : {A : Type 0} (n : ℕ) (g : A → ℕ) (f : ℕ → ℕ → A) (i k : ℕ) (v : A) (l : ℕ) → (k ≡ l → ⊥)
     → sum_below n (λ j. g (put_at f i k v j l)) ≡ sum_below n (λ j. g (f j l))
-sum_below-put_beside n g f i k v l h = sum_below-same n (λ j. g (put_at f i k v j l)) (λ j. g (f j l)) (λ j x. ap g (put_at_beside f i k v j l h))
+sum_below-put_beside n g f i k v l h =
+    sum_below-same n (λ j. g (put_at f i k v j l)) (λ j. g (f j l)) (λ j x. ap g (put_at_beside f i k v j l h))
 
 pub sum_below-put_lock : {A : Type 0} (n : ℕ) (g : ℕ → A → ℕ) (f : QueueName → A) (i : ℕ) (v : A) → i < n
-    → sum_below n (λ j. g j (put_queue f (lock_queue i) v (lock_queue j))) + g i (f (lock_queue i)) ≡ sum_below n (λ j. g j (f (lock_queue j))) + g i v
+    → sum_below n (λ j. g j (put_queue f (lock_queue i) v (lock_queue j))) + g i (f (lock_queue i))
+    ≡ sum_below n (λ j. g j (f (lock_queue j))) + g i v
 sum_below-put_lock n g f i v l =
     let e : g i (put_queue f (lock_queue i) v (lock_queue i)) ≡ g i v = ap (g i) (put_lock_same f i v) in
-    omega (arith, sum_below-change n (λ j. g j (put_queue f (lock_queue i) v (lock_queue j))) (λ j. g j (f (lock_queue j))) i l (λ j h. ap (g j) (put_lock_other f i v j h)))
+    omega (
+      arith,
+      sum_below-change n (λ j. g j (put_queue f (lock_queue i) v (lock_queue j))) (λ j. g j (f (lock_queue j))) i l
+          (λ j h. ap (g j) (put_lock_other f i v j h)),
+    )
 
 pub sum_below-put_chan : {A : Type 0} (n : ℕ) (g : A → ℕ) (f : QueueName → A) (i : ℕ) (v : A) → i < n
-    → sum_below n (λ j. g (put_queue f (chan_queue i) v (chan_queue j))) + g (f (chan_queue i)) ≡ sum_below n (λ j. g (f (chan_queue j))) + g v
+    → sum_below n (λ j. g (put_queue f (chan_queue i) v (chan_queue j))) + g (f (chan_queue i))
+    ≡ sum_below n (λ j. g (f (chan_queue j))) + g v
 sum_below-put_chan n g f i v l =
     let e : g (put_queue f (chan_queue i) v (chan_queue i)) ≡ g v = ap g (put_chan_same f i v) in
-    omega (arith, sum_below-change n (λ j. g (put_queue f (chan_queue i) v (chan_queue j))) (λ j. g (f (chan_queue j))) i l (λ j h. ap g (put_chan_other f i v j h)))
+    omega (
+      arith,
+      sum_below-change n (λ j. g (put_queue f (chan_queue i) v (chan_queue j))) (λ j. g (f (chan_queue j))) i l
+          (λ j h. ap g (put_chan_other f i v j h)),
+    )
 
 -- an entry is at most the sum
 pub sum_below-at : (n : ℕ) (f : ℕ → ℕ) (i : ℕ) → i < n → f i ≤ sum_below n f

@@ -35,7 +35,8 @@ module _ (c : Config) (s : State) (t l o x : ℕ) (g : MayLend c s t l o x) (h :
   owned : (is_turnstile (c.kind l) ≡ true) × (s.held o l ≡ Holds Excl)
   unfolding OwnersHold WordsMatchHolders
   owned =
-      let r = owner_from (is_turnstile (c.kind l)) (s.head q) (s.word l).holder o (sym (h.loans.owners_hold l) ∙ g.owned) in
+      let r = owner_from (is_turnstile (c.kind l)) (s.head q) (s.word l).holder o
+      (sym (h.loans.owners_hold l) ∙ g.owned) in
       (r.0, exclusive_is (s.held o l) ((h.words.words_match_holders l).owner o ∙ owner-owns o (s.word l).holder r.1))
 
   thread : o < c.threads
@@ -85,19 +86,25 @@ module _ (c : Config) (s : State) (t l o x : ℕ) (g : MayLend c s t l o x) (h :
   loans_on_heads u k y i =
       elim (cases_eq l k) [
         | inl j ↦ elim (cases_eq o u) [
-          | inl z ↦ rw (← j) (g.head ∙ ap Some (number_loan_of x (least_of (s.lists q)) y (sym (put_at_same s.loan o l new) ∙ ap (λ r. put_at s.loan o l new r l) z ∙ ap (put_at s.loan o l new u) j ∙ i)))
+          | inl z ↦
+              rw (← j) (g.head ∙ ap Some (number_loan_of x (least_of (s.lists q)) y (sym (put_at_same s.loan o l new)
+              ∙ ap (λ r. put_at s.loan o l new r l) z ∙ ap (put_at s.loan o l new u) j ∙ i)))
           | inr z ↦ h.loans.loans_are_on_heads u k y (sym (put_at_other s.loan o l new u k z) ∙ i)
         ]
         | inr j ↦ h.loans.loans_are_on_heads u k y (sym (put_at_beside s.loan o l new u k j) ∙ i)
       ]
 
   -- where the owner stands on a turnstile, its record names it
-  names : (k : ℕ) → is_turnstile (c.kind k) ≡ true → 1 ≤ stands o (s.lists (lock_queue k)) → names_turnstile c (s.blocked_on o) ≡ true
+  names : (k : ℕ) → is_turnstile (c.kind k) ≡ true → 1 ≤ stands o (s.lists (lock_queue k))
+      → names_turnstile c (s.blocked_on o) ≡ true
   unfolding StandsOnce
-  names k i p = let a = at_queue_one (lock_queue k) (s.blocked_on o) (omega (arith, h.waits.stands_once o (lock_queue k))) in rw a i
+  names k i p =
+      let a = at_queue_one (lock_queue k) (s.blocked_on o) (omega (arith, h.waits.stands_once o (lock_queue k))) in
+      rw a i
 
   -- the owner's entry keeps its effective priority, or a walk goes to the owner
-  still : (k : ℕ) → is_turnstile (c.kind k) ≡ true → (w : Waiter) → 1 ≤ stands w.thread (s.lists (lock_queue k)) → IsKept c s.walk s.effective w → IsKept c n.walk n.effective w
+  still : (k : ℕ) → is_turnstile (c.kind k) ≡ true → (w : Waiter) → 1 ≤ stands w.thread (s.lists (lock_queue k))
+      → IsKept c s.walk s.effective w → IsKept c n.walk n.effective w
   unfolding after_lend walkers_at_thread
   still k i w p kept none =
       let a = sum_below-put c.threads (at_thread w.thread) s.walk t (walk_to o goes) g.thread in
@@ -107,7 +114,8 @@ module _ (c : Config) (s : State) (t l o x : ℕ) (g : MayLend c s t l o x) (h :
 
   kept : KeptIsEffective c n.walk n.effective n.lists
   unfolding after_lend KeptIsEffective
-  kept k i = each_of-map (IsKept c s.walk s.effective) (IsKept c n.walk n.effective) (s.lists (lock_queue k)) (still k i) (h.loans.kept_is_effective k i)
+  kept k i = each_of-map (IsKept c s.walk s.effective) (IsKept c n.walk n.effective) (s.lists (lock_queue k))
+      (still k i) (h.loans.kept_is_effective k i)
 
   new_known : (y : Loan) → new ≡ Some y → IsKnown c s.history y.prio
   unfolding KeptIsKnown

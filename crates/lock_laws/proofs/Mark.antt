@@ -92,7 +92,8 @@ module _ (c : Config) (s : State) (t : ℕ) (m : Mark) (ms : List Mark) (g : May
 
   woken_uncalled : WokenIsUncalled n.wait n.called
   unfolding after_mark WokenIsUncalled StandingIsUncalled
-  woken_uncalled v = grind (arith, columns, h.waits.woken_is_uncalled v, h.waits.standing_is_uncalled u m.queue blocked_on)
+  woken_uncalled v =
+      grind (arith, columns, h.waits.woken_is_uncalled v, h.waits.standing_is_uncalled u m.queue blocked_on)
 
   called : FreeWordHasCalled c n.word n.marked n.wait n.called
   unfolding after_mark FreeWordHasCalled callers StandingIsQueued
@@ -105,4 +106,17 @@ module _ (c : Config) (s : State) (t : ℕ) (m : Mark) (ms : List Mark) (g : May
 
   pub lawful : Lawful c n
   unfolding after_mark
-  lawful = assumption (one_turnstile, one_sleep_queue, turnstile_lent, sleep_queue_lent, stand, threads_stand, standing_queued, standing_wants, woken_wants, standing_uncalled, woken_uncalled, called)
+  lawful = assumption (
+    one_turnstile,
+    one_sleep_queue,
+    turnstile_lent,
+    sleep_queue_lent,
+    stand,
+    threads_stand,
+    standing_queued,
+    standing_wants,
+    woken_wants,
+    standing_uncalled,
+    woken_uncalled,
+    called,
+  )

@@ -18,7 +18,8 @@ out_of true n = None
 out_of false n = Some n
 
 -- the node of a turnstile with an owner carries the owner's loan for the lock, or is at home
-pub node_carries : (c : Config) (s : State) (l o h : ℕ) → Lawful c s → l < c.locks → is_turnstile (c.kind l) ≡ true → s.head (lock_queue l) ≡ Some h → s.owner (lock_queue l) ≡ Some o
+pub node_carries : (c : Config) (s : State) (l o h : ℕ) → Lawful c s → l < c.locks → is_turnstile (c.kind l) ≡ true
+    → s.head (lock_queue l) ≡ Some h → s.owner (lock_queue l) ≡ Some o
     → number_of (s.loan o l) ≡ out_of (s.loan_home h) h
 unfolding LoansAreOnHeads
 node_carries c s l o h lawful lt k e w = go (s.loan o l) refl
@@ -31,7 +32,8 @@ node_carries c s l o h lawful lt k e w = go (s.loan o l) refl
         ap Some n ∙ sym (ap (λ b. out_of b h) away)
 
 -- the nodes of other locks' heads have other numbers
-pub other_head : (c : Config) (s : State) (l k h x : ℕ) → Lawful c s → is_turnstile (c.kind l) ≡ true → is_turnstile (c.kind k) ≡ true → k ≢ l
+pub other_head : (c : Config) (s : State) (l k h x : ℕ) → Lawful c s → is_turnstile (c.kind l) ≡ true
+    → is_turnstile (c.kind k) ≡ true → k ≢ l
     → s.head (lock_queue l) ≡ Some h → s.head (lock_queue k) ≡ Some x → h ≢ x
 other_head c s l k h x lawful lk kk n e f i =
     let g : s.head (lock_queue k) ≡ Some h = f ∙ ap Some (sym i) in

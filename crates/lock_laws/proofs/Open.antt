@@ -120,7 +120,8 @@ module _ (c : Config) (s : State) (t l : ℕ) (mode : Mode) (g : MayOpen c s t l
   pub lawful : Lawful c n
   unfolding after_open
   lawful = assumption (
-    by_signal (whole_side g.releases h) h g.releases.unmarked (put_queue s.owner q None) (put_queue_other s.owner q None)
+    by_signal (whole_side g.releases h) h g.releases.unmarked (put_queue s.owner q None)
+        (put_queue_other s.owner q None)
         (λ e. put_lock_same s.owner l None),
     opened_lock g.releases h,
     nodes,

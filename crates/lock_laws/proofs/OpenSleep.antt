@@ -9,7 +9,8 @@ module _ (c : Config) (s : State) (t l : ℕ) (mode : Mode) (g : MayOpenSleep c 
   pub lawful : Lawful c (after_open_sleep c s t l)
   unfolding after_open_sleep
   lawful = assumption (
-    by_signal (whole_side g.releases h) h g.releases.unmarked s.owner (λ r e. refl) (λ e. unowned h (lock_queue l) g.sleeps),
+    by_signal (whole_side g.releases h) h g.releases.unmarked s.owner (λ r e. refl)
+        (λ e. unowned h (lock_queue l) g.sleeps),
     opened_lock g.releases h,
     loans_stay h (lock_queue l) g.sleeps (lists_left c s l) (head_left c s l) _
         (sx_word c s.word l (opened (c.kind l) (s.word l)) g.sleeps),

@@ -13,7 +13,9 @@ unfolding sections_in
 own_sections c [] t l = refl
 own_sections c (e ∷ es) t l = go (own_sections c es t l) (eqb e.thread.0 t) refl
   where
-    go : sections_in c es t l ≡ sections_in c (entries_of es t) t l → (b : Bool) → eqb e.thread.0 t ≡ b → cond b (sections_by c e.event l (sections_in c es t l)) (sections_in c es t l) ≡ sections_in c (cond b (e ∷ entries_of es t) (entries_of es t)) t l
+    go : sections_in c es t l ≡ sections_in c (entries_of es t) t l → (b : Bool) → eqb e.thread.0 t ≡ b
+        → cond b (sections_by c e.event l (sections_in c es t l)) (sections_in c es t l)
+        ≡ sections_in c (cond b (e ∷ entries_of es t) (entries_of es t)) t l
     go h true x = rw x (ap (sections_by c e.event l) h)
     go h false x = h
 
@@ -25,7 +27,8 @@ own_section c es t l = ap (λ x. x.now) (own_sections c es t l)
 same_base : (e : Event) (t : ℕ) (base : ℕ → ℕ) → changes_base e ≡ false → base_after e t base ≡ base
 same_base e t base x = grind arith
 
-same_effective : (c : Config) (e : Event) (t : ℕ) (loan : ℕ → ℕ → Option Loan) (effective : ℕ → ℕ) → changes_base e ≡ false → effective_after c e t loan effective ≡ effective
+same_effective : (c : Config) (e : Event) (t : ℕ) (loan : ℕ → ℕ → Option Loan) (effective : ℕ → ℕ)
+    → changes_base e ≡ false → effective_after c e t loan effective ≡ effective
 same_effective c (Base p) t loan effective x = absurd cc
 same_effective c other t loan effective x = refl
 
@@ -47,13 +50,16 @@ module _ (c : Config) (s : State) (t : ℕ) (e : Event) where
   unfolding after_stamp
   tables_stay x = same_table e s.table x
 
-  pub sections_stay : (u l : ℕ) → changes_sections e ≡ false → sections_in c (after_stamp c s t e).history u l ≡ sections_in c s.history u l
+  pub sections_stay : (u l : ℕ) → changes_sections e ≡ false
+      → sections_in c (after_stamp c s t e).history u l ≡ sections_in c s.history u l
   unfolding after_stamp sections_in
   sections_stay u l x = grind arith
 
 -- 3. Sections of others
 
 -- an entry leaves the sections of each other thread
-pub other_sections : (c : Config) (s : State) (t : ℕ) (e : Event) (u l : ℕ) → (t ≡ u → ⊥) → sections_in c (after_stamp c s t e).history u l ≡ sections_in c s.history u l
+pub other_sections : (c : Config) (s : State) (t : ℕ) (e : Event) (u l : ℕ) → (t ≡ u → ⊥)
+    → sections_in c (after_stamp c s t e).history u l ≡ sections_in c s.history u l
 unfolding after_stamp sections_in
-other_sections c s t e u l n = ap (λ b. cond b (sections_by c e l (sections_in c s.history u l)) (sections_in c s.history u l)) (ne_eqb t u n)
+other_sections c s t e u l n =
+    ap (λ b. cond b (sections_by c e l (sections_in c s.history u l)) (sections_in c s.history u l)) (ne_eqb t u n)

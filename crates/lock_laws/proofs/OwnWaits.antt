@@ -20,10 +20,14 @@ calls_none : (k : ℕ) (w : Wait) → is_woken w ≡ false → calls_woken k w �
 calls_none k w e = grind arith
 
 -- a thread that isn't woken gets another wait word
-module _ (c : Config) (s : State) (t : ℕ) (v : Wait) (thread : t < c.threads) (was : is_woken (s.wait t) ≡ false) (is : is_woken v ≡ false) (stands : (q : QueueName) → s.blocked_on t ≡ Some q → v ≡ Queued) (h : Lawful c s) where
+module _ (c : Config) (s : State) (t : ℕ) (v : Wait) (thread : t < c.threads) (was : is_woken (s.wait t) ≡ false)
+    (is : is_woken v ≡ false) (stands : (q : QueueName) → s.blocked_on t ≡ Some q → v ≡ Queued) (h : Lawful c s) where
   queued : StandingIsQueued s.blocked_on (put s.wait t v)
   unfolding StandingIsQueued
-  queued u q e = elim (cases_eq t u) [ inl i ↦ rw (← i, put_same s.wait t v) (stands q (ap s.blocked_on i ∙ e)) | inr i ↦ rw (put_other s.wait t v u i) (h.waits.standing_is_queued u q e) ]
+  queued u q e = elim (cases_eq t u) [
+    | inl i ↦ rw (← i, put_same s.wait t v) (stands q (ap s.blocked_on i ∙ e))
+    | inr i ↦ rw (put_other s.wait t v u i) (h.waits.standing_is_queued u q e)
+  ]
 
   woken_wants : WokenWants (put s.wait t v) s.wanted
   unfolding WokenWants
@@ -50,4 +54,5 @@ ready_lawful c s t g h = waits_lawful c s t Queued g.thread (ap is_woken g.runni
 
 pub unready_lawful : (c : Config) (s : State) (t : ℕ) → MayUnready c s t → Lawful c s → Lawful c (after_unready s t)
 unfolding after_unready
-unready_lawful c s t g h = waits_lawful c s t Running g.thread (ap is_woken g.queued) refl (λ q e. absurd (let z : None ≡ Some q = sym g.unnamed ∙ e in cc)) h
+unready_lawful c s t g h = waits_lawful c s t Running g.thread (ap is_woken g.queued) refl
+    (λ q e. absurd (let z : None ≡ Some q = sym g.unnamed ∙ e in cc)) h

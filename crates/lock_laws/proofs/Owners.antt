@@ -7,8 +7,10 @@ use Rattle.std.proofs.Common.{◌≡◌}
 use Rattle.lock_laws.proofs.Kit.{put_same, put_other, put_lock_same, put_lock_other}
 
 -- a plain gain changes no owner
-pub owner_gained : (kind : Kind) (w : Word) (q : Lists) (xs : List ℕ) (h o : Option ℕ) (t : ℕ) (mode : Mode) → admits kind w mode ≡ true → is_plain kind w mode ≡ true
-    → ShowsItsWaiters w q → HeadFits q xs h o → owner_if (is_turnstile kind) h w.holder ≡ owner_if (is_turnstile kind) h (gained w t mode).holder
+pub owner_gained : (kind : Kind) (w : Word) (q : Lists) (xs : List ℕ) (h o : Option ℕ) (t : ℕ) (mode : Mode)
+    → admits kind w mode ≡ true → is_plain kind w mode ≡ true
+    → ShowsItsWaiters w q → HeadFits q xs h o
+    → owner_if (is_turnstile kind) h w.holder ≡ owner_if (is_turnstile kind) h (gained w t mode).holder
 owner_gained kind w q xs h o t mode a p s f = grind arith
 
 -- nor does a drop
@@ -24,5 +26,6 @@ unfolding OwnersHold
 owners_put {s} h l owner head w here k =
     elim (cases_eq l k) [
       | inl e ↦ rw (← e) (simp (put_same, put_lock_same) here)
-      | inr e ↦ rw (put_other s.word l w k e, put_lock_other s.head l head k e, put_lock_other s.owner l owner k e) (h.loans.owners_hold k)
+      | inr e ↦ rw (put_other s.word l w k e, put_lock_other s.head l head k e, put_lock_other s.owner l owner k e)
+          (h.loans.owners_hold k)
     ]

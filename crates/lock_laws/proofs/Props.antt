@@ -71,5 +71,10 @@ shown c (e ∷ es) = hlevel (IsShown-prop c e.event es e.thread.0, shown c es)
 -- 3. All facts
 
 pub Lawful-prop : (c : Config) (s : State) → IsProp (Lawful c s)
-unfolding OneTurnstileEach OneSleepQueueEach OneNodeEach TurnstileIsLent SleepQueueIsLent HeadsFitWaiters BitsShowWaiters ListsAscend MutexWaitersAreExclusive StandsOnce OnlyThreadsStand StandingIsQueued StandingWants WokenWants CalledWants StandingIsUncalled WokenIsUncalled FreeWordHasCalled FreeMutexShowsNone WordsMatchHolders OnlyThreadsHold HeldAreListed EffectiveIsLeast OwnersHold ChannelsHaveNoOwner LoansAreLeast LoansAreWithOwners LoansAreOnHeads KeptIsEffective EffectiveIsKnown LoansAreKnown KeptIsKnown NextIsNew LogsAreParts TablesReplay BasesReplay SectionsAreHeld OutIsNarrow
+unfolding OneTurnstileEach OneSleepQueueEach OneNodeEach TurnstileIsLent SleepQueueIsLent HeadsFitWaiters
+    BitsShowWaiters ListsAscend MutexWaitersAreExclusive StandsOnce OnlyThreadsStand StandingIsQueued StandingWants
+    WokenWants CalledWants StandingIsUncalled WokenIsUncalled FreeWordHasCalled FreeMutexShowsNone WordsMatchHolders
+    OnlyThreadsHold HeldAreListed EffectiveIsLeast OwnersHold ChannelsHaveNoOwner LoansAreLeast LoansAreWithOwners
+    LoansAreOnHeads KeptIsEffective EffectiveIsKnown LoansAreKnown KeptIsKnown NextIsNew LogsAreParts TablesReplay
+    BasesReplay SectionsAreHeld OutIsNarrow
 Lawful-prop c s = hlevel (props, Ascends-prop, Each-prop, tickets, sections, edits, reads, shown)

@@ -8,10 +8,12 @@ use Rattle.std.proofs.Common.{◌≡◌, ◌+◌, ◌≤◌, ◌∙◌}
 use Rattle.lock_laws.proofs.Kit.{columns, put_same, put_other, sum_below-put}
 
 -- a thread that its wait word calls for a lock is called by its share after the resume
-called_still : (k : ℕ) (q : QueueName) (cause : Cause) (o : Option ℕ) → o ≡ None → calls_woken k (Woken q cause) + at_option k o ≤ at_option k (called_after q cause o)
+called_still : (k : ℕ) (q : QueueName) (cause : Cause) (o : Option ℕ) → o ≡ None
+    → calls_woken k (Woken q cause) + at_option k o ≤ at_option k (called_after q cause o)
 called_still k q cause o e = grind arith
 
-module _ (c : Config) (s : State) (t : ℕ) (q : QueueName) (cause : Cause) (g : MayResume c s t q cause) (h : Lawful c s) where
+module _ (c : Config) (s : State) (t : ℕ) (q : QueueName) (cause : Cause) (g : MayResume c s t q cause)
+    (h : Lawful c s) where
   abbrev n : State
   n = after_resume c s t q cause
 
@@ -36,14 +38,16 @@ module _ (c : Config) (s : State) (t : ℕ) (q : QueueName) (cause : Cause) (g :
   standing_wants u k e =
       elim (cases_eq t u) [
         | inl i ↦ absurd (unnamed _ (ap s.blocked_on i ∙ e))
-        | inr i ↦ rw (put_other s.wanted t (wanted_after c q cause (is_taking_back (s.log t)) (s.wanted t)) u i) (h.waits.standing_wants u k e)
+        | inr i ↦ rw (put_other s.wanted t (wanted_after c q cause (is_taking_back (s.log t)) (s.wanted t)) u i)
+            (h.waits.standing_wants u k e)
       ]
 
   woken_wants : WokenWants n.wait n.wanted
   unfolding after_resume WokenWants
   woken_wants u k = grind (arith, columns, h.waits.woken_wants u k)
 
-  by_cause : (k : ℕ) (r : QueueName) (a : Cause) → s.wait t ≡ Woken r a → called_after r a (s.called t) ≡ Some k → wanted_after c r a (is_taking_back (s.log t)) (s.wanted t) ≡ Some k
+  by_cause : (k : ℕ) (r : QueueName) (a : Cause) → s.wait t ≡ Woken r a → called_after r a (s.called t) ≡ Some k
+      → wanted_after c r a (is_taking_back (s.log t)) (s.wanted t) ≡ Some k
   unfolding WokenWants
   by_cause k (Lock l) BySignal e f = h.waits.woken_wants t l.0 e ∙ f
   by_cause k (Lock l) ByAbort e f = absurd (let z : None ≡ Some k = sym uncalled ∙ f in cc)
@@ -54,8 +58,11 @@ module _ (c : Config) (s : State) (t : ℕ) (q : QueueName) (cause : Cause) (g :
   unfolding after_resume CalledWants
   called_wants u k e =
       elim (cases_eq t u) [
-        | inl i ↦ rw (← i, put_same s.wanted t (wanted_after c q cause (is_taking_back (s.log t)) (s.wanted t))) (by_cause k q cause g.woken (sym (put_same s.called t (called_after q cause (s.called t))) ∙ ap (put s.called t (called_after q cause (s.called t))) i ∙ e))
-        | inr i ↦ rw (put_other s.wanted t (wanted_after c q cause (is_taking_back (s.log t)) (s.wanted t)) u i) (h.waits.called_wants u k (sym (put_other s.called t (called_after q cause (s.called t)) u i) ∙ e))
+        | inl i ↦ rw (← i, put_same s.wanted t (wanted_after c q cause (is_taking_back (s.log t)) (s.wanted t)))
+            (by_cause k q cause g.woken (sym (put_same s.called t (called_after q cause (s.called t)))
+            ∙ ap (put s.called t (called_after q cause (s.called t))) i ∙ e))
+        | inr i ↦ rw (put_other s.wanted t (wanted_after c q cause (is_taking_back (s.log t)) (s.wanted t)) u i)
+            (h.waits.called_wants u k (sym (put_other s.called t (called_after q cause (s.called t)) u i) ∙ e))
       ]
 
   standing_uncalled : StandingIsUncalled n.blocked_on n.called
@@ -81,4 +88,5 @@ module _ (c : Config) (s : State) (t : ℕ) (q : QueueName) (cause : Cause) (g :
 
   pub lawful : Lawful c n
   unfolding after_resume
-  lawful = assumption (standing_queued, standing_wants, woken_wants, called_wants, standing_uncalled, woken_uncalled, called)
+  lawful =
+      assumption (standing_queued, standing_wants, woken_wants, called_wants, standing_uncalled, woken_uncalled, called)

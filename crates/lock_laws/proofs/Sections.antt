@@ -17,7 +17,8 @@ module _ (c : Config) (s : State) (h : Lawful c s) where
       absurd (omega arith)
 
   -- a section may begin where the lock is held in its mode and the thread has none open
-  pub alone : (t l : ℕ) (mode : Mode) → s.held t l ≡ Holds mode → open_in c s.history t l ≡ NotHeld → IsAlone c s.history l mode
+  pub alone : (t l : ℕ) (mode : Mode) → s.held t l ≡ Holds mode → open_in c s.history t l ≡ NotHeld
+      → IsAlone c s.history l mode
   unfolding SectionsAreHeld
   alone t l Shared e f = λ u x.
       let a = apart u t l Shared (h.books.sections_are_held u l Excl x) e in
@@ -33,11 +34,13 @@ module _ (c : Config) (s : State) (h : Lawful c s) where
           absurd (let z : NotHeld ≡ Holds m = sym f ∙ b in cc)
 
   -- what an event needs where it begins a section
-  pub begins_held : (t : ℕ) (e : Event) → Asks c s t e → (l : ℕ) (mode : Mode) → begun_by c e (left_in c s.history t l) l ≡ Holds mode → (s.held t l ≡ Holds mode) × (open_in c s.history t l ≡ NotHeld)
+  pub begins_held : (t : ℕ) (e : Event) → Asks c s t e → (l : ℕ) (mode : Mode) → begun_by c e
+      (left_in c s.history t l) l ≡ Holds mode → (s.held t l ≡ Holds mode) × (open_in c s.history t l ≡ NotHeld)
   begins_held t e a l mode f = grind arith
 
   -- the section that is open after an event is of a lock that is held
-  pub sections_held : (t : ℕ) (e : Event) → Asks c s t e → (l : ℕ) (mode : Mode) → (sections_by c e l (sections_in c s.history t l)).now ≡ Holds mode → s.held t l ≡ Holds mode
+  pub sections_held : (t : ℕ) (e : Event) → Asks c s t e → (l : ℕ) (mode : Mode)
+      → (sections_by c e l (sections_in c s.history t l)).now ≡ Holds mode → s.held t l ≡ Holds mode
   unfolding SectionsAreHeld
   sections_held t e a l mode x = grind arith
 

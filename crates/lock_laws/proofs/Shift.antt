@@ -12,7 +12,8 @@ use Rattle.lock_laws.proofs.OneQueue.{stand_put}
 use Rattle.lock_laws.proofs.Lending.{walk_up-there, each_of-map, each_of-kept, stands-kept, waiting-kept, is_empty-reinsert}
 
 head_fits : (t p : ℕ) (q : Lists) (xs : List ℕ) (h o : Option ℕ) → HeadFits q xs h o → HeadFits (with_kept t p q) xs h o
-head_fits t p q xs h o f = record { balanced = f.balanced ∙ sym (waiting-kept t p q); no_free = f.no_free; no_owner = f.no_owner }
+head_fits t p q xs h o f =
+    record { balanced = f.balanced ∙ sym (waiting-kept t p q); no_free = f.no_free; no_owner = f.no_owner }
 
 module _ (c : Config) (s : State) (t o l : ℕ) (g : MayShift c s t o l) (h : Lawful c s) where
   abbrev n : State
@@ -77,7 +78,10 @@ module _ (c : Config) (s : State) (t o l : ℕ) (g : MayShift c s t o l) (h : La
 
   elsewhere : (k : ℕ) → (l ≡ k → ⊥) → stands o (s.lists (lock_queue k)) ≡ 0
   unfolding StandsOnce
-  elsewhere k ne = let a = ap (at_queue (lock_queue k)) g.blocked_on in let b : one (eqb k l) ≡ 0 = ap one (ne_eqb k l (λ j. ne (sym j))) in omega (arith, h.waits.stands_once o (lock_queue k))
+  elsewhere k ne =
+      let a = ap (at_queue (lock_queue k)) g.blocked_on in
+      let b : one (eqb k l) ≡ 0 = ap one (ne_eqb k l (λ j. ne (sym j))) in
+      omega (arith, h.waits.stands_once o (lock_queue k))
 
   kept : KeptIsEffective c n.walk n.effective n.lists
   unfolding after_shift KeptIsEffective
@@ -85,15 +89,20 @@ module _ (c : Config) (s : State) (t o l : ℕ) (g : MayShift c s t o l) (h : La
       let P : Waiter → Type 0 = IsKept c s.walk s.effective in
       let Q : Waiter → Type 0 = IsKept c n.walk s.effective in
       at_put_lock (λ k r. is_turnstile (c.kind k) ≡ true → EachOf Q r) s.lists l lists
-      (λ i. each_of-kept Q o (s.effective o) (s.lists q) once (λ e. refl) (each_of-map P (λ w. w.thread ≢ o → Q w) (s.lists q) (λ w k p ne. still w ne p) (h.loans.kept_is_effective l i)))
-      (λ k ne i. each_of-map P Q (s.lists (lock_queue k)) (λ w j p. still w (λ x. let y : stands w.thread (s.lists (lock_queue k)) ≡ stands o (s.lists (lock_queue k)) = ap (λ r. stands r (s.lists (lock_queue k))) x in absurd (omega (arith, elsewhere k ne))) p) (h.loans.kept_is_effective k i))
+      (λ i. each_of-kept Q o (s.effective o) (s.lists q) once (λ e. refl)
+      (each_of-map P (λ w. w.thread ≢ o → Q w) (s.lists q) (λ w k p ne. still w ne p) (h.loans.kept_is_effective l i)))
+      (λ k ne i. each_of-map P Q (s.lists (lock_queue k)) (λ w j p. still w (λ x. let y : stands w.thread
+      (s.lists (lock_queue k)) ≡ stands o (s.lists (lock_queue k)) = ap (λ r. stands r (s.lists (lock_queue k))) x in
+      absurd (omega (arith, elsewhere k ne))) p) (h.loans.kept_is_effective k i))
 
   kept_known : KeptIsKnown c n.lists n.history
   unfolding after_shift KeptIsKnown EffectiveIsKnown OnlyThreadsStand
   kept_known =
       let P : Waiter → Type 0 = λ w. IsKnown c s.history w.kept in
       at_put_lock (λ k r. is_turnstile (c.kind k) ≡ true → EachOf P r) s.lists l lists
-      (λ i. each_of-kept P o (s.effective o) (s.lists q) once (h.loans.effective_is_known o (h.waits.only_threads_stand o q g.blocked_on)) (each_of-map P (λ w. w.thread ≢ o → P w) (s.lists q) (λ w k p ne. p) (h.loans.kept_is_known l i)))
+      (λ i. each_of-kept P o (s.effective o) (s.lists q) once
+      (h.loans.effective_is_known o (h.waits.only_threads_stand o q g.blocked_on))
+      (each_of-map P (λ w. w.thread ≢ o → P w) (s.lists q) (λ w k p ne. p) (h.loans.kept_is_known l i)))
       (λ k ne. h.loans.kept_is_known k)
 
   pub lawful : Lawful c n
@@ -110,7 +119,8 @@ module _ (c : Config) (s : State) (t : ℕ) (g : MayEndWalk c s t) (h : Lawful c
   unfolding after_end_walk LoansAreLeast walkers_at_lock
   end_loans_least l u e w = go (s.walk t) refl g.there
     where
-      a : sum_below c.threads (λ j. at_lock l (m.walk j)) + at_lock l (s.walk t) ≡ sum_below c.threads (λ j. at_lock l (s.walk j)) + 0
+      a : sum_below c.threads (λ j. at_lock l (m.walk j)) + at_lock l (s.walk t)
+          ≡ sum_below c.threads (λ j. at_lock l (s.walk j)) + 0
       a = sum_below-put c.threads (at_lock l) s.walk t NoWalk g.thread
 
       go : (x : Walk) → s.walk t ≡ x → IsAtEnd c s x → prio_of (s.loan u l) ≡ least_of (s.lists (lock_queue l))
@@ -119,15 +129,18 @@ module _ (c : Config) (s : State) (t : ℕ) (g : MayEndWalk c s t) (h : Lawful c
           let b = ap (at_lock l) y in
           elim (cases_eq l k) [
             | inl i ↦ absurd (let f : None ≡ Some u = sym z ∙ ap (λ j. s.owner (lock_queue j)) (sym i) ∙ e in cc)
-            | inr i ↦ let f : one (eqb l k) ≡ 0 = ap one (ne_eqb l k i) in h.loans.loans_are_least l u e (omega (arith, a))
+            | inr i ↦ let f : one (eqb l k) ≡ 0 = ap one (ne_eqb l k i) in
+                h.loans.loans_are_least l u e (omega (arith, a))
           ]
       go (AtThread o) y z = let b = ap (at_lock l) y in h.loans.loans_are_least l u e (omega (arith, a))
 
-  end_still : (l : ℕ) → is_turnstile (c.kind l) ≡ true → (w : Waiter) → 1 ≤ stands w.thread (s.lists (lock_queue l)) → IsKept c s.walk s.effective w → IsKept c m.walk s.effective w
+  end_still : (l : ℕ) → is_turnstile (c.kind l) ≡ true → (w : Waiter) → 1 ≤ stands w.thread (s.lists (lock_queue l))
+      → IsKept c s.walk s.effective w → IsKept c m.walk s.effective w
   unfolding after_end_walk walkers_at_thread StandsOnce
   end_still l i w p kept none = go (s.walk t) refl g.there
     where
-      a : sum_below c.threads (λ j. at_thread w.thread (m.walk j)) + at_thread w.thread (s.walk t) ≡ sum_below c.threads (λ j. at_thread w.thread (s.walk j)) + 0
+      a : sum_below c.threads (λ j. at_thread w.thread (m.walk j)) + at_thread w.thread (s.walk t)
+          ≡ sum_below c.threads (λ j. at_thread w.thread (s.walk j)) + 0
       a = sum_below-put c.threads (at_thread w.thread) s.walk t NoWalk g.thread
 
       go : (x : Walk) → s.walk t ≡ x → IsAtEnd c s x → w.kept ≡ s.effective w.thread
@@ -137,7 +150,8 @@ module _ (c : Config) (s : State) (t : ℕ) (g : MayEndWalk c s t) (h : Lawful c
           let b = ap (at_thread w.thread) y in
           elim (cases_eq w.thread o) [
             | inl j ↦
-                let d = at_queue_one (lock_queue l) (s.blocked_on w.thread) (omega (arith, h.waits.stands_once w.thread (lock_queue l))) in
+                let d = at_queue_one (lock_queue l) (s.blocked_on w.thread)
+                (omega (arith, h.waits.stands_once w.thread (lock_queue l))) in
                 let f = z l i (ap s.blocked_on (sym j) ∙ d) in
                 let r = ap (λ v. stands v (s.lists (lock_queue l))) j in
                 absurd (omega arith)
@@ -146,7 +160,8 @@ module _ (c : Config) (s : State) (t : ℕ) (g : MayEndWalk c s t) (h : Lawful c
 
   end_kept : KeptIsEffective c m.walk m.effective m.lists
   unfolding after_end_walk KeptIsEffective
-  end_kept l i = each_of-map (IsKept c s.walk s.effective) (IsKept c m.walk s.effective) (s.lists (lock_queue l)) (end_still l i) (h.loans.kept_is_effective l i)
+  end_kept l i = each_of-map (IsKept c s.walk s.effective) (IsKept c m.walk s.effective) (s.lists (lock_queue l))
+      (end_still l i) (h.loans.kept_is_effective l i)
 
   pub end_lawful : Lawful c m
   unfolding after_end_walk

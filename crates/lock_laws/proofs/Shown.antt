@@ -30,14 +30,16 @@ or_right true b e = refl
 or_right false b e = e
 
 pub still_known : (c : Config) (es : List Entry) (e : Entry) (p : ℕ) → IsKnown c es p → IsKnown c (e ∷ es) p
-still_known c es e p k = go (any_below c.threads (λ t. eqb (c.declared_base t) p)) (sets_base e.event p) (has_base es p) k
+still_known c es e p k =
+    go (any_below c.threads (λ t. eqb (c.declared_base t) p)) (sets_base e.event p) (has_base es p) k
   where
     go : (a b d : Bool) → (a || d) ≡ true → (a || (b || d)) ≡ true
     go true b d x = refl
     go false b d x = or_right b d x
 
 pub base_known : (c : Config) (es : List Entry) (t : ℕ) → t < c.threads → IsKnown c es (base_in c es t)
-base_known c [] t lt = rw (true-any_below c.threads (λ u. eqb (c.declared_base u) (c.declared_base t)) t lt (eq-eqb (c.declared_base t) (c.declared_base t) refl)) refl
+base_known c [] t lt = rw (true-any_below c.threads (λ u. eqb (c.declared_base u) (c.declared_base t)) t lt
+    (eq-eqb (c.declared_base t) (c.declared_base t) refl)) refl
 base_known c (e ∷ es) t lt =
     elim (eqb e.thread.0 t) as (λ b. IsKnown c (e ∷ es) (cond b (base_by e.event (base_in c es t)) (base_in c es t))) [
       | true ↦ go (base_known c es t lt) e.event refl
@@ -49,7 +51,8 @@ base_known c (e ∷ es) t lt =
 
 -- 3. What a thread shows
 
-pub owner_from : (turnstile : Bool) (x : Option ℕ) (y : Holder) (t : ℕ) → owner_if turnstile x y ≡ Some t → (turnstile ≡ true) × (owner_of y ≡ Some t)
+pub owner_from : (turnstile : Bool) (x : Option ℕ) (y : Holder) (t : ℕ) → owner_if turnstile x y ≡ Some t
+    → (turnstile ≡ true) × (owner_of y ≡ Some t)
 owner_from turnstile x y t e = grind arith
 
 pub exclusive_is : (x : Hold) → is_exclusive x ≡ true → x ≡ Holds Excl
@@ -60,7 +63,8 @@ owner-owns t x e = grind arith
 
 module _ (c : Config) (s : State) (h : Lawful c s) where
   -- a thread with a loan holds the lock exclusively, and the lock is a mutex or an rw lock
-  pub lent_held : (t l : ℕ) (x : Loan) → s.loan t l ≡ Some x → (is_turnstile (c.kind l) ≡ true) × (s.held t l ≡ Holds Excl)
+  pub lent_held : (t l : ℕ) (x : Loan) → s.loan t l ≡ Some x
+      → (is_turnstile (c.kind l) ≡ true) × (s.held t l ≡ Holds Excl)
   unfolding LoansAreWithOwners OwnersHold WordsMatchHolders
   lent_held t l x e =
       let o = sym (h.loans.owners_hold l) ∙ h.loans.loans_are_with_owners t l x e in
@@ -68,7 +72,8 @@ module _ (c : Config) (s : State) (h : Lawful c s) where
       (r.0, exclusive_is (s.held t l) ((h.words.words_match_holders l).owner t ∙ owner-owns t (s.word l).holder r.1))
 
   -- an effective priority below the base is lent
-  lent_owns : (t : ℕ) → ((l : ℕ) (mode : Mode) → s.held t l ≡ Holds mode → open_in c s.history t l ≡ Holds mode) → s.effective t < s.base t → owns_in c s.history t ≡ true
+  lent_owns : (t : ℕ) → ((l : ℕ) (mode : Mode) → s.held t l ≡ Holds mode → open_in c s.history t l ≡ Holds mode)
+      → s.effective t < s.base t → owns_in c s.history t ≡ true
   unfolding EffectiveIsLeast
   lent_owns t k lt =
       by_least (λ p. p < s.base t → owns_in c s.history t ≡ true) c.locks (λ l. prio_of (s.loan t l)) (s.base t)
@@ -76,17 +81,24 @@ module _ (c : Config) (s : State) (h : Lawful c s) where
       (λ l p m e q. go l m (s.loan t l) refl e)
       (let e = h.loans.effective_is_least t in omega arith)
     where
-      go : (l : ℕ) → l < c.locks → (o : Option Loan) → s.loan t l ≡ o → {p : ℕ} → prio_of o ≡ Some p → owns_in c s.history t ≡ true
+      go : (l : ℕ) → l < c.locks → (o : Option Loan) → s.loan t l ≡ o → {p : ℕ} → prio_of o ≡ Some p
+          → owns_in c s.history t ≡ true
       go l m None x e = absurd cc
       go l m (Some y) x e =
           let r = lent_held t l y x in
-          true-any_below c.locks (λ i. is_turnstile (c.kind i) && is_exclusive (open_in c s.history t i)) l m (rw (r.0, k l Excl r.1) refl)
+          true-any_below c.locks (λ i. is_turnstile (c.kind i) && is_exclusive (open_in c s.history t i)) l m
+          (rw (r.0, k l Excl r.1) refl)
 
   pub asks_shown : (t : ℕ) → t < c.threads → (e : Event) → Asks c s t e → IsShown c e s.history t
   unfolding BasesReplay EffectiveIsLeast EffectiveIsKnown
   asks_shown t lt (Shown base effective) a = record {
     its_base = a.its_base ∙ h.books.bases_replay t;
-    no_worse = let x = least-le_base c.locks (λ l. prio_of (s.loan t l)) (s.base t) in let y = h.loans.effective_is_least t in let z = a.its_base in let w = a.its_effective in omega arith;
+    no_worse =
+        let x = least-le_base c.locks (λ l. prio_of (s.loan t l)) (s.base t) in
+        let y = h.loans.effective_is_least t in
+        let z = a.its_base in
+        let w = a.its_effective in
+        omega arith;
     owns = λ q. lent_owns t a.sections (let z = a.its_base in let w = a.its_effective in omega arith);
     lent = λ q. subst (IsKnown c s.history) (sym a.its_effective) (h.loans.effective_is_known t lt);
   }

@@ -64,7 +64,8 @@ marks_kept c s (Opens t l mode) g h = marks_put c s h t _ (signals_fit c _ (all_
 marks_kept c s (OpensSleepQueue t l mode) g h = marks_put c s h t _ (signals_fit c _ (all_signals-dealt _ _ _ _))
 marks_kept c s (Wakes t d all) g h = marks_put c s h t _ (signals_fit c _ (all_signals-dealt _ _ _ _))
 marks_kept c s (Marks t m ms) g h = marks_put c s h t ms (first_fits c s h t m ms g.marked).1
-marks_kept c s (Aborts t q side u) g h = marks_put c s h t _ (aborted_fit c q g.sleeps (sleeper s u ∷ []) (s.free_list q) (s.head q))
+marks_kept c s (Aborts t q side u) g h =
+    marks_put c s h t _ (aborted_fit c q g.sleeps (sleeper s u ∷ []) (s.free_list q) (s.head q))
 marks_kept c s other g h = h
 
 -- 2. Threads that were woken

@@ -44,7 +44,8 @@ module _ (c : Config) (s : State) (t : ℕ) (e : Event) (g : MayStamp c s t e) (
   kept = go e
     where
       go : (x : Event) → KeptIsEffective c s.walk (effective_after c x t s.loan s.effective) s.lists
-      go (Base p) = λ l k. each_of-elsewhere c s.walk s.effective t _ (s.lists (lock_queue l)) (nowhere l) (h.loans.kept_is_effective l k)
+      go (Base p) = λ l k. each_of-elsewhere c s.walk s.effective t _ (s.lists (lock_queue l)) (nowhere l)
+          (h.loans.kept_is_effective l k)
       go other = h.loans.kept_is_effective
 
   -- 2. Known priorities
@@ -55,11 +56,13 @@ module _ (c : Config) (s : State) (t : ℕ) (e : Event) (g : MayStamp c s t e) (
 
   kept_known : KeptIsKnown c n.lists n.history
   unfolding after_stamp KeptIsKnown
-  kept_known l k = each_of-map (λ w. IsKnown c s.history w.kept) (λ w. IsKnown c (entry ∷ s.history) w.kept) (s.lists (lock_queue l)) (λ w i x. still_known c s.history entry w.kept x) (h.loans.kept_is_known l k)
+  kept_known l k = each_of-map (λ w. IsKnown c s.history w.kept) (λ w. IsKnown c (entry ∷ s.history) w.kept)
+      (s.lists (lock_queue l)) (λ w i x. still_known c s.history entry w.kept x) (h.loans.kept_is_known l k)
 
   own_known : (p : ℕ) → IsKnown c n.history p → IsKnown c n.history (effective_of c (s.loan t) p)
   unfolding after_stamp LoansAreKnown
-  own_known p k = by_least (IsKnown c (entry ∷ s.history)) c.locks (λ l. prio_of (s.loan t l)) p k (λ l q i x. go l q (s.loan t l) refl x)
+  own_known p k = by_least (IsKnown c (entry ∷ s.history)) c.locks (λ l. prio_of (s.loan t l)) p k
+      (λ l q i x. go l q (s.loan t l) refl x)
     where
       go : (l q : ℕ) (o : Option Loan) → s.loan t l ≡ o → prio_of o ≡ Some q → IsKnown c (entry ∷ s.history) q
       go l q o y x = grind arith
@@ -94,7 +97,8 @@ module _ (c : Config) (s : State) (t : ℕ) (e : Event) (g : MayStamp c s t e) (
 
   logs : LogsAreParts n.log n.history
   unfolding after_stamp LogsAreParts
-  logs = each_place t (λ u. put s.log t (entry ∷ s.log t) u ≡ cond (eqb t u) (entry ∷ entries_of s.history u) (entries_of s.history u))
+  logs = each_place t
+      (λ u. put s.log t (entry ∷ s.log t) u ≡ cond (eqb t u) (entry ∷ entries_of s.history u) (entries_of s.history u))
       (rw (put_same s.log t (entry ∷ s.log t), eq-eqb t t refl) (ap (λ es. entry ∷ es) (h.books.logs_are_parts t)))
       (λ u ne. rw (put_other s.log t (entry ∷ s.log t) u ne, ne_eqb t u ne) (h.books.logs_are_parts u))
 
@@ -110,7 +114,9 @@ module _ (c : Config) (s : State) (t : ℕ) (e : Event) (g : MayStamp c s t e) (
   unfolding after_stamp SectionsAreHeld sections_in
   sections u l mode x = go (eqb t u) refl x
     where
-      go : (b : Bool) → eqb t u ≡ b → (cond b (sections_by c e l (sections_in c s.history u l)) (sections_in c s.history u l)).now ≡ Holds mode → s.held u l ≡ Holds mode
+      go : (b : Bool) → eqb t u ≡ b
+          → (cond b (sections_by c e l (sections_in c s.history u l)) (sections_in c s.history u l)).now ≡ Holds mode
+          → s.held u l ≡ Holds mode
       go true y z = let i : t ≡ u = eqb-true t u y in rw (← i) (sections_held c s h t e g.asks l mode (rw i z))
       go false y z = h.books.sections_are_held u l mode z
 
@@ -122,7 +128,10 @@ module _ (c : Config) (s : State) (t : ℕ) (e : Event) (g : MayStamp c s t e) (
 
   exclude : SectionsExclude c n.history
   unfolding after_stamp SectionsExclude
-  exclude = (λ l mode x. let r = begins_held c s h t e g.asks l mode x in alone c s h t l mode r.0 r.1, h.books.sections_exclude)
+  exclude = (
+    λ l mode x. let r = begins_held c s h t e g.asks l mode x in alone c s h t l mode r.0 r.1,
+    h.books.sections_exclude,
+  )
 
   edits : EditsInSections c n.history
   unfolding after_stamp EditsInSections
@@ -138,4 +147,20 @@ module _ (c : Config) (s : State) (t : ℕ) (e : Event) (g : MayStamp c s t e) (
 
   pub lawful : Lawful c n
   unfolding after_stamp
-  lawful = assumption (least, kept, loans_known, kept_known, effective_known, next, logs, tables, bases, sections, tickets, exclude, edits, reads, shown)
+  lawful = assumption (
+    least,
+    kept,
+    loans_known,
+    kept_known,
+    effective_known,
+    next,
+    logs,
+    tables,
+    bases,
+    sections,
+    tickets,
+    exclude,
+    edits,
+    reads,
+    shown,
+  )

@@ -20,10 +20,13 @@ sum_below-each zero k = rw (le-ltb k 0 (omega arith)) refl
 sum_below-each (suc n) k =
     let r = sum_below-each n k in
     elim (cases_eq k n) [
-      | inl e ↦ rw (eq-eqb k n e, lt-ltb k (suc n) (omega arith)) (let z : one (ltb k n) ≡ 0 = rw (le-ltb k n (omega arith)) refl in omega arith)
+      | inl e ↦ rw (eq-eqb k n e, lt-ltb k (suc n) (omega arith))
+          (let z : one (ltb k n) ≡ 0 = rw (le-ltb k n (omega arith)) refl in omega arith)
       | inr e ↦ rw (ne_eqb k n e) (elim (cases_lt k n) [
-        | inl l ↦ rw (lt-ltb k (suc n) (omega arith)) (let z : one (ltb k n) ≡ 1 = rw (lt-ltb k n l) refl in omega arith)
-        | inr l ↦ rw (le-ltb k (suc n) (omega arith)) (let z : one (ltb k n) ≡ 0 = rw (le-ltb k n l) refl in omega arith)
+        | inl l ↦
+            rw (lt-ltb k (suc n) (omega arith)) (let z : one (ltb k n) ≡ 1 = rw (lt-ltb k n l) refl in omega arith)
+        | inr l ↦
+            rw (le-ltb k (suc n) (omega arith)) (let z : one (ltb k n) ≡ 0 = rw (le-ltb k n l) refl in omega arith)
       ])
     ]
 
@@ -44,7 +47,8 @@ module _ (c : Config) where
   unfolding start_state OneTurnstileEach turnstile_places
   one_turnstile n =
       let a = sum_below-each c.threads n in
-      let b = sum_below-zero c.locks (λ l. only (is_turnstile (c.kind l)) 0) (λ l i. only_zero (is_turnstile (c.kind l))) in
+      let b = sum_below-zero c.locks (λ l. only (is_turnstile (c.kind l)) 0)
+      (λ l i. only_zero (is_turnstile (c.kind l))) in
       let d = sum_below-zero c.threads (λ t. 0) (λ t i. refl) in
       omega arith
 
@@ -52,7 +56,8 @@ module _ (c : Config) where
   unfolding start_state OneSleepQueueEach sleep_queue_places
   one_sleep_queue n =
       let a = sum_below-each c.threads n in
-      let b = sum_below-zero c.locks (λ l. only (not (is_turnstile (c.kind l))) 0) (λ l i. only_zero (not (is_turnstile (c.kind l)))) in
+      let b = sum_below-zero c.locks (λ l. only (not (is_turnstile (c.kind l))) 0)
+      (λ l i. only_zero (not (is_turnstile (c.kind l)))) in
       let d = sum_below-zero c.threads (λ t. 0) (λ t i. refl) in
       let e = sum_below-zero c.chans (λ t. 0) (λ t i. refl) in
       omega arith
@@ -60,7 +65,8 @@ module _ (c : Config) where
   one_node : OneNodeEach c s.loan_home s.loan
   unfolding start_state OneNodeEach loans_on
   one_node n =
-      let a = sum_below-zero c.threads (λ t. sum_below c.locks (λ l. 0)) (λ t i. sum_below-zero c.locks (λ l. 0) (λ l j. refl)) in
+      let a = sum_below-zero c.threads (λ t. sum_below c.locks (λ l. 0))
+      (λ t i. sum_below-zero c.locks (λ l. 0) (λ l j. refl)) in
       home (ltb n c.threads) (sum_below c.threads (λ t. sum_below c.locks (λ l. 0))) a
     where
       home : (b : Bool) (k : ℕ) → k ≡ 0 → one (b && true) + k ≡ one b
@@ -72,7 +78,12 @@ module _ (c : Config) where
   narrow t i j e f = grind arith
 
   pub lawful : Lawful c s
-  unfolding start_state TurnstileIsLent SleepQueueIsLent HeadsFitWaiters BitsShowWaiters ListsAscend MutexWaitersAreExclusive StandsOnce OnlyThreadsStand StandingIsQueued StandingWants WokenWants CalledWants StandingIsUncalled WokenIsUncalled FreeWordHasCalled callers FreeMutexShowsNone WordsMatchHolders OnlyThreadsHold HeldAreListed EffectiveIsLeast OwnersHold ChannelsHaveNoOwner LoansAreLeast LoansAreWithOwners LoansAreOnHeads KeptIsEffective EffectiveIsKnown LoansAreKnown KeptIsKnown NextIsNew LogsAreParts TablesReplay value_at tables_of BasesReplay SectionsAreHeld sections_in TicketsRun SectionsExclude EditsInSections ReadsReplay ShownIsExplained
+  unfolding start_state TurnstileIsLent SleepQueueIsLent HeadsFitWaiters BitsShowWaiters ListsAscend
+      MutexWaitersAreExclusive StandsOnce OnlyThreadsStand StandingIsQueued StandingWants WokenWants CalledWants
+      StandingIsUncalled WokenIsUncalled FreeWordHasCalled callers FreeMutexShowsNone WordsMatchHolders OnlyThreadsHold
+      HeldAreListed EffectiveIsLeast OwnersHold ChannelsHaveNoOwner LoansAreLeast LoansAreWithOwners LoansAreOnHeads
+      KeptIsEffective EffectiveIsKnown LoansAreKnown KeptIsKnown NextIsNew LogsAreParts TablesReplay value_at tables_of
+      BasesReplay SectionsAreHeld sections_in TicketsRun SectionsExclude EditsInSections ReadsReplay ShownIsExplained
   lawful =
       let z = sum_below-zero c.threads (λ t. 0) (λ t i. refl) in
       record {

@@ -57,7 +57,8 @@ keeps c s (Halts t) g h = halt_lawful c s h
 keeps c s (Aborts t q side u) g h = abort.lawful c s t q side u g h
 
 -- so does each list of steps that may be made
-pub all_keep : (c : Config) (s : State) (steps : List Step) → MayAll c s steps → Lawful c s → Lawful c (after_all c s steps)
+pub all_keep : (c : Config) (s : State) (steps : List Step) → MayAll c s steps → Lawful c s
+    → Lawful c (after_all c s steps)
 all_keep c s [] g h = h
 all_keep c s (step ∷ steps) g h = all_keep c (after c s step) steps g.1 (keeps c s step g.0 h)
 
@@ -69,6 +70,7 @@ reached_lawful c s begins = start.lawful c
 reached_lawful c n (goes_on {s} r p) = step_keeps c s n p (reached_lawful c s r)
 
 -- the state behind a list of steps that may be made is reachable
-pub all_reach : (c : Config) (s : State) (steps : List Step) → MayAll c s steps → IsReachable c s → IsReachable c (after_all c s steps)
+pub all_reach : (c : Config) (s : State) (steps : List Step) → MayAll c s steps → IsReachable c s
+    → IsReachable c (after_all c s steps)
 all_reach c s [] g r = r
 all_reach c s (step ∷ steps) g r = all_reach c (after c s step) steps g.1 (goes_on r (step, g.0, refl))

@@ -48,7 +48,10 @@ sum_below-less (suc n) f h i low none =
 pub sum_below-all : (n : ℕ) (f : ℕ → ℕ) → ((j : ℕ) → j < n → 1 ≤ f j) → n ≤ sum_below n f
 unfolding sum_below
 sum_below-all zero f h = omega arith
-sum_below-all (suc n) f h = let here = h n (omega arith) in let rest = sum_below-all n f (λ j l. h j (omega arith)) in omega arith
+sum_below-all (suc n) f h =
+    let here = h n (omega arith) in
+    let rest = sum_below-all n f (λ j l. h j (omega arith)) in
+    omega arith
 
 -- a sum whose entries are 0 but at i
 pub sum_below-single : (n : ℕ) (f : ℕ → ℕ) (i : ℕ) → ((j : ℕ) → (i ≡ j → ⊥) → f j ≡ 0) → sum_below n f ≤ f i
@@ -56,7 +59,9 @@ unfolding sum_below
 sum_below-single zero f i h = omega arith
 sum_below-single (suc n) f i h =
     elim (cases_eq i n) [
-      | inl e ↦ let here : f i ≡ f n = ap f e in let rest = sum_below-zero n f (λ j l. h j (λ z. omega arith)) in omega arith
+      | inl e ↦ let here : f i ≡ f n = ap f e in
+          let rest = sum_below-zero n f (λ j l. h j (λ z. omega arith)) in
+          omega arith
       | inr e ↦ let here = h n e in let rest = sum_below-single n f i h in omega arith
     ]
 
@@ -67,24 +72,32 @@ sum_below-beyond n l f h = let a = longer l h in omega arith
   where
     longer : (m : ℕ) → n ≤ m → sum_below n f ≤ sum_below m f
     longer zero i = let z : n ≡ 0 = omega arith in rw z (omega arith)
-    longer (suc m) i = elim (cases_lt m n) [ inl k ↦ let z : n ≡ suc m = omega arith in rw z (omega arith) | inr k ↦ let rest = longer m k in omega arith ]
+    longer (suc m) i = elim (cases_lt m n) [
+      | inl k ↦ let z : n ≡ suc m = omega arith in rw z (omega arith)
+      | inr k ↦ let rest = longer m k in omega arith
+    ]
 
 -- the two sums of a table come to the same
-pub sum_below-swap : (n m : ℕ) (f : ℕ → ℕ → ℕ) → sum_below n (λ i. sum_below m (f i)) ≡ sum_below m (λ j. sum_below n (λ i. f i j))
+pub sum_below-swap : (n m : ℕ) (f : ℕ → ℕ → ℕ)
+    → sum_below n (λ i. sum_below m (f i)) ≡ sum_below m (λ j. sum_below n (λ i. f i j))
 unfolding sum_below
 sum_below-swap zero m f = sym (sum_below-zero m (λ j. 0) (λ j l. refl))
 sum_below-swap (suc n) m f = omega (arith, sum_below-swap n m f, sum_below-add m (f n) (λ j. sum_below n (λ i. f i j)))
 
-pub columns-le : (n m : ℕ) (f : ℕ → ℕ → ℕ) (g : ℕ → ℕ) → ((j : ℕ) → j < m → sum_below n (λ i. f i j) ≤ g j) → sum_below n (λ i. sum_below m (f i)) ≤ sum_below m g
+pub columns-le : (n m : ℕ) (f : ℕ → ℕ → ℕ) (g : ℕ → ℕ) → ((j : ℕ) → j < m → sum_below n (λ i. f i j) ≤ g j)
+    → sum_below n (λ i. sum_below m (f i)) ≤ sum_below m g
 columns-le n m f g h = let a = sum_below-le m (λ j. sum_below n (λ i. f i j)) g h in omega (arith, sum_below-swap n m f)
 
-pub le-columns : (n m : ℕ) (f : ℕ → ℕ → ℕ) (g : ℕ → ℕ) → ((j : ℕ) → j < m → g j ≤ sum_below n (λ i. f i j)) → sum_below m g ≤ sum_below n (λ i. sum_below m (f i))
+pub le-columns : (n m : ℕ) (f : ℕ → ℕ → ℕ) (g : ℕ → ℕ) → ((j : ℕ) → j < m → g j ≤ sum_below n (λ i. f i j))
+    → sum_below m g ≤ sum_below n (λ i. sum_below m (f i))
 le-columns n m f g h = let a = sum_below-le m g (λ j. sum_below n (λ i. f i j)) h in omega (arith, sum_below-swap n m f)
 
 -- 2. Each number below n is counted in an option or a list
 
 pub one-sum : (n x : ℕ) → sum_below n (λ j. one (eqb j x)) ≤ 1
-one-sum n x = let a = sum_below-single n (λ j. one (eqb j x)) x (λ j e. ap one (ne_eqb j x (λ i. e (sym i)))) in omega (arith, one_same x)
+one-sum n x =
+    let a = sum_below-single n (λ j. one (eqb j x)) x (λ j e. ap one (ne_eqb j x (λ i. e (sym i)))) in
+    omega (arith, one_same x)
 
 pub option-sum : (n : ℕ) (o : Option ℕ) → sum_below n (λ j. at_option j o) ≤ some o
 option-sum n None = omega (arith, sum_below-zero n (λ j. 0) (λ j l. refl))
@@ -92,7 +105,8 @@ option-sum n (Some x) = one-sum n x
 
 pub times-sum : (n : ℕ) (xs : List ℕ) → sum_below n (λ j. times j xs) ≤ length xs
 times-sum n [] = omega (arith, sum_below-zero n (λ j. 0) (λ j l. refl))
-times-sum n (x ∷ xs) = omega (arith, sum_below-add n (λ j. one (eqb j x)) (λ j. times j xs), one-sum n x, times-sum n xs)
+times-sum n (x ∷ xs) =
+    omega (arith, sum_below-add n (λ j. one (eqb j x)) (λ j. times j xs), one-sum n x, times-sum n xs)
 
 pub only-sum : (n : ℕ) (b : Bool) (f : ℕ → ℕ) (k : ℕ) → sum_below n f ≤ k → sum_below n (λ j. only b (f j)) ≤ only b k
 only-sum n true f k l = l
@@ -112,13 +126,17 @@ marked_threads c [] = []
 marked_threads c (m ∷ ms) = cond (is_turnstile_queue c m.queue) (m.thread ∷ marked_threads c ms) (marked_threads c ms)
 
 -- they have a turnstile each
-pub object-sum : (c : Config) (n : ℕ) (ms : List Mark) → sum_below n (λ j. times_object c true j ms) ≤ length (marked_threads c ms)
+pub object-sum : (c : Config) (n : ℕ) (ms : List Mark)
+    → sum_below n (λ j. times_object c true j ms) ≤ length (marked_threads c ms)
 object-sum c n [] = omega (arith, sum_below-zero n (λ j. 0) (λ j l. refl))
 object-sum c n (m ∷ ms) =
     let rest = object-sum c n ms in
     let none = sum_below-zero n (λ j. 0) (λ j l. refl) in
-    elim (is_turnstile_queue c m.queue) as (λ b. sum_below n (λ j. only b (one (eqb j m.object)) + times_object c true j ms) ≤ length (cond b (m.thread ∷ marked_threads c ms) (marked_threads c ms))) [
-      | true ↦ omega (arith, sum_below-add n (λ j. one (eqb j m.object)) (λ j. times_object c true j ms), one-sum n m.object)
+    elim (is_turnstile_queue c m.queue)
+    as (λ b. sum_below n (λ j. only b (one (eqb j m.object)) + times_object c true j ms)
+    ≤ length (cond b (m.thread ∷ marked_threads c ms) (marked_threads c ms))) [
+      | true ↦
+          omega (arith, sum_below-add n (λ j. one (eqb j m.object)) (λ j. times_object c true j ms), one-sum n m.object)
       | false ↦ omega (arith, sum_below-add n (λ j. 0) (λ j. times_object c true j ms))
     ]
 
@@ -144,6 +162,12 @@ pub length-threads : (ws : List Waiter) → length (threads_of ws) ≡ length ws
 length-threads [] = refl
 length-threads (w ∷ ws) = ap suc (length-threads ws)
 
-pub sum-waiting : (n : ℕ) (ws : List Waiter) → ((j : ℕ) → 1 ≤ times_waiting j ws → j < n) → length ws ≤ sum_below n (λ j. times_waiting j ws)
+pub sum-waiting : (n : ℕ) (ws : List Waiter) → ((j : ℕ) → 1 ≤ times_waiting j ws → j < n)
+    → length ws ≤ sum_below n (λ j. times_waiting j ws)
 sum-waiting n ws h =
-    omega (arith, length-threads ws, sum-times n (threads_of ws) (λ j l. h j (omega (arith, times-threads j ws))), sum_below-same n (λ j. times j (threads_of ws)) (λ j. times_waiting j ws) (λ j l. times-threads j ws))
+    omega (
+      arith,
+      length-threads ws,
+      sum-times n (threads_of ws) (λ j l. h j (omega (arith, times-threads j ws))),
+      sum_below-same n (λ j. times j (threads_of ws)) (λ j. times_waiting j ws) (λ j l. times-threads j ws),
+    )

@@ -16,11 +16,14 @@ tied : (i j l k : ℕ) → eq_by_cmp place_cmp (l, k) (i, j) ≡ (eqb i l && eqb
 tied i j l k = sym (tied_then (nat_cmp l i) (nat_cmp k j)) ∙ rw (is_eq-cmp l i, is_eq-cmp k j) refl
 
 -- an edit of one key
-edit_step : (f : ℕ → ℕ → Option ℕ) (m : FinMap place_cmp ℕ) (i j v l k : ℕ) → f l k ≡ get m (l, k) → put_at f i j (Some v) l k ≡ get (insert m (i, j) v) (l, k)
+edit_step : (f : ℕ → ℕ → Option ℕ) (m : FinMap place_cmp ℕ) (i j v l k : ℕ) → f l k ≡ get m (l, k)
+    → put_at f i j (Some v) l k ≡ get (insert m (i, j) v) (l, k)
 unfolding put_at
-edit_step f m i j v l k h = rw h (ap (λ b. cond b (Some v) (get m (l, k))) (sym (tied i j l k)) ∙ sym (get-insert place_total m (i, j) v (l, k)))
+edit_step f m i j v l k h = rw h
+    (ap (λ b. cond b (Some v) (get m (l, k))) (sym (tied i j l k)) ∙ sym (get-insert place_total m (i, j) v (l, k)))
 
-pub table_step : (f : ℕ → ℕ → Option ℕ) (e : Entry) (es : List Entry) → ((l k : ℕ) → f l k ≡ value_at es l k) → (l k : ℕ) → table_after e.event f l k ≡ value_at (e ∷ es) l k
+pub table_step : (f : ℕ → ℕ → Option ℕ) (e : Entry) (es : List Entry) → ((l k : ℕ) → f l k ≡ value_at es l k)
+    → (l k : ℕ) → table_after e.event f l k ≡ value_at (e ∷ es) l k
 unfolding value_at tables_of
 table_step f e es h l k = go e.event
   where

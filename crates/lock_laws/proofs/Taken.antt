@@ -22,13 +22,24 @@ module _ (c : Config) (s : State) (q : QueueName) (side : Side) (all : Bool) (la
   -- each has an object there
   pub objects_enough : length (taken_off all (list_of side (s.lists q))) ≤ length (s.free_list q) + some (s.head q)
   unfolding HeadsFitWaiters
-  objects_enough = omega (arith, (best_or_all all (list_of side (s.lists q))).counted, side_counted side (s.lists q), (lawful.queues.heads_fit_waiters q).balanced)
+  objects_enough = omega (
+    arith,
+    (best_or_all all (list_of side (s.lists q))).counted,
+    side_counted side (s.lists q),
+    (lawful.queues.heads_fit_waiters q).balanced,
+  )
 
   its_times : (t : ℕ) → times t (map (λ w. w.thread) (taken_off all (list_of side (s.lists q)))) ≤ stands t (s.lists q)
-  its_times t = omega (arith, times-map t (taken_off all (list_of side (s.lists q))), (best_or_all all (list_of side (s.lists q))).times t, side_stands side (s.lists q) t)
+  its_times t = omega (
+    arith,
+    times-map t (taken_off all (list_of side (s.lists q))),
+    (best_or_all all (list_of side (s.lists q))).times t,
+    side_stands side (s.lists q) t,
+  )
 
   -- their bits are few
-  pub few_bits : c.threads ≤ 64 → bits_of_threads (map (λ w. w.thread) (taken_off all (list_of side (s.lists q)))) < 2 ^ 64
+  pub few_bits : c.threads ≤ 64
+      → bits_of_threads (map (λ w. w.thread) (taken_off all (list_of side (s.lists q)))) < 2 ^ 64
   few_bits few =
       bits_below 64 (map (λ w. w.thread) (taken_off all (list_of side (s.lists q))))
       (λ t. omega (arith, its_times t, once c s t q lawful))

@@ -18,7 +18,8 @@ pub admits_unowned : (kind : Kind) (w : Word) → admits kind w Shared ≡ true 
 admits_unowned kind w e = grind arith
 
 -- a lock that refuses a thread is held, as a mutex is asked for exclusively
-pub refused_held : (kind : Kind) (w : Word) (mode : Mode) → (kind ≡ Mtx → mode ≡ Excl) → admits kind w mode ≡ false → is_free w.holder ≡ false
+pub refused_held : (kind : Kind) (w : Word) (mode : Mode) → (kind ≡ Mtx → mode ≡ Excl) → admits kind w mode ≡ false
+    → is_free w.holder ≡ false
 refused_held kind w mode m e = grind arith
 
 -- a free word shows no waiters, where it shows them only held
@@ -51,13 +52,15 @@ unowned_owns t x e = grind arith
 
 -- 2. The word and the holders of a lock, after one thread's hold is changed
 
-pub matches-put : (c : Config) (w v : Word) (held : ℕ → ℕ → Hold) (t l : ℕ) (b : Hold) → t < c.threads → WordMatchesHolders c w l held
+pub matches-put : (c : Config) (w v : Word) (held : ℕ → ℕ → Hold) (t l : ℕ) (b : Hold) → t < c.threads
+    → WordMatchesHolders c w l held
     → is_exclusive b ≡ owns t v.holder
     → ((u : ℕ) → (t ≡ u → ⊥) → owns u w.holder ≡ owns u v.holder)
     → shares b + sharers w.holder ≡ shares (held t l) + sharers v.holder
     → v.holder ≢ SharedBy 0
     → WordMatchesHolders c v l (put_at held t l b)
-matches-put c w v held t l b lt m own others count some = record { owner = owner; sharers_are_counted = counted; some_sharer = some }
+matches-put c w v held t l b lt m own others count some =
+    record { owner = owner; sharers_are_counted = counted; some_sharer = some }
   where
     owner : (u : ℕ) → is_exclusive (put_at held t l b u l) ≡ owns u v.holder
     owner u =
@@ -71,14 +74,16 @@ matches-put c w v held t l b lt m own others count some = record { owner = owner
         let a = sum_below-put_at c.threads shares held t l b lt in
         omega (arith, m.sharers_are_counted)
 
-pub matches-beside : (c : Config) (w : Word) (held : ℕ → ℕ → Hold) (t l : ℕ) (b : Hold) (k : ℕ) → (l ≡ k → ⊥) → WordMatchesHolders c w k held → WordMatchesHolders c w k (put_at held t l b)
+pub matches-beside : (c : Config) (w : Word) (held : ℕ → ℕ → Hold) (t l : ℕ) (b : Hold) (k : ℕ) → (l ≡ k → ⊥)
+    → WordMatchesHolders c w k held → WordMatchesHolders c w k (put_at held t l b)
 matches-beside c w held t l b k ne m = record {
   owner = λ u. rw (put_at_beside held t l b u k ne) (m.owner u);
   sharers_are_counted = sum_below-put_beside c.threads shares held t l b k ne ∙ m.sharers_are_counted;
   some_sharer = m.some_sharer;
 }
 
-pub all_match-put : (c : Config) (word : ℕ → Word) (held : ℕ → ℕ → Hold) (t l : ℕ) (v : Word) (b : Hold) → WordsMatchHolders c word held
+pub all_match-put : (c : Config) (word : ℕ → Word) (held : ℕ → ℕ → Hold) (t l : ℕ) (v : Word) (b : Hold)
+    → WordsMatchHolders c word held
     → WordMatchesHolders c v l (put_at held t l b) → WordsMatchHolders c (put word l v) (put_at held t l b)
 unfolding WordsMatchHolders
 all_match-put c word held t l v b h here k =
@@ -108,30 +113,36 @@ module _ (c : Config) (s : State) (t l : ℕ) (h : Lawful c s) where
 
 -- 4. Gains, drops and claims
 
-pub matches-gain : (c : Config) (kind : Kind) (w : Word) (held : ℕ → ℕ → Hold) (t l : ℕ) (mode : Mode) → t < c.threads → admits kind w mode ≡ true → held t l ≡ NotHeld
+pub matches-gain : (c : Config) (kind : Kind) (w : Word) (held : ℕ → ℕ → Hold) (t l : ℕ) (mode : Mode) → t < c.threads
+    → admits kind w mode ≡ true → held t l ≡ NotHeld
     → WordMatchesHolders c w l held → WordMatchesHolders c (gained w t mode) l (put_at held t l (Holds mode))
 matches-gain c kind w held t l Excl lt a n m =
     let f : w.holder ≡ Free = free_is w.holder a in
-    matches-put c w (gained w t Excl) held t l (Holds Excl) lt m (sym (rw (eqb_same t) refl)) (λ u ne. rw f (sym (ne_eqb u t (λ e. ne (sym e))))) (rw (f, n) refl) (λ e. cc)
+    matches-put c w (gained w t Excl) held t l (Holds Excl) lt m (sym (rw (eqb_same t) refl))
+    (λ u ne. rw f (sym (ne_eqb u t (λ e. ne (sym e))))) (rw (f, n) refl) (λ e. cc)
   where
     eqb_same : (t : ℕ) → eqb t t ≡ true
     eqb_same t = grind arith
 matches-gain c kind w held t l Shared lt a n m =
     let f : is_owned w.holder ≡ false = admits_unowned kind w a in
-    matches-put c w (gained w t Shared) held t l (Holds Shared) lt m refl (λ u ne. unowned_owns u w.holder f) (rw n (omega arith)) (λ e. grind arith)
+    matches-put c w (gained w t Shared) held t l (Holds Shared) lt m refl (λ u ne. unowned_owns u w.holder f)
+    (rw n (omega arith)) (λ e. grind arith)
 
 -- what is left of a holder that loses one: the thread owned it, or it was one of the sharers
-pub matches-drop : (c : Config) (w v : Word) (held : ℕ → ℕ → Hold) (t l : ℕ) (mode : Mode) → t < c.threads → held t l ≡ Holds mode → v.holder ≡ without_one w.holder
+pub matches-drop : (c : Config) (w v : Word) (held : ℕ → ℕ → Hold) (t l : ℕ) (mode : Mode) → t < c.threads
+    → held t l ≡ Holds mode → v.holder ≡ without_one w.holder
     → WordMatchesHolders c w l held → WordMatchesHolders c v l (put_at held t l NotHeld)
 matches-drop c w v held t l Excl lt n e m =
     let o : w.holder ≡ HeldBy t = owns_is t w.holder (sym (m.owner t) ∙ ap is_exclusive n) in
     let f : v.holder ≡ Free = e ∙ ap without_one o in
-    matches-put c w v held t l NotHeld lt m (rw f refl) (λ u ne. rw (f, o) (ne_eqb u t (λ x. ne (sym x)))) (rw (f, o, n) refl) (λ x. cc)
+    matches-put c w v held t l NotHeld lt m (rw f refl) (λ u ne. rw (f, o) (ne_eqb u t (λ x. ne (sym x))))
+    (rw (f, o, n) refl) (λ x. cc)
 matches-drop c w v held t l Shared lt n e m =
     let a = sum_below-at c.threads (λ u. shares (held u l)) t lt in
     let b : shares (held t l) ≡ 1 = ap shares n in
     let p : 1 ≤ sharers w.holder = omega (arith, m.sharers_are_counted) in
-    matches-put c w v held t l NotHeld lt m (rw e (sym (left_owns t w.holder p))) (λ u ne. rw e (owns_left u w.holder p)) (rw (e, n) (left_sharers w.holder p)) (λ x. left_some w.holder (sym e ∙ x))
+    matches-put c w v held t l NotHeld lt m (rw e (sym (left_owns t w.holder p)))
+    (λ u ne. rw e (owns_left u w.holder p)) (rw (e, n) (left_sharers w.holder p)) (λ x. left_some w.holder (sym e ∙ x))
   where
     left_owns : (u : ℕ) (x : Holder) → 1 ≤ sharers x → owns u (without_one x) ≡ false
     left_owns u x p = grind arith
@@ -145,7 +156,8 @@ matches-drop c w v held t l Shared lt n e m =
     left_some : (x : Holder) → without_one x ≢ SharedBy 0
     left_some x e = grind arith
 
-pub matches-claim : (c : Config) (w : Word) (held : ℕ → ℕ → Hold) (t l : ℕ) → t < c.threads → is_free w.holder ≡ true → held t l ≡ NotHeld
+pub matches-claim : (c : Config) (w : Word) (held : ℕ → ℕ → Hold) (t l : ℕ) → t < c.threads → is_free w.holder ≡ true
+    → held t l ≡ NotHeld
     → WordMatchesHolders c w l held → WordMatchesHolders c (claimed w t) l (put_at held t l (Holds Excl))
 matches-claim c w held t l lt a n m = matches-gain c Mtx w held t l Excl lt a n m
 
@@ -155,5 +167,6 @@ pub entered_holder : (w : Word) (side : Side) → (entered w side).holder ≡ w.
 entered_holder w X = refl
 entered_holder w S = refl
 
-pub matches_same : (c : Config) (w v : Word) (l : ℕ) (held : ℕ → ℕ → Hold) → v.holder ≡ w.holder → WordMatchesHolders c w l held → WordMatchesHolders c v l held
+pub matches_same : (c : Config) (w v : Word) (l : ℕ) (held : ℕ → ℕ → Hold) → v.holder ≡ w.holder
+    → WordMatchesHolders c w l held → WordMatchesHolders c v l held
 matches_same c w v l held e m = grind arith

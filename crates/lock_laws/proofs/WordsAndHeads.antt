@@ -26,12 +26,16 @@ module _ (c : Config) (s : State) (l : ℕ) (h : Lawful c s) where
       go : (x : Holder) → (s.word l).holder ≡ x → IsPossible x
       go Free e = tt
       go (HeldBy u) e =
-          let own = exclusive_is (s.held u l) ((h.words.words_match_holders l).owner u ∙ ap (owns u) e ∙ eq-eqb u u refl) in
+          let own = exclusive_is (s.held u l)
+          ((h.words.words_match_holders l).owner u ∙ ap (owns u) e ∙ eq-eqb u u refl) in
           omega (arith, few, h.words.only_threads_hold u l Excl own)
       go (SharedBy zero) e = absurd ((h.words.words_match_holders l).some_sharer e)
       go (SharedBy (suc n)) e =
-          let count : _ ≡ suc n = (h.words.words_match_holders l).sharers_are_counted ∙ ap sharers e in
-          (omega arith, omega (arith, few, count, sum_below-most c.threads (λ t. shares (s.held t l)) (λ t. shares_one (s.held t l))))
+          let count : _ ≡ suc n = (h.words.words_match_holders l).sharers_are_counted ∙ ap sharers e in (
+            omega arith,
+            omega
+                (arith, few, count, sum_below-most c.threads (λ t. shares (s.held t l)) (λ t. shares_one (s.held t l))),
+          )
 
 -- 2. Heads
 
@@ -51,8 +55,13 @@ unfolding HeadsFitWaiters
 headless_bare c s q h e =
     let f = h.queues.heads_fit_waiters q in
     let free = f.no_free e in
-    let count : 0 + 0 ≡ waiting (s.lists q) = sym (ap (λ xs. length xs + some (s.head q)) free ∙ ap (λ o. 0 + some o) e) ∙ f.balanced in
-    record { no_exclusive = none_in (s.lists q).exclusive (omega arith); no_shared = none_in (s.lists q).shared (omega arith); no_free = free }
+    let count : 0 + 0 ≡ waiting (s.lists q) = sym (ap (λ xs. length xs + some (s.head q)) free ∙ ap (λ o. 0 + some o) e)
+    ∙ f.balanced in
+    record {
+      no_exclusive = none_in (s.lists q).exclusive (omega arith);
+      no_shared = none_in (s.lists q).shared (omega arith);
+      no_free = free;
+    }
 
 -- a queue has a head and exclusive waiters alone, one more than free turnstiles
 pub record IsAwaited (s : State) (q : QueueName) : Type 0 where
@@ -62,7 +71,8 @@ pub record IsAwaited (s : State) (q : QueueName) : Type 0 where
   pub no_shared : (s.lists q).shared ≡ []
 
 -- that is so where a mutex shows waiters
-module _ (c : Config) (s : State) (l : ℕ) (h : Lawful c s) (k : c.kind l ≡ Mtx) (e : shows_waiters (s.word l) ≡ true) where
+module _ (c : Config) (s : State) (l : ℕ) (h : Lawful c s) (k : c.kind l ≡ Mtx)
+    (e : shows_waiters (s.word l) ≡ true) where
   abbrev q : QueueName
   q = lock_queue l
 
@@ -71,13 +81,16 @@ module _ (c : Config) (s : State) (l : ℕ) (h : Lawful c s) (k : c.kind l ≡ M
 
 -- 3. A release of a lock with a head
 
-module _ (c : Config) (s : State) (t l : ℕ) (h : Lawful c s) (lock : l < c.locks) (k : is_turnstile (c.kind l) ≡ true) (held : s.held t l ≡ Holds Excl) where
+module _ (c : Config) (s : State) (t l : ℕ) (h : Lawful c s) (lock : l < c.locks) (k : is_turnstile (c.kind l) ≡ true)
+    (held : s.held t l ≡ Holds Excl) where
   releasing_owner : (x : ℕ) → s.head (lock_queue l) ≡ Some x → s.owner (lock_queue l) ≡ Some t
   unfolding OwnersHold
-  releasing_owner x e = h.loans.owners_hold l ∙ ap (λ b. owner_if b (s.head (lock_queue l)) (s.word l).holder) k ∙ ap (λ o. owner_if true o (s.word l).holder) e ∙ ap owner_of (owner_is c s t l h held)
+  releasing_owner x e = h.loans.owners_hold l ∙ ap (λ b. owner_if b (s.head (lock_queue l)) (s.word l).holder) k
+      ∙ ap (λ o. owner_if true o (s.word l).holder) e ∙ ap owner_of (owner_is c s t l h held)
 
   -- the head's node is out where its thread has the loan
-  pub lent_out : (x : ℕ) (y : Loan) → s.head (lock_queue l) ≡ Some x → s.loan t l ≡ Some y → (x ≡ y.number) × (s.loan_home x ≡ false)
+  pub lent_out : (x : ℕ) (y : Loan) → s.head (lock_queue l) ≡ Some x → s.loan t l ≡ Some y
+      → (x ≡ y.number) × (s.loan_home x ≡ false)
   unfolding LoansAreOnHeads
   lent_out x y e f =
       let same : x ≡ y.number = same_Some x y.number (sym e ∙ h.loans.loans_are_on_heads t l y f) in
@@ -88,10 +101,12 @@ module _ (c : Config) (s : State) (t l : ℕ) (h : Lawful c s) (lock : l < c.loc
   unlent_home x e none = owned_home c s l x t h lock k e (releasing_owner x e) none
 
   -- the nodes of the other locks' heads stay where they are
-  pub home_elsewhere : (j z : ℕ) → j ≢ l → is_turnstile (c.kind j) ≡ true → s.head (lock_queue j) ≡ Some z → home_after s.loan_home (s.loan t l) z ≡ s.loan_home z
+  pub home_elsewhere : (j z : ℕ) → j ≢ l → is_turnstile (c.kind j) ≡ true → s.head (lock_queue j) ≡ Some z
+      → home_after s.loan_home (s.loan t l) z ≡ s.loan_home z
   unfolding LoansAreOnHeads
   home_elsewhere j z d kj e = go (s.loan t l) refl
     where
       go : (o : Option Loan) → s.loan t l ≡ o → home_after s.loan_home o z ≡ s.loan_home z
       go None f = refl
-      go (Some y) f = put_other s.loan_home y.number true z (λ i. d (heads_apart c s j l z h (head_lock c s j z h kj e) lock kj k e (h.loans.loans_are_on_heads t l y f ∙ ap Some i)))
+      go (Some y) f = put_other s.loan_home y.number true z (λ i. d (heads_apart c s j l z h
+          (head_lock c s j z h kj e) lock kj k e (h.loans.loans_are_on_heads t l y f ∙ ap Some i)))

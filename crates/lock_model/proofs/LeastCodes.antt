@@ -50,7 +50,8 @@ ascends_with : (c : ℕ) (t : Test) (us : List Test) → c ≤ t.code → Ascend
 ascends_with c t [] l h = (l, tt)
 ascends_with c t (u ∷ us) l h = go (nat_le t.code u.code) refl (λ k. ascends_with u.code t us k h.1)
   where
-    go : (b : Bool) → nat_le t.code u.code ≡ b → (u.code ≤ t.code → Ascends u.code (with_test t us)) → Ascends c (cond b (t ∷ u ∷ us) (u ∷ with_test t us))
+    go : (b : Bool) → nat_le t.code u.code ≡ b → (u.code ≤ t.code → Ascends u.code (with_test t us))
+        → Ascends c (cond b (t ∷ u ∷ us) (u ∷ with_test t us))
     go true e more = (l, (grind (arith, nat_tests), h.1))
     go false e more = (h.0, more (grind (arith, nat_tests)))
 
@@ -59,19 +60,24 @@ first_with : (c : ℕ) (t : Test) (us : List Test) → Ascends c us → first_co
 first_with c t [] h = refl
 first_with c t (u ∷ us) h = go (nat_le t.code u.code) refl (first_with u.code t us h.1)
   where
-    front : (b : Bool) → t.code ≤ u.code → cond b (first_code (u ∷ us)) (Some t.code) ≡ cond b (first_code (u ∷ us)) (Some (lower (first_code (u ∷ us)) t.code))
+    front : (b : Bool) → t.code ≤ u.code → cond b (first_code (u ∷ us)) (Some t.code)
+        ≡ cond b (first_code (u ∷ us)) (Some (lower (first_code (u ∷ us)) t.code))
     front true l = refl
     front false l = ap (λ (n : ℕ). Some n) (sym (lower_is t.code (u ∷ us) (l, h.1)))
 
-    behind : (b a : Bool) → u.code < t.code → cond b (cond a (first_code us) (Some (lower (first_code us) t.code))) (Some u.code) ≡ cond a (cond b (first_code us) (Some u.code)) (Some (lower (cond b (first_code us) (Some u.code)) t.code))
+    behind : (b a : Bool) → u.code < t.code
+        → cond b (cond a (first_code us) (Some (lower (first_code us) t.code))) (Some u.code)
+        ≡ cond a (cond b (first_code us) (Some u.code)) (Some (lower (cond b (first_code us) (Some u.code)) t.code))
     behind true true l = refl
     behind true false l = refl
     behind false true l = refl
     behind false false l = ap (λ (n : ℕ). Some n) (sym (least_of u.code t.code l))
 
-    go : (b : Bool) → nat_le t.code u.code ≡ b → first_code (with_test t us) ≡ before t (first_code us) → first_code (cond b (t ∷ u ∷ us) (u ∷ with_test t us)) ≡ before t (first_code (u ∷ us))
+    go : (b : Bool) → nat_le t.code u.code ≡ b → first_code (with_test t us) ≡ before t (first_code us)
+        → first_code (cond b (t ∷ u ∷ us) (u ∷ with_test t us)) ≡ before t (first_code (u ∷ us))
     go true e more = front t.passes (grind (arith, nat_tests))
-    go false e more = ap (λ (r : Option ℕ). cond u.passes r (Some u.code)) more ∙ behind u.passes t.passes (grind (arith, nat_tests))
+    go false e more = ap (λ (r : Option ℕ). cond u.passes r (Some u.code)) more
+        ∙ behind u.passes t.passes (grind (arith, nat_tests))
 
 ascends : (ts : List Test) → Ascends 0 (in_order ts)
 ascends [] = tt
@@ -88,7 +94,8 @@ pub passed : (t : Test) (ts : List Test) → Passes (t ∷ ts) → (t.passes ≡
 unfolding least_code
 passed t ts h = go t.passes refl h
   where
-    go : (b : Bool) → t.passes ≡ b → cond b (least_code ts) (Some (lower (least_code ts) t.code)) ≡ None → (t.passes ≡ true) × Passes ts
+    go : (b : Bool) → t.passes ≡ b → cond b (least_code ts) (Some (lower (least_code ts) t.code)) ≡ None
+        → (t.passes ≡ true) × Passes ts
     go true e p = (e, p)
     go false e p = absurd (cc)
 

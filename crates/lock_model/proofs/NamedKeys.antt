@@ -12,12 +12,16 @@ or_assoc true b c = refl
 or_assoc false b c = refl
 
 -- one item more, and with it some keys
-pub any_more : {X : Type 0} (p : ℕ → Bool) (q : X → Bool) (start keys more new : List ℕ) (xs : List X) (i : ℕ) (d : X) → i < length xs
-    → list_any p keys ≡ (list_any p start || list_any q (take i xs)) → list_any p more ≡ q (get_or xs i d) → new ≡ keys ++ more
+pub any_more : {X : Type 0} (p : ℕ → Bool) (q : X → Bool) (start keys more new : List ℕ) (xs : List X) (i : ℕ) (d : X)
+    → i < length xs
+    → list_any p keys ≡ (list_any p start || list_any q (take i xs)) → list_any p more ≡ q (get_or xs i d)
+    → new ≡ keys ++ more
     → list_any p new ≡ (list_any p start || list_any q (take (i + 1) xs))
 any_more p q start keys more new xs i d lt before one e =
-    ap (list_any p) e ∙ list_any-append p keys more ∙ ap (λ b. b || list_any p more) before ∙ ap (λ b. (list_any p start || list_any q (take i xs)) || b) one
-    ∙ or_assoc (list_any p start) (list_any q (take i xs)) (q (get_or xs i d)) ∙ ap (λ b. list_any p start || b) (sym (list_any_more q xs i d lt))
+    ap (list_any p) e ∙ list_any-append p keys more ∙ ap (λ b. b || list_any p more) before
+    ∙ ap (λ b. (list_any p start || list_any q (take i xs)) || b) one
+    ∙ or_assoc (list_any p start) (list_any q (take i xs)) (q (get_or xs i d))
+    ∙ ap (λ b. list_any p start || b) (sym (list_any_more q xs i d lt))
 
 -- a key stands in a list exactly where a test of the elements finds it
 pub contains_iff_any : (xs : List ℕ) (key : ℕ) → Contains xs key ↔ IsTrue (list_any (λ k. eqb k key) xs)
@@ -28,9 +32,11 @@ contains_iff_any xs key = (
 )
 
 -- a key stands in the sorted list without repetitions exactly where it stood in the list
-pub kept_keys : (keys sorted : List ℕ) (key : ℕ) → IsPermutation keys sorted → Contains (dedup eqb sorted) key ↔ IsTrue (list_any (λ k. eqb k key) keys)
+pub kept_keys : (keys sorted : List ℕ) (key : ℕ) → IsPermutation keys sorted
+    → Contains (dedup eqb sorted) key ↔ IsTrue (list_any (λ k. eqb k key) keys)
 kept_keys keys sorted key moved =
-    let same : list_any (λ k. eqb k key) keys ≡ list_any (λ k. eqb k key) sorted = list_any-IsPermutation (λ k. eqb k key) keys sorted moved in (
+    let same : list_any (λ k. eqb k key) keys
+    ≡ list_any (λ k. eqb k key) sorted = list_any-IsPermutation (λ k. eqb k key) keys sorted moved in (
       λ h. same ∙ (contains_iff_any sorted key).0 (Contains-from_dedup eqb sorted key h),
       λ h. Contains-dedup_nat sorted key ((contains_iff_any sorted key).1 (sym same ∙ h)),
     )

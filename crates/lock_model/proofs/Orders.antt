@@ -262,7 +262,8 @@ module _ (es : List (ℕ × ℕ)) where
   leads_on : (n a k b : ℕ) → k < n → Leads n a k → Leads n k b → Leads n a b
   leads_on zero a k b l x y = absurd (omega arith)
   leads_on (suc n) a k b l x y = elim (cases_eq k n) [
-    | inl e ↦ by n a b (leads_to n a (subst (Leads (suc n) a) e x)) (leads_from n b (subst (λ j. Leads (suc n) j b) e y))
+    | inl e ↦
+        by n a b (leads_to n a (subst (Leads (suc n) a) e x)) (leads_from n b (subst (λ j. Leads (suc n) j b) e y))
     | inr e ↦
         let m : k < n = omega arith in
         elim (joins (leads_below n es a k) (leads_below n es a n) (leads_below n es n k) x) [
@@ -290,10 +291,12 @@ module _ (es : List (ℕ × ℕ)) where
 
   reach_leads : (n : ℕ) → ((a b : ℕ) → IsEdge es a b → b < n) → {a b : ℕ} → Reaches es a b → Leads n a b
   reach_leads n l {a} {b} (edge i) = leads_by_edge n a b i
-  reach_leads n l {a} {b = d} (then {b = b} i r) = leads_on n a b d (l a b i) (leads_by_edge n a b i) (reach_leads n l r)
+  reach_leads n l {a} {b = d} (then {b = b} i r) =
+      leads_on n a b d (l a b i) (leads_by_edge n a b i) (reach_leads n l r)
 
   -- with n above all classes to which edges lead, the test is whether a path leads
-  pub leads_reaches : (n : ℕ) → ((a b : ℕ) → IsEdge es a b → b < n) → (a b : ℕ) → (leads_below n es a b ≡ true) ↔ Reaches es a b
+  pub leads_reaches : (n : ℕ) → ((a b : ℕ) → IsEdge es a b → b < n) → (a b : ℕ)
+      → (leads_below n es a b ≡ true) ↔ Reaches es a b
   leads_reaches n l a b = (leads_reach n a b, reach_leads n l)
 
 pub edge_below : (es : List (ℕ × ℕ)) (a b : ℕ) → IsEdge es a b → b < above_all es
@@ -315,7 +318,8 @@ module _ (es : List (ℕ × ℕ)) (w : ℕ) where
   unfolding forbids
   says_forbids h f = elim f [
     | inl x ↦ or_left (eqb h w) (leads_below (above_all es) es w h) (eq-eqb h w x)
-    | inr x ↦ or_right (eqb h w) (leads_below (above_all es) es w h) ((leads_reaches es (above_all es) (edge_below es) w h).1 x)
+    | inr x ↦ or_right (eqb h w) (leads_below (above_all es) es w h)
+        ((leads_reaches es (above_all es) (edge_below es) w h).1 x)
   ]
 
   forbids_not : (h : ℕ) → forbids es h w ≡ false → Forbids es h w → ⊥

@@ -34,15 +34,18 @@ unheld_of l (h ∷ hs) e =
 -- so the locks of the list are apart
 pub apart_once : (hs : List Held) → ((l : ℕ) → holds_of l hs ≤ 1) → Apart hs
 apart_once [] once = tt
-apart_once (h ∷ hs) once =
-    (unheld_of h.l.0 hs (omega (arith, counted h.l.0 h.l.0 refl, once h.l.0)), apart_once hs (λ l. omega (arith, once l)))
+apart_once (h ∷ hs) once = (
+  unheld_of h.l.0 hs (omega (arith, counted h.l.0 h.l.0 refl, once h.l.0)),
+  apart_once hs (λ l. omega (arith, once l)),
+)
 
 -- with one lock more
 holds_of-push : (l : ℕ) (hs : List Held) (x : Held) → holds_of l (hs ++ x ∷ []) ≡ holds_of l hs + cond (x.l.0 == l) 1 0
 holds_of-push l [] x = omega arith
 holds_of-push l (h ∷ hs) x = omega (arith, holds_of-push l hs x)
 
-pub once_push : (hs : List Held) (x : Held) → hold_in hs x.l.0 ≡ NotHeld → ((l : ℕ) → holds_of l hs ≤ 1) → (l : ℕ) → holds_of l (hs ++ x ∷ []) ≤ 1
+pub once_push : (hs : List Held) (x : Held) → hold_in hs x.l.0 ≡ NotHeld → ((l : ℕ) → holds_of l hs ≤ 1) → (l : ℕ)
+    → holds_of l (hs ++ x ∷ []) ≤ 1
 once_push hs x new once l =
     elim (cases_eq x.l.0 l) [
       | inl e ↦
@@ -60,23 +63,30 @@ holds_of-without k l (h ∷ hs) =
       | false ↦ omega (arith, holds_of-without k l hs)
     ]
 
-pub once_without : (l : ℕ) (hs : List Held) → ((k : ℕ) → holds_of k hs ≤ 1) → (k : ℕ) → holds_of k (without_lock l hs) ≤ 1
+pub once_without : (l : ℕ) (hs : List Held) → ((k : ℕ) → holds_of k hs ≤ 1) → (k : ℕ)
+    → holds_of k (without_lock l hs) ≤ 1
 once_without l hs once k = omega (arith, holds_of-without k l hs, once k)
 
 -- 2. The column of what is held
 
-pub column_push : (held : ℕ → ℕ → Hold) (t : ℕ) (hs : List Held) (x : Held) → held t x.l.0 ≡ NotHeld → ((l : ℕ) → hold_in hs l ≡ held t l) → (l : ℕ) → hold_in (hs ++ x ∷ []) l ≡ put_at held t x.l.0 (Holds x.mode) t l
+pub column_push : (held : ℕ → ℕ → Hold) (t : ℕ) (hs : List Held) (x : Held) → held t x.l.0 ≡ NotHeld
+    → ((l : ℕ) → hold_in hs l ≡ held t l) → (l : ℕ) → hold_in (hs ++ x ∷ []) l ≡ put_at held t x.l.0 (Holds x.mode) t l
 column_push held t hs x new shows l =
     let pushed = hold_in-push hs x l (shows x.l.0 ∙ new) in
     elim (cases_eq x.l.0 l) [
-      | inl e ↦ pushed ∙ ap (λ b. cond b (Holds x.mode) (hold_in hs l)) (eq-eqb x.l.0 l e) ∙ sym (put_at_same held t x.l.0 (Holds x.mode)) ∙ ap (put_at held t x.l.0 (Holds x.mode) t) e
-      | inr e ↦ pushed ∙ ap (λ b. cond b (Holds x.mode) (hold_in hs l)) (ne_eqb x.l.0 l e) ∙ shows l ∙ sym (put_at_beside held t x.l.0 (Holds x.mode) t l e)
+      | inl e ↦ pushed ∙ ap (λ b. cond b (Holds x.mode) (hold_in hs l)) (eq-eqb x.l.0 l e)
+          ∙ sym (put_at_same held t x.l.0 (Holds x.mode)) ∙ ap (put_at held t x.l.0 (Holds x.mode) t) e
+      | inr e ↦ pushed ∙ ap (λ b. cond b (Holds x.mode) (hold_in hs l)) (ne_eqb x.l.0 l e) ∙ shows l
+          ∙ sym (put_at_beside held t x.l.0 (Holds x.mode) t l e)
     ]
 
-pub column_without : (held : ℕ → ℕ → Hold) (t l : ℕ) (hs : List Held) → ((k : ℕ) → holds_of k hs ≤ 1) → ((k : ℕ) → hold_in hs k ≡ held t k) → (k : ℕ) → hold_in (without_lock l hs) k ≡ put_at held t l NotHeld t k
+pub column_without : (held : ℕ → ℕ → Hold) (t l : ℕ) (hs : List Held) → ((k : ℕ) → holds_of k hs ≤ 1)
+    → ((k : ℕ) → hold_in hs k ≡ held t k) → (k : ℕ) → hold_in (without_lock l hs) k ≡ put_at held t l NotHeld t k
 column_without held t l hs once shows k =
     let left = hold_in-without l hs k (apart_once hs once) in
     elim (cases_eq l k) [
-      | inl e ↦ left ∙ ap (λ b. cond b NotHeld (hold_in hs k)) (eq-eqb l k e) ∙ sym (put_at_same held t l NotHeld) ∙ ap (put_at held t l NotHeld t) e
-      | inr e ↦ left ∙ ap (λ b. cond b NotHeld (hold_in hs k)) (ne_eqb l k e) ∙ shows k ∙ sym (put_at_beside held t l NotHeld t k e)
+      | inl e ↦ left ∙ ap (λ b. cond b NotHeld (hold_in hs k)) (eq-eqb l k e) ∙ sym (put_at_same held t l NotHeld)
+          ∙ ap (put_at held t l NotHeld t) e
+      | inr e ↦ left ∙ ap (λ b. cond b NotHeld (hold_in hs k)) (ne_eqb l k e) ∙ shows k
+          ∙ sym (put_at_beside held t l NotHeld t k e)
     ]

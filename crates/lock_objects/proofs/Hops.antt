@@ -21,9 +21,11 @@ use Rattle.lock_objects.proofs.Queues.{SameQueue, IsHead, there, queues_placed}
 -- 1. A lend
 
 -- a lock whose turnstile has an owner is of a kind with turnstiles
-pub owned_turnstile : (c : Config) (s : State) (l o : ℕ) → Lawful c s → s.owner (lock_queue l) ≡ Some o → is_turnstile (c.kind l) ≡ true
+pub owned_turnstile : (c : Config) (s : State) (l o : ℕ) → Lawful c s → s.owner (lock_queue l) ≡ Some o
+    → is_turnstile (c.kind l) ≡ true
 unfolding OwnersHold
-owned_turnstile c s l o lawful owned = go (is_turnstile (c.kind l)) (s.head (lock_queue l)) (sym (lawful.loans.owners_hold l) ∙ owned)
+owned_turnstile c s l o lawful owned =
+    go (is_turnstile (c.kind l)) (s.head (lock_queue l)) (sym (lawful.loans.owners_hold l) ∙ owned)
   where
     go : (b : Bool) (x : Option ℕ) → owner_if b x (s.word l).holder ≡ Some o → b ≡ true
     go true x e = refl
@@ -54,11 +56,16 @@ module _ (c : Config) (s : State) (t l o h : ℕ) (lawful : Lawful c s) (g : May
       owned = sym its_owner ∙ g.owned ∙ ap Some (sym (ap (λ v. v.thread) rec.columns));
     })
 
-    pub lend_queues : {new : List (QueueName × Turnstile)} → IfSome (head_of q chain) (λ d. new ≡ (q, with_contents (with_loan_home false d.contents) d) ∷ without q chain) → RepresentsQueues c new (queue_in n) n.loan_home
+    pub lend_queues : {new : List (QueueName × Turnstile)}
+        → IfSome (head_of q chain) (λ d. new ≡ (q, with_contents (with_loan_home false d.contents) d) ∷ without q chain)
+        → RepresentsQueues c new (queue_in n) n.loan_home
     unfolding after_lend
-    lend_queues made = queues_lent c s l o h lawful g.lock turnstile g.head shows s.owner (λ d. d.own.owner) its_owner (λ k d. refl) made
+    lend_queues made = queues_lent c s l o h lawful g.lock turnstile g.head shows s.owner (λ d. d.own.owner) its_owner
+        (λ k d. refl) made
 
-    module _ {r m : Record} (rec : RepresentsRecord r (record_in s o)) (other : m ≡ with_loans m.loans r) (fits : IsWellFormed m) (lent : IfSome (head_of q chain) (λ d. loan_for l m.loans ≡ loan_by l d.contents)) (same : (k : ℕ) → k ≢ l → loan_for k m.loans ≡ loan_for k r.loans) where
+    module _ {r m : Record} (rec : RepresentsRecord r (record_in s o)) (other : m ≡ with_loans m.loans r)
+        (fits : IsWellFormed m) (lent : IfSome (head_of q chain) (λ d. loan_for l m.loans ≡ loan_by l d.contents))
+        (same : (k : ℕ) → k ≢ l → loan_for k m.loans ≡ loan_for k r.loans) where
       pub lend_record : RepresentsRecord m (record_in n o)
       unfolding after_lend
       lend_record = record_lent c s l o h lawful g.lock turnstile g.head found.0 found.2 rec other fits.one_loan_each
@@ -68,12 +75,14 @@ module _ (c : Config) (s : State) (t l o h : ℕ) (lawful : Lawful c s) (g : May
           its_loan = subst (λ (x : Option Turnstile). IfSome x (λ d. loan_for l m.loans ≡ loan_by l d.contents)) found.1
               lent
 
-      pub lend_walk : {w : Walk} {on : Bool} → w ≡ hops.walk_to r.thread (not (m.effective == r.effective) && on) → on ≡ names_turnstile c r.on → walk_of w ≡ n.walk t
+      pub lend_walk : {w : Walk} {on : Bool} → w ≡ hops.walk_to r.thread (not (m.effective == r.effective) && on)
+          → on ≡ names_turnstile c r.on → walk_of w ≡ n.walk t
       unfolding after_lend
       lend_walk is on_one =
           let e = ap (λ v. v.effective) lend_record.columns ∙ put_same s.effective o _ in
           ap walk_of is ∙ to_shown r.thread _
-          ∙ (λ i. moves.walk_to (rec.columns i).thread (not (e i == (rec.columns i).effective) && (on_one ∙ ap (λ v. names_turnstile c v.blocked_on) rec.columns) i))
+          ∙ (λ i. moves.walk_to (rec.columns i).thread
+          (not (e i == (rec.columns i).effective) && (on_one ∙ ap (λ v. names_turnstile c v.blocked_on) rec.columns) i))
           ∙ sym (put_same s.walk t _)
         where
           to_shown : (u : ℕ) (b : Bool) → walk_of (hops.walk_to u b) ≡ moves.walk_to u b
@@ -95,7 +104,8 @@ module _ (c : Config) (s : State) (t l h : ℕ) (by_try : Bool) (lawful : Lawful
     where
       go : (x : Option ℕ) → s.owner (lock_queue l) ≡ x → x ≡ None
       go None e = refl
-      go (Some o) e = absurd (let z = sym g.free ∙ ap is_free (owner_is c s o l lawful (owner_holds c s l o lawful e)) in cc)
+      go (Some o) e =
+          absurd (let z = sym g.free ∙ ap is_free (owner_is c s o l lawful (owner_holds c s l o lawful e)) in cc)
 
   -- and nothing is lent for it
   unlent : s.loan t l ≡ None
@@ -106,7 +116,8 @@ module _ (c : Config) (s : State) (t l h : ℕ) (by_try : Bool) (lawful : Lawful
       go (Some y) e = absurd (let z = sym g.unheld ∙ (laws.loans c s t l y lawful e).1 in cc)
 
   carries : number_of (s.loan t l) ≡ out_of (s.loan_home h) h
-  carries = ap number_of unlent ∙ sym (ap (λ b. out_of b h) (unowned_home c s l h lawful g.lock of_turnstile g.head unowned))
+  carries = ap number_of unlent
+      ∙ sym (ap (λ b. out_of b h) (unowned_home c s l h lawful g.lock of_turnstile g.head unowned))
 
   -- the other queues stay,
   pub claimed_others : (k : ℕ) → k ≢ l → is_turnstile (c.kind k) ≡ true
@@ -138,7 +149,8 @@ module _ (c : Config) (s : State) (t l h : ℕ) (by_try : Bool) (lawful : Lawful
           (lent_for l d.contents r.loans can_claim_it.carried can_claim_it.some_wait)
           (lent_others l d.contents r.loans) (put_queue s.owner (lock_queue l) (Some t))
 
-  module _ {chain : List (QueueName × Turnstile)} (shows : RepresentsQueues c chain (queue_in s) s.loan_home) {r : Record} (rec : RepresentsRecord r (record_in s t)) where
+  module _ {chain : List (QueueName × Turnstile)} (shows : RepresentsQueues c chain (queue_in s) s.loan_home)
+      {r : Record} (rec : RepresentsRecord r (record_in s t)) where
     abbrev there_before : IsHead (queue_in s (lock_queue l)) s.loan_home (head_of (lock_queue l) chain)
     there_before = lent.its_head c s l t h lawful g.lock of_turnstile g.head shows
 
@@ -169,7 +181,9 @@ module _ (c : Config) (s : State) (t o l : ℕ) (lawful : Lawful c s) (g : MaySh
 
   module _ {chain : List (QueueName × Turnstile)} (shows : RepresentsQueues c chain (queue_in s) s.loan_home) where
     its_head : IsHead (queue_in s (lock_queue l)) s.loan_home (head_of (lock_queue l) chain)
-    its_head = let x = standing_head c s o (lock_queue l) lawful g.stands in there (head_of (lock_queue l) chain) (queue_in s (lock_queue l)) s.loan_home x.0 (shows.lock l g.turnstile) x.1
+    its_head =
+        let x = standing_head c s o (lock_queue l) lawful g.stands in
+        there (head_of (lock_queue l) chain) (queue_in s (lock_queue l)) s.loan_home x.0 (shows.lock l g.turnstile) x.1
 
     abbrev box : Contents
     box = its_head.0.contents
@@ -178,38 +192,56 @@ module _ (c : Config) (s : State) (t o l : ℕ) (lawful : Lawful c s) (g : MaySh
     lists_are = ap (λ v. v.lists) its_head.2.queue
 
     it_waits : waits o box ≡ true
-    it_waits = ap (λ (ls : Lists). ltb 0 (stands o ls)) (sym lists_are) ∙ lt-ltb 0 (stands o (s.lists (lock_queue l))) g.stands
+    it_waits = ap (λ (ls : Lists). ltb 0 (stands o ls)) (sym lists_are)
+        ∙ lt-ltb 0 (stands o (s.lists (lock_queue l))) g.stands
 
-    pub waits_there : {r : Record} → RepresentsRecord r (record_in s o) → IsSomeAnd (head_of (lock_queue l) chain) (λ b. waits r.thread b.contents ≡ true)
-    waits_there {r = r} rec = subst (λ (x : Option Turnstile). IsSomeAnd x (λ b. waits r.thread b.contents ≡ true)) (sym its_head.1) (ap (λ u. waits u box) (ap (λ v. v.thread) rec.columns) ∙ it_waits)
+    pub waits_there : {r : Record} → RepresentsRecord r (record_in s o)
+        → IsSomeAnd (head_of (lock_queue l) chain) (λ b. waits r.thread b.contents ≡ true)
+    waits_there {r = r} rec = subst (λ (x : Option Turnstile). IsSomeAnd x (λ b. waits r.thread b.contents ≡ true))
+        (sym its_head.1) (ap (λ u. waits u box) (ap (λ v. v.thread) rec.columns) ∙ it_waits)
 
     sorted : RepresentsHead (moved o (s.effective o) box) (queue_in behind (lock_queue l)) behind.loan_home
     unfolding after_shift
     sorted = record {
-      queue = (λ i. record (queue_in s (lock_queue l)) { lists = put_lock_same s.lists l (with_kept o (s.effective o) (s.lists (lock_queue l))) i })
+      queue = (λ i. record (queue_in s
+          (lock_queue l)) { lists = put_lock_same s.lists l (with_kept o (s.effective o) (s.lists (lock_queue l))) i })
           ∙ (λ i. record (its_head.2.queue i) { lists = with_kept o (s.effective o) (lists_are i) });
       loan_home = its_head.2.loan_home;
     }
 
-    others_stay : (k : ℕ) → k ≢ l → is_turnstile (c.kind k) ≡ true → SameQueue (queue_in s) (queue_in behind) s.loan_home behind.loan_home (lock_queue k)
+    others_stay : (k : ℕ) → k ≢ l → is_turnstile (c.kind k) ≡ true
+        → SameQueue (queue_in s) (queue_in behind) s.loan_home behind.loan_home (lock_queue k)
     unfolding after_shift
-    others_stay k d j = record { queue = λ i. record (queue_in s (lock_queue k)) { lists = put_lock_other s.lists l (with_kept o (s.effective o) (s.lists (lock_queue l))) k (λ e. d (sym e)) i }; loan_home = λ x e. refl }
+    others_stay k d j = record {
+      queue = λ i. record (queue_in s (lock_queue k)) {
+        lists = put_lock_other s.lists l (with_kept o (s.effective o) (s.lists (lock_queue l))) k (λ e. d (sym e)) i;
+      };
+      loan_home = λ x e. refl;
+    }
 
     pub shift_queues : {new : List (QueueName × Turnstile)} {r : Record} → RepresentsRecord r (record_in s o)
-        → IfSome (head_of (lock_queue l) chain) (λ h. new ≡ (lock_queue l, with_contents (moved r.thread r.effective h.contents) h) ∷ without (lock_queue l) chain)
+        → IfSome (head_of (lock_queue l) chain) (λ h. new
+        ≡ (lock_queue l, with_contents (moved r.thread r.effective h.contents) h) ∷ without (lock_queue l) chain)
         → RepresentsQueues c new (queue_in behind) behind.loan_home
     shift_queues {new = new} {r = r} rec made =
         let h : Turnstile = its_head.0 in
         let is : new ≡ (lock_queue l, with_contents (moved o (s.effective o) box) h) ∷ without (lock_queue l) chain =
-        subst (λ (x : Option Turnstile). IfSome x (λ b. new ≡ (lock_queue l, with_contents (moved r.thread r.effective b.contents) b) ∷ without (lock_queue l) chain)) its_head.1 made
-        ∙ (λ i. (lock_queue l, with_contents (moved (rec.columns i).thread (rec.columns i).effective box) h) ∷ without (lock_queue l) chain) in
-        subst (λ v. RepresentsQueues c v (queue_in behind) behind.loan_home) (sym is) (queues_placed l shows others_stay (with_contents (moved o (s.effective o) box) h) sorted)
+        subst (λ (x : Option Turnstile). IfSome x (λ b. new
+        ≡ (lock_queue l, with_contents (moved r.thread r.effective b.contents) b) ∷ without (lock_queue l) chain))
+        its_head.1 made
+        ∙ (λ i. (lock_queue l, with_contents (moved (rec.columns i).thread (rec.columns i).effective box) h)
+        ∷ without (lock_queue l) chain) in
+        subst (λ v. RepresentsQueues c v (queue_in behind) behind.loan_home) (sym is)
+        (queues_placed l shows others_stay (with_contents (moved o (s.effective o) box) h) sorted)
 
-    pub shift_walk : {w : Walk} (owned : Bool) → IfSome (head_of (lock_queue l) chain) (λ h. owned ≡ is_some h.contents.own.owner) → w ≡ hops.walk_up l owned → walk_of w ≡ behind.walk t
+    pub shift_walk : {w : Walk} (owned : Bool) → IfSome (head_of (lock_queue l) chain)
+        (λ h. owned ≡ is_some h.contents.own.owner) → w ≡ hops.walk_up l owned → walk_of w ≡ behind.walk t
     unfolding after_shift
     shift_walk owned tells is =
         ap walk_of is
-        ∙ ap (λ b. walk_of (hops.walk_up l b)) (subst (λ (x : Option Turnstile). IfSome x (λ b. owned ≡ is_some b.contents.own.owner)) its_head.1 tells ∙ ap is_some (sym (ap (λ v. v.owner) its_head.2.queue)))
+        ∙ ap (λ b. walk_of (hops.walk_up l b))
+        (subst (λ (x : Option Turnstile). IfSome x (λ b. owned ≡ is_some b.contents.own.owner)) its_head.1 tells
+        ∙ ap is_some (sym (ap (λ v. v.owner) its_head.2.queue)))
         ∙ up_shown (s.owner (lock_queue l)) ∙ sym (put_same s.walk t (walk_up l (s.owner (lock_queue l))))
       where
         up_shown : (x : Option ℕ) → walk_of (hops.walk_up l (is_some x)) ≡ walk_up l x

@@ -20,7 +20,8 @@ out_shown : (b : Bool) (n : ℕ) → out_of b n ≡ cond b None (Some n)
 out_shown true n = refl
 out_shown false n = refl
 
-module _ (c : Config) (s : State) (l o h : ℕ) (lawful : Lawful c s) (lock : l < c.locks) (turnstile : is_turnstile (c.kind l) ≡ true) (head : s.head (lock_queue l) ≡ Some h) where
+module _ (c : Config) (s : State) (l o h : ℕ) (lawful : Lawful c s) (lock : l < c.locks)
+    (turnstile : is_turnstile (c.kind l) ≡ true) (head : s.head (lock_queue l) ≡ Some h) where
   abbrev q : QueueName
   q = lock_queue l
 
@@ -85,7 +86,9 @@ module _ (c : Config) (s : State) (l o h : ℕ) (lawful : Lawful c s) (lock : l 
     loan_made = go (best box) ∙ ap (moves.loan_of box.number) (ap (λ v. least_of v.lists) (sym old.queue))
         ∙ ap (λ i. moves.loan_of i (least_of (s.lists q))) is_head
       where
-        go : (x : Option ℕ) → option_map loan_of (option_map (λ p. let y : Terms = record { number = box.number; lock = l; prio = p } in y) x) ≡ moves.loan_of box.number x
+        go : (x : Option ℕ) → option_map loan_of
+            (option_map (λ p. let y : Terms = record { number = box.number; lock = l; prio = p } in y) x)
+            ≡ moves.loan_of box.number x
         go None = refl
         go (Some p) = refl
 
@@ -101,12 +104,16 @@ module _ (c : Config) (s : State) (l o h : ℕ) (lawful : Lawful c s) (lock : l 
           ]
 
       beyond : (k : ℕ) → c.locks ≤ k → put (s.loan o) l new_loan k ≡ None
-      beyond k above = put_other (s.loan o) l new_loan k (λ e. omega (arith, e, lock)) ∙ none_beyond c s o lawful k above
+      beyond k above = put_other (s.loan o) l new_loan k (λ e. omega (arith, e, lock))
+          ∙ none_beyond c s o lawful k above
 
       pub record_lent : (owners : QueueName → Option ℕ) → RepresentsRecord m (record_in (lent owners) o)
       record_lent owners =
           subst (λ v. RepresentsRecord v (record_in (lent owners) o)) (sym with_it)
-          (subst (RepresentsRecord (with_loans m.loans r)) (sym (λ i. record (record_in s o) { loan = λ k. put_at_row s.loan o l new_loan k i; effective = put_same s.effective o (effective_of c (put (s.loan o) l new_loan) (s.base o)) i }))
+          (subst (RepresentsRecord (with_loans m.loans r)) (sym (λ i. record (record_in s o) {
+            loan = λ k. put_at_row s.loan o l new_loan k i;
+            effective = put_same s.effective o (effective_of c (put (s.loan o) l new_loan) (s.base o)) i;
+          }))
           (with_other_loans c m.loans (put (s.loan o) l new_loan) loans_shown one_each beyond rec))
 
   -- 4. The chain

@@ -10,7 +10,8 @@ use Rattle.std.proofs.Common.{◌≡◌, ◌≢◌, ◌≤◌, ◌∷◌, ◌∙
 pub has_loan-is_some : (l : ℕ) (loans : List Terms) → has_loan l loans ≡ is_some (loan_for l loans)
 has_loan-is_some l loans = has_is_some l loans
 
-pub loan_for-dropped : (k l : ℕ) (loans : List Terms) → loans_for l loans ≤ 1 → k ≡ l → loan_for k (without_loan l loans) ≡ None
+pub loan_for-dropped : (k l : ℕ) (loans : List Terms) → loans_for l loans ≤ 1 → k ≡ l
+    → loan_for k (without_loan l loans) ≡ None
 loan_for-dropped k l loans one e = ap (λ i. loan_for i (without_loan l loans)) e ∙ loan_dropped l loans one
 
 pub loan_for-others : (k l : ℕ) (loans : List Terms) → k ≢ l → loan_for k (without_loan l loans) ≡ loan_for k loans
@@ -23,16 +24,19 @@ abbrev pub prio_for : ℕ → List Terms → Option ℕ
 prio_for l loans = option_map (λ t. t.prio) (loan_for l loans)
 
 prio_for-first : (l : ℕ) (t : Terms) (ts : List Terms) → t.lock ≡ l → prio_for l (t ∷ ts) ≡ Some t.prio
-prio_for-first l t ts e = ap (λ b. option_map (λ (u : Terms). u.prio) (cond b (Some t) (loan_for l ts))) (eq-eqb t.lock l e)
+prio_for-first l t ts e =
+    ap (λ b. option_map (λ (u : Terms). u.prio) (cond b (Some t) (loan_for l ts))) (eq-eqb t.lock l e)
 
 prio_for-behind : (l : ℕ) (t : Terms) (ts : List Terms) → t.lock ≢ l → prio_for l (t ∷ ts) ≡ prio_for l ts
-prio_for-behind l t ts ne = ap (λ b. option_map (λ (u : Terms). u.prio) (cond b (Some t) (loan_for l ts))) (ne_eqb t.lock l ne)
+prio_for-behind l t ts ne =
+    ap (λ b. option_map (λ (u : Terms). u.prio) (cond b (Some t) (loan_for l ts))) (ne_eqb t.lock l ne)
 
 -- there is no second loan for a lock
 none_behind : (l : ℕ) (t : Terms) (ts : List Terms) → t.lock ≡ l → loans_for l (t ∷ ts) ≤ 1 → prio_for l ts ≡ None
 none_behind l t ts e one =
     let dropped : loan_for l (cond (eqb t.lock l) ts (t ∷ without_loan l ts)) ≡ None = loan_dropped l (t ∷ ts) one in
-    ap (λ o. option_map (λ (u : Terms). u.prio) o) (ap (λ b. loan_for l (cond b ts (t ∷ without_loan l ts))) (sym (eq-eqb t.lock l e)) ∙ dropped)
+    ap (λ o. option_map (λ (u : Terms). u.prio) o)
+    (ap (λ b. loan_for l (cond b ts (t ∷ without_loan l ts))) (sym (eq-eqb t.lock l e)) ∙ dropped)
 
 one_behind : (l : ℕ) (t : Terms) (ts : List Terms) → loans_for l (t ∷ ts) ≤ 1 → loans_for l ts ≤ 1
 one_behind l t ts one = omega arith
@@ -44,7 +48,8 @@ least_with-le_base base [] = omega arith
 least_with-le_base base (t ∷ ts) = omega (arith, least_with-le_base base ts)
 
 -- it is no greater than what is lent for a lock
-least_with-le : (base : ℕ) (loans : List Terms) (l p : ℕ) → prio_for l loans ≡ Some p → least_with base (prios loans) ≤ p
+least_with-le : (base : ℕ) (loans : List Terms) (l p : ℕ) → prio_for l loans ≡ Some p
+    → least_with base (prios loans) ≤ p
 least_with-le base [] l p e = absurd cc
 least_with-le base (t ∷ ts) l p e =
     elim (cases_eq t.lock l) [
@@ -53,7 +58,8 @@ least_with-le base (t ∷ ts) l p e =
     ]
 
 -- what is no greater than the base and each that is lent is no greater than it
-least_with-above : (base m : ℕ) (loans : List Terms) → ((l : ℕ) → loans_for l loans ≤ 1) → ((l p : ℕ) → prio_for l loans ≡ Some p → m ≤ p) → m ≤ base → m ≤ least_with base (prios loans)
+least_with-above : (base m : ℕ) (loans : List Terms) → ((l : ℕ) → loans_for l loans ≤ 1)
+    → ((l p : ℕ) → prio_for l loans ≡ Some p → m ≤ p) → m ≤ base → m ≤ least_with base (prios loans)
 least_with-above base m [] one each le = le
 least_with-above base m (t ∷ ts) one each le =
     let here : m ≤ t.prio = each t.lock t.prio (prio_for-first t.lock t ts refl) in
@@ -71,11 +77,13 @@ least_with-above base m (t ∷ ts) one each le =
 -- The least of a base and the loans is that of a column with what is lent for each lock below n, where nothing is
 -- lent for others
 pub least_with-by_lock : (n base : ℕ) (loans : List Terms) (f : ℕ → Option ℕ)
-    → ((l : ℕ) → option_map (λ t. t.prio) (loan_for l loans) ≡ f l) → ((l : ℕ) → n ≤ l → f l ≡ None) → ((l : ℕ) → loans_for l loans ≤ 1)
+    → ((l : ℕ) → option_map (λ t. t.prio) (loan_for l loans) ≡ f l) → ((l : ℕ) → n ≤ l → f l ≡ None)
+    → ((l : ℕ) → loans_for l loans ≤ 1)
     → least_with base (prios loans) ≡ least n f base
 least_with-by_lock n base loans f same above one =
     let down : least_with base (prios loans) ≤ least n f base =
-    least-above n f base (least_with base (prios loans)) (λ l p k e. least_with-le base loans l p (same l ∙ e)) (least_with-le_base base loans) in
+    least-above n f base (least_with base (prios loans)) (λ l p k e. least_with-le base loans l p (same l ∙ e))
+    (least_with-le_base base loans) in
     let up : least n f base ≤ least_with base (prios loans) =
     least_with-above base (least n f base) loans one
     (λ l p e. elim (cases_lt l n) [

@@ -19,22 +19,38 @@ prio_seen None = refl
 prio_seen (Some t) = refl
 
 -- the least of a base and the loans of a list is that of the base and the loans by lock
-effective_seen : (c : Config) (ts : List Terms) (f : ℕ → Option Loan) (base : ℕ) → ((l : ℕ) → option_map loan_of (loan_for l ts) ≡ f l) → ((l : ℕ) → loans_for l ts ≤ 1) → ((l : ℕ) → c.locks ≤ l → f l ≡ None)
+effective_seen : (c : Config) (ts : List Terms) (f : ℕ → Option Loan) (base : ℕ)
+    → ((l : ℕ) → option_map loan_of (loan_for l ts) ≡ f l) → ((l : ℕ) → loans_for l ts ≤ 1)
+    → ((l : ℕ) → c.locks ≤ l → f l ≡ None)
     → least_with base (prios ts) ≡ effective_of c f base
 effective_seen c ts f base shown one beyond =
-    least_with-by_lock c.locks base ts (λ l. prio_of (f l)) (λ l. prio_seen (loan_for l ts) ∙ ap prio_of (shown l)) (λ l above. ap prio_of (beyond l above)) one
+    least_with-by_lock c.locks base ts (λ l. prio_of (f l)) (λ l. prio_seen (loan_for l ts) ∙ ap prio_of (shown l))
+    (λ l above. ap prio_of (beyond l above)) one
 
 -- other loans
-pub with_other_loans : (c : Config) (ts : List Terms) (f : ℕ → Option Loan) {r : Record} {x : RecordColumns} → ((l : ℕ) → option_map loan_of (loan_for l ts) ≡ f l) → ((l : ℕ) → loans_for l ts ≤ 1) → ((l : ℕ) → c.locks ≤ l → f l ≡ None)
-    → RepresentsRecord r x → RepresentsRecord (with_loans ts r) (record x { loan = f; effective = effective_of c f x.base })
+pub with_other_loans : (c : Config) (ts : List Terms) (f : ℕ → Option Loan) {r : Record} {x : RecordColumns}
+    → ((l : ℕ) → option_map loan_of (loan_for l ts) ≡ f l) → ((l : ℕ) → loans_for l ts ≤ 1)
+    → ((l : ℕ) → c.locks ≤ l → f l ≡ None)
+    → RepresentsRecord r x
+    → RepresentsRecord (with_loans ts r) (record x { loan = f; effective = effective_of c f x.base })
 with_other_loans c ts f {r = r} {x = x} shown one beyond h = record {
-  columns = λ i. record (h.columns i) { loan = λ l. shown l i; effective = (ap (λ b. least_with b (prios ts)) (ap (λ v. v.base) h.columns) ∙ effective_seen c ts f x.base shown one beyond) i };
+  columns = λ i. record (h.columns i) {
+    loan = λ l. shown l i;
+    effective =
+        (ap (λ b. least_with b (prios ts)) (ap (λ v. v.base) h.columns) ∙ effective_seen c ts f x.base shown one beyond)
+        i;
+  };
   one_loan_each = one;
 }
 
 -- another base
-pub with_other_base : (c : Config) (p : ℕ) {r : Record} {x : RecordColumns} → ((l : ℕ) → c.locks ≤ l → x.loan l ≡ None) → RepresentsRecord r x → RepresentsRecord (with_base p r) (record x { base = p; effective = effective_of c x.loan p })
+pub with_other_base : (c : Config) (p : ℕ) {r : Record} {x : RecordColumns} → ((l : ℕ) → c.locks ≤ l → x.loan l ≡ None)
+    → RepresentsRecord r x
+    → RepresentsRecord (with_base p r) (record x { base = p; effective = effective_of c x.loan p })
 with_other_base c p {r = r} {x = x} beyond h = record {
-  columns = λ i. record (h.columns i) { base = p; effective = effective_seen c r.loans x.loan p (λ l. ap (λ v. v.loan l) h.columns) h.one_loan_each beyond i };
+  columns = λ i. record (h.columns i) {
+    base = p;
+    effective = effective_seen c r.loans x.loan p (λ l. ap (λ v. v.loan l) h.columns) h.one_loan_each beyond i;
+  };
   one_loan_each = h.one_loan_each;
 }

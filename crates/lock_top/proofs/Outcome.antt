@@ -36,14 +36,19 @@ lawful_state plan n proper =
       ordered = on.ordered;
       no_cycle = no_cycle (config_of plan) (state_behind plan n) on.ordered;
       taken = on.taken;
-      best = λ still free t within. effective (config_of plan) (state_behind plan n) t on.lawful.lawful still free within;
+      best =
+          λ still free t within. effective (config_of plan) (state_behind plan n) t on.lawful.lawful still free within;
     }
 
 -- a lawful state's tables are what its history leaves
-last_tables : (plan : Plan) (chains turns : ℕ) → Lawful (config_of plan) (state_behind plan turns) → TellsTables (state_behind plan turns) (scheduled_run plan chains turns).tables
+last_tables : (plan : Plan) (chains turns : ℕ) → Lawful (config_of plan) (state_behind plan turns)
+    → TellsTables (state_behind plan turns) (scheduled_run plan chains turns).tables
 unfolding scheduled_run value_at
-last_tables plan chains turns lawful =
-    (tables_of (state_behind plan turns).history, refl, λ l k. sym (tables (config_of plan) (state_behind plan turns) l k lawful))
+last_tables plan chains turns lawful = (
+  tables_of (state_behind plan turns).history,
+  refl,
+  λ l k. sym (tables (config_of plan) (state_behind plan turns) l k lawful),
+)
 
 lawful_run : (plan : Plan) (chains turns : ℕ) → IsProper plan → IsLawfulRun plan chains turns
 unfolding scheduled_run
@@ -54,7 +59,8 @@ lawful_run plan chains turns proper = record {
   replay = ap (λ (h : List Entry). entries (tables_of h)) (sym (reverse-reverse (state_behind plan turns).history));
 }
 
-pub accepted_lawful : (bytes : List ℕ) (plan : Plan) (chains turns : ℕ) → IsAccepted bytes plan → IsLawfulRun plan chains turns
+pub accepted_lawful : (bytes : List ℕ) (plan : Plan) (chains turns : ℕ) → IsAccepted bytes plan
+    → IsLawfulRun plan chains turns
 accepted_lawful bytes plan chains turns accepted = lawful_run plan chains turns (accepted_proper bytes plan accepted)
 
 -- What belongs to a script of locks is what belongs to its plan.

@@ -17,5 +17,6 @@ pub no_path : {a b : ℕ} → Reaches [] a b → ⊥
 no_path e = grind arith
 
 pub begins : (c : Config) → Ordered c (start_state c)
-unfolding start_state HasNoCycle WantsAreOrdered HoldsAreOrdered SleepersAreOrdered WokenAreOrdered AbortedWant HaltsAreOrdered TakesAreInGraph
+unfolding start_state HasNoCycle WantsAreOrdered HoldsAreOrdered SleepersAreOrdered WokenAreOrdered AbortedWant
+    HaltsAreOrdered TakesAreInGraph
 begins c = grind arith

@@ -39,15 +39,18 @@ one_stands : (o : Option Terms) (n : ℕ) → option_map (λ t. t.number) o ≡ 
 one_stands None n e = cc
 one_stands (Some t) n e = refl
 
-carried_out : (l : ℕ) (ts : List Terms) (c : Contents) → c.own.lock ≡ Some l → IfSome c.own.lock (λ k. carrier_for k ts ≡ node_out c) → c.own.loan_home ≡ false → carrier_for l ts ≡ Some c.number
+carried_out : (l : ℕ) (ts : List Terms) (c : Contents) → c.own.lock ≡ Some l → IfSome c.own.lock
+    (λ k. carrier_for k ts ≡ node_out c) → c.own.loan_home ≡ false → carrier_for l ts ≡ Some c.number
 carried_out l ts c e h out = rw e at h ∙ rw out refl
 
 -- none stands where the node is at home
-pub stands_not : (l : ℕ) (ts : List Terms) (c : Contents) → c.own.lock ≡ Some l → IfSome c.own.lock (λ k. carrier_for k ts ≡ node_out c) → c.own.loan_home ≡ true → has_loan l ts ≡ false
+pub stands_not : (l : ℕ) (ts : List Terms) (c : Contents) → c.own.lock ≡ Some l
+    → IfSome c.own.lock (λ k. carrier_for k ts ≡ node_out c) → c.own.loan_home ≡ true → has_loan l ts ≡ false
 stands_not l ts c e h home = has_is_some l ts ∙ none_stands (loan_for l ts) (rw e at h ∙ rw home refl)
 
 -- one stands where it is out
-pub stands : (l : ℕ) (ts : List Terms) (c : Contents) → c.own.lock ≡ Some l → IfSome c.own.lock (λ k. carrier_for k ts ≡ node_out c) → c.own.loan_home ≡ false → has_loan l ts ≡ true
+pub stands : (l : ℕ) (ts : List Terms) (c : Contents) → c.own.lock ≡ Some l
+    → IfSome c.own.lock (λ k. carrier_for k ts ≡ node_out c) → c.own.loan_home ≡ false → has_loan l ts ≡ true
 stands l ts c e h out = has_is_some l ts ∙ one_stands (loan_for l ts) c.number (carried_out l ts c e h out)
 
 -- ---- after it was taken
@@ -62,12 +65,14 @@ none_taken (Some t) e = cc
 -- ---- after another priority was set
 lock_of_loan : (l : ℕ) (ts : List Terms) (t : Terms) → loan_for l ts ≡ Some t → t.lock ≡ l
 lock_of_loan l [] t e = cc
-lock_of_loan l (u ∷ us) t e = elim (nat_eq u.lock l) as (λ b. nat_eq u.lock l ≡ b → cond b (Some u) (loan_for l us) ≡ Some t → t.lock ≡ l) [
-  | true ↦ λ h i. let same : u ≡ t = cc in ap (λ (v : Terms). v.lock) (sym same) ∙ eqb-true u.lock l h
-  | false ↦ λ h i. lock_of_loan l us t i
-] refl e
+lock_of_loan l (u ∷ us) t e =
+    elim (nat_eq u.lock l) as (λ b. nat_eq u.lock l ≡ b → cond b (Some u) (loan_for l us) ≡ Some t → t.lock ≡ l) [
+      | true ↦ λ h i. let same : u ≡ t = cc in ap (λ (v : Terms). v.lock) (sym same) ∙ eqb-true u.lock l h
+      | false ↦ λ h i. lock_of_loan l us t i
+    ] refl e
 
-set_terms : (o : Option Terms) (l n k : ℕ) → ((t : Terms) → o ≡ Some t → t.lock ≡ l) → option_map (λ t. t.number) o ≡ Some n → option_map (λ (t : Terms). record t { prio = k }) o ≡ Some (record { number = n; lock = l; prio = k })
+set_terms : (o : Option Terms) (l n k : ℕ) → ((t : Terms) → o ≡ Some t → t.lock ≡ l) → option_map (λ t. t.number) o
+    ≡ Some n → option_map (λ (t : Terms). record t { prio = k }) o ≡ Some (record { number = n; lock = l; prio = k })
 set_terms None l n k lock e = cc
 set_terms (Some t) l n k lock e = let same : t.number ≡ n = cc in rw (same, lock t refl) refl
 

@@ -19,7 +19,8 @@ cond_same true vs = refl
 cond_same false vs = refl
 
 module _ {X V : Type 0} (drawn : X → Drawn V) where
-  drawn-append : (t n : ℕ) (xs ys : List X) → drawn_at drawn t n (xs ++ ys) ≡ drawn_at drawn t n xs ++ drawn_at drawn t n ys
+  drawn-append : (t n : ℕ) (xs ys : List X)
+      → drawn_at drawn t n (xs ++ ys) ≡ drawn_at drawn t n xs ++ drawn_at drawn t n ys
   drawn-append t n xs ys = simp (map-append, filter-append)
 
   module _ (thread from to : ℕ) where

@@ -37,14 +37,16 @@ no_lists = record { exclusive = []; shared = [] }
 
 abbrev lists_in : ℕ → List text.QueueLine → Lists
 lists_in l [] = no_lists
-lists_in l (line ∷ lines) = cond (is_queue line.queue (lock_queue l)) (record { exclusive = line.exclusive; shared = line.shared }) (lists_in l lines)
+lists_in l (line ∷ lines) = cond (is_queue line.queue (lock_queue l))
+    (record { exclusive = line.exclusive; shared = line.shared }) (lists_in l lines)
 
 found_lists : (l : ℕ) (lines : List QueueLine) → lists_of (find (is_line_of l) lines) ≡ lists_in l (map line_seen lines)
 found_lists l [] = refl
 found_lists l (line ∷ lines) = go (is_line_of l line) (found_lists l lines)
   where
     go : (b : Bool) → lists_of (find (is_line_of l) lines) ≡ lists_in l (map line_seen lines)
-        → lists_of (cond b (Some line) (find (is_line_of l) lines)) ≡ cond b (lists_of (Some line)) (lists_in l (map line_seen lines))
+        → lists_of (cond b (Some line) (find (is_line_of l) lines))
+        ≡ cond b (lists_of (Some line)) (lists_in l (map line_seen lines))
     go true h = refl
     go false h = h
 
@@ -72,16 +74,19 @@ module _ (chains : ℕ) (s : State) (fits : HeadsFitWaiters s.lists s.free_list 
   of_chan d = line_of_queue chains s (chan_queue d) d (s.head (chan_queue d))
 
   -- no line is of another queue,
-  passed : (l n : ℕ) (q : QueueName) (o : Option ℕ) (rest : List text.QueueLine) → is_queue q (lock_queue l) ≡ false → lists_in l (line_of_queue chains s q n o ++ rest) ≡ lists_in l rest
+  passed : (l n : ℕ) (q : QueueName) (o : Option ℕ) (rest : List text.QueueLine) → is_queue q (lock_queue l) ≡ false
+      → lists_in l (line_of_queue chains s q n o ++ rest) ≡ lists_in l rest
   passed l n q None rest e = refl
   passed l n q (Some h) rest e = ap (λ b. cond b (s.lists q) (lists_in l rest)) e
 
   -- and that of the lock has its waiters
-  met : (l n : ℕ) (rest : List text.QueueLine) → lists_in l rest ≡ no_lists → lists_in l (of_lock l ++ rest) ≡ s.lists (lock_queue l)
+  met : (l n : ℕ) (rest : List text.QueueLine) → lists_in l rest ≡ no_lists
+      → lists_in l (of_lock l ++ rest) ≡ s.lists (lock_queue l)
   unfolding HeadsFitWaiters
   met l n rest none = go (s.head (lock_queue l)) refl
     where
-      go : (o : Option ℕ) → s.head (lock_queue l) ≡ o → lists_in l (line_of_queue chains s (lock_queue l) l o ++ rest) ≡ s.lists (lock_queue l)
+      go : (o : Option ℕ) → s.head (lock_queue l) ≡ o
+          → lists_in l (line_of_queue chains s (lock_queue l) l o ++ rest) ≡ s.lists (lock_queue l)
       go (Some h) e = ap (λ b. cond b (s.lists (lock_queue l)) (lists_in l rest)) (is_queue_same (lock_queue l))
       go None e =
           let here = fits (lock_queue l) in
@@ -91,7 +96,8 @@ module _ (chains : ℕ) (s : State) (fits : HeadsFitWaiters s.lists s.free_list 
 
   no_chans : (l a n : ℕ) → lists_in l (flat_map of_chan (range_with_len a n)) ≡ no_lists
   no_chans l a zero = refl
-  no_chans l a (suc n) = passed l a (chan_queue a) (s.head (chan_queue a)) (flat_map of_chan (range_with_len (a + 1) n)) refl ∙ no_chans l (a + 1) n
+  no_chans l a (suc n) = passed l a (chan_queue a) (s.head (chan_queue a))
+      (flat_map of_chan (range_with_len (a + 1) n)) refl ∙ no_chans l (a + 1) n
 
   -- the lines of the locks from one on, where those that are no locks have no waiters
   there : (l a n : ℕ) (rest : List text.QueueLine) → lists_in l rest ≡ no_lists

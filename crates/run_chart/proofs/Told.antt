@@ -39,7 +39,8 @@ use Rattle.run_tracks.specs.declared.threads.ThreadRows.{ThreadRows}
 
 -- 1. Tracks
 
-pub so_at : {T : Type 0} (track : List (ℕ × T)) (rows : ℕ) (IsSo : ℕ → T → Type 0) → Tells track rows IsSo → (n : ℕ) → n < rows → (v : T) → value_in n track ≡ Some v → IsSo n v
+pub so_at : {T : Type 0} (track : List (ℕ × T)) (rows : ℕ) (IsSo : ℕ → T → Type 0) → Tells track rows IsSo → (n : ℕ)
+    → n < rows → (v : T) → value_in n track ≡ Some v → IsSo n v
 so_at track rows IsSo h n l v e = subst (λ o. IsSomeAnd o (IsSo n)) e (h.value n l)
 
 -- 2. Who holds a lock
@@ -60,7 +61,8 @@ module _ (plan : Plan) (proper : IsProper plan) (n : ℕ) where
       )
 
   pub word_fits : (l w : ℕ) → word_of w ≡ (run_in plan n).state.word l → IsWellFormed (word_of w)
-  word_fits l w e = subst IsWellFormed (sym e) (well_formed (config_of plan) (run_in plan n).state l on_track.lawful.lawful (omega (arith, proper.threads)))
+  word_fits l w e = subst IsWellFormed (sym e)
+      (well_formed (config_of plan) (run_in plan n).state l on_track.lawful.lawful (omega (arith, proper.threads)))
 
 -- 3. Threads and turns
 
@@ -112,9 +114,11 @@ module _ (plan : Plan) (rows : Rows) (h : IsRunOf plan rows) where
 
   -- 5. The word of a lock
 
-  pub word_is : (n k : ℕ) (track : List (ℕ × ℕ)) (w : ℕ) → n ≤ length rows.turns → Some track ≡ slice_get rows.words k → value_in n track ≡ Some w
+  pub word_is : (n k : ℕ) (track : List (ℕ × ℕ)) (w : ℕ) → n ≤ length rows.turns → Some track ≡ slice_get rows.words k
+      → value_in n track ≡ Some w
       → word_of w ≡ (run_in plan n).state.word k
-  word_is n k track w low at e = so_at track (length rows.turns + 1) _ (h.told.columns.of_words k track (sym at)) n (omega (arith, low)) w e
+  word_is n k track w low at e =
+      so_at track (length rows.turns + 1) _ (h.told.columns.of_words k track (sym at)) n (omega (arith, low)) w e
 
   -- what is no lock has no owner
   pub no_owner : (n k : ℕ) → None ≡ slice_get rows.words k → None ≡ owner_in plan n k

@@ -20,12 +20,15 @@ module _ {A : Type 0} where
 
   -- none yet,
   pub no_turns : (shown : Plan → ℕ → ℕ → Turn → List A) (plan : Plan) (n : ℕ) → in_turns shown plan n n ≡ []
-  no_turns shown plan n = ap (λ k. flat_map (λ m. of_some (λ turn. shown plan m turn.0 turn.1) (next_turn plan (course_after plan m))) (range_with_len n k)) (let e : n - n ≡ 0 = omega arith in e)
+  no_turns shown plan n = ap
+      (λ k. flat_map (λ m. of_some (λ turn. shown plan m turn.0 turn.1) (next_turn plan (course_after plan m)))
+      (range_with_len n k)) (let e : n - n ≡ 0 = omega arith in e)
 
   -- and a turn more
   pub turns_more : (shown : Plan → ℕ → ℕ → Turn → List A) (plan : Plan) (from n who : ℕ) (answer : Turn) → from ≤ n
       → next_turn plan (course_after plan n) ≡ Some (who, answer)
-      → (old new : List A) → old ≡ in_turns shown plan from n → new ≡ old ++ shown plan n who answer → new ≡ in_turns shown plan from (n + 1)
+      → (old new : List A) → old ≡ in_turns shown plan from n → new ≡ old ++ shown plan n who answer
+      → new ≡ in_turns shown plan from (n + 1)
   turns_more shown plan from n who answer low made old new before is =
       let f : ℕ → List A = λ m. of_some (λ turn. shown plan m turn.0 turn.1) (next_turn plan (course_after plan m)) in
       is ∙ ap (λ xs. xs ++ shown plan n who answer) before

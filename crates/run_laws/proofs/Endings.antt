@@ -13,20 +13,23 @@ use Rattle.run_laws.proofs.LegalRuns.{not_cut}
 abbrev SomeAreLeft : Plan → Course → Type 0
 SomeAreLeft plan k = k.idle ≡ true → all_ended plan k.run ≡ false
 
-with_turn_left : (plan : Plan) (r : Run) (ts : List ℕ) (idle : Bool) → all_ended plan r ≡ false → SomeAreLeft plan (with_turn plan r ts idle)
+with_turn_left : (plan : Plan) (r : Run) (ts : List ℕ) (idle : Bool) → all_ended plan r ≡ false
+    → SomeAreLeft plan (with_turn plan r ts idle)
 with_turn_left plan r [] idle left e = left
 with_turn_left plan r (t ∷ ts) idle left e =
     let answer = idle_is (turn_of plan r t).answer (and_parts idle (is_idle (turn_of plan r t).answer) e).1 in
     subst (λ n. all_ended plan n ≡ false) (sym (changes_nothing plan r t (inl answer))) left
 
-after_turn_left : (plan : Plan) (k : Course) (ts : List ℕ) → all_ended plan k.run ≡ false → SomeAreLeft plan (after_turn plan k ts)
+after_turn_left : (plan : Plan) (k : Course) (ts : List ℕ) → all_ended plan k.run ≡ false
+    → SomeAreLeft plan (after_turn plan k ts)
 after_turn_left plan k [] left = with_turn_left plan k.run (round_of plan k.run) true left
 after_turn_left plan k (t ∷ ts) left = with_turn_left plan k.run (t ∷ ts) k.idle left
 
 go_on_left : (plan : Plan) (k : Course) → SomeAreLeft plan k → SomeAreLeft plan (go_on plan k)
 go_on_left plan k h = go (all_ended plan k.run) (is_stuck k) refl
   where
-    go : (ended stuck : Bool) → all_ended plan k.run ≡ ended → SomeAreLeft plan (cond (ended || stuck) k (after_turn plan k k.coming))
+    go : (ended stuck : Bool) → all_ended plan k.run ≡ ended
+        → SomeAreLeft plan (cond (ended || stuck) k (after_turn plan k k.coming))
     go true stuck e = h
     go false true e = h
     go false false e = after_turn_left plan k k.coming e
@@ -41,13 +44,16 @@ some_left plan (suc n) = go_on_left plan (course_after plan n) (some_left plan n
 stuck_only : (plan : Plan) (k : Course) → ending_of plan k ≡ IsStuck → is_stuck k ≡ true
 stuck_only plan k e = grind arith
 
-pub stuck_exactly : (plan : Plan) (n : ℕ) → ending_of plan (course_after plan n) ≡ IsStuck ↔ is_stuck (course_after plan n) ≡ true
-stuck_exactly plan n = (stuck_only plan k, λ e. rw (some_left plan n (and_parts (is_empty k.coming) k.idle e).1, e) refl)
+pub stuck_exactly : (plan : Plan) (n : ℕ)
+    → ending_of plan (course_after plan n) ≡ IsStuck ↔ is_stuck (course_after plan n) ≡ true
+stuck_exactly plan n =
+    (stuck_only plan k, λ e. rw (some_left plan n (and_parts (is_empty k.coming) k.idle e).1, e) refl)
   where
     k : Course
     k = course_after plan n
 
-pub whole_exactly : (plan : Plan) (n : ℕ) → is_cut_short (ending_of plan (course_after plan n)) ≡ false ↔ all_ended plan (course_after plan n).run ≡ true
+pub whole_exactly : (plan : Plan) (n : ℕ)
+    → is_cut_short (ending_of plan (course_after plan n)) ≡ false ↔ all_ended plan (course_after plan n).run ≡ true
 whole_exactly plan n = (not_cut plan k, λ e. rw e (go (has_reversal k.run.state.history)))
   where
     k : Course

@@ -29,7 +29,8 @@ record GivesNext (plan : Plan) (r : Run) (t : ℕ) (e : Event) (next : ℕ) : Ty
   lets : LetsGoOn e
 
 -- entries that lead to an operation lead behind the endtrys that stand there
-behind_endtrys : (kind : ℕ → Kind) (ops : List Op) (es : List Entry) (n : ℕ) → LeadsTo kind ops es (Before n) → LeadsTo kind ops es (Before (next_at ops n))
+behind_endtrys : (kind : ℕ → Kind) (ops : List Op) (es : List Entry) (n : ℕ) → LeadsTo kind ops es (Before n)
+    → LeadsTo kind ops es (Before (next_at ops n))
 behind_endtrys kind ops es n = at_next (λ m. LeadsTo kind ops es (Before m)) ops n (λ m e h. law.skips_endtry h e)
 
 -- the point of a thread that wasn't cut is the same whatever it holds
@@ -70,7 +71,10 @@ module _ (plan : Plan) (r : Run) (t : ℕ) (p : IsProper plan) (k : IsOnTrack pl
   -- the one entry of an operation that is no wait,
   ends : {op : Op} {e : Event} {next : ℕ} → IsAtOperation plan r t (Some op) → is_wait op ≡ false
       → Gives (config_of plan).kind (held_of ops now) now op e (Before next) → LetsGoOn e → GivesNext plan r t e next
-  ends {op} {e} i other gives lets = record { leads = law.goes_on (entry_of s t e) (awake_follows (is_awake plan r t k op i other)) i.next gives; lets = lets }
+  ends {op} {e} i other gives lets = record {
+    leads = law.goes_on (entry_of s t e) (awake_follows (is_awake plan r t k op i other)) i.next gives;
+    lets = lets;
+  }
 
   noting : {o : Op} {e : Event} → actions.Notes r t o e → IsAtOperation plan r t (Some o)
       → GivesNext plan r t e (suc now)
@@ -97,7 +101,8 @@ module _ (plan : Plan) (r : Run) (t : ℕ) (p : IsProper plan) (k : IsOnTrack pl
   gaining (actions.by_trying l mode past) i = ends i refl (law.tries l mode past) (lets_go_on refl refl refl)
 
   -- of one that finds it busy,
-  busy : (l : LockNo) (mode : Mode) (past : ℕ) → IsAtOperation plan r t (Some (Try l mode past)) → admits ((config_of plan).kind l.0) (s.word l.0) mode ≡ false
+  busy : (l : LockNo) (mode : Mode) (past : ℕ) → IsAtOperation plan r t (Some (Try l mode past))
+      → admits ((config_of plan).kind l.0) (s.word l.0) mode ≡ false
       → GivesNext plan r t (event.Busy l (bits_of (s.word l.0))) past
   busy l mode past i e =
       let kind = (config_of plan).kind l.0 in
@@ -110,7 +115,8 @@ module _ (plan : Plan) (r : Run) (t : ℕ) (p : IsProper plan) (k : IsOnTrack pl
       (ap (λ (w : Word). admits kind w mode) again ∙ e)) (lets_go_on refl refl refl)
 
   -- of a release, of a lock that is held,
-  releasing : (l : LockNo) → IsAtOperation plan r t (Some (Release l)) → GivesNext plan r t (event.Unlocked l (mode_held (s.held t l.0))) (suc now)
+  releasing : (l : LockNo) → IsAtOperation plan r t (Some (Release l))
+      → GivesNext plan r t (event.Unlocked l (mode_held (s.held t l.0))) (suc now)
   releasing l i =
       let same = holds_all plan r t k (is_awake plan r t k (Release l) i refl) l.0 in
       let found = release_fits plan l _ _ (fit plan r t p (Release l) i.next) in
@@ -131,8 +137,10 @@ module _ (plan : Plan) (r : Run) (t : ℕ) (p : IsProper plan) (k : IsOnTrack pl
   ended action {o} {e} {next} i w ends log =
       let n : Run = run_after plan r t action in
       let up = awake_behind r t e n.state w.lets i.uncut log in
-      let further : n.next_op t ≡ next_at ops next = ap (λ m. next_ops ops r.next_op t m t) ends ∙ put_same r.next_op t (next_at ops next) in
-      led_to plan n t (entry_of s t e ∷ s.log t) (Before (next_at ops next)) (ap (λ f. f t) log ∙ put_same s.log t _) (rw (up.uncut, up.no_wait) (ap Before further))
+      let further : n.next_op t ≡ next_at ops next = ap (λ m. next_ops ops r.next_op t m t) ends
+      ∙ put_same r.next_op t (next_at ops next) in
+      led_to plan n t (entry_of s t e ∷ s.log t) (Before (next_at ops next)) (ap (λ f. f t) log ∙ put_same s.log t _)
+      (rw (up.uncut, up.no_wait) (ap Before further))
       (behind_endtrys _ _ _ next w.leads)
 
   -- a wait that begins
@@ -144,8 +152,10 @@ module _ (plan : Plan) (r : Run) (t : ℕ) (p : IsProper plan) (k : IsOnTrack pl
       let n : Run = run_after plan r t action in
       let own : n.state.log t ≡ entry_of s t (event.Sleeps d) ∷ s.log t = ap (λ f. f t) log ∙ put_same s.log t _ in
       let cut : has_reversal (n.state.log t) ≡ false = ap has_reversal own ∙ i.uncut in
-      led_to plan n t (entry_of s t (event.Sleeps d) ∷ s.log t) (Asleep now) own (rw (cut, ap waits_on own) (ap (λ o. Asleep (next_ops ops r.next_op t o t)) still))
-      (law.goes_on (entry_of s t (event.Sleeps d)) (awake_follows (record { no_wait = e; uncut = i.uncut })) i.next (law.sleeps d))
+      led_to plan n t (entry_of s t (event.Sleeps d) ∷ s.log t) (Asleep now) own
+      (rw (cut, ap waits_on own) (ap (λ o. Asleep (next_ops ops r.next_op t o t)) still))
+      (law.goes_on (entry_of s t (event.Sleeps d)) (awake_follows (record { no_wait = e; uncut = i.uncut })) i.next
+      (law.sleeps d))
 
   -- the release of a wait's lock
   gave_up : {l : ℕ} {kind : StepKind} {step : Step} → s.marked t ≡ [] → owed_release (config_of plan) s t ≡ Some l
@@ -171,29 +181,37 @@ module _ (plan : Plan) (r : Run) (t : ℕ) (p : IsProper plan) (k : IsOnTrack pl
       let own : n.state.log t ≡ noted ∷ s.log t = ap (λ f. f t) log ∙ put_same s.log t _ in
       let cut : has_reversal (n.state.log t) ≡ true = ap has_reversal own in
       let left : take (length (n.state.held_locks t)) (held_of ops (n.next_op t)) ≡ held_of ops now =
-      ap (λ o. take (length (n.state.held_locks t)) (held_of ops (next_ops ops r.next_op t o t))) still ∙ ap (λ f. take (length (f t)) (held_of ops now)) listed ∙ has_all plan r t l mode p k lt b in
-      led_to plan n t (noted ∷ s.log t) (Cut (reverse (held_of ops now))) own (rw cut (ap (λ (hs : List Held). Cut (reverse hs)) left))
-      (law.goes_on noted (awake_follows (is_awake plan r t k (Take l mode) b.at refl)) b.at.next (law.is_reversed l mode (record { 0 = class })))
+      ap (λ o. take (length (n.state.held_locks t)) (held_of ops (next_ops ops r.next_op t o t))) still
+      ∙ ap (λ f. take (length (f t)) (held_of ops now)) listed ∙ has_all plan r t l mode p k lt b in
+      led_to plan n t (noted ∷ s.log t) (Cut (reverse (held_of ops now))) own
+      (rw cut (ap (λ (hs : List Held). Cut (reverse hs)) left))
+      (law.goes_on noted (awake_follows (is_awake plan r t k (Take l mode) b.at refl)) b.at.next
+      (law.is_reversed l mode (record { 0 = class })))
 
   -- a lock that a cut thread gives back
   gave_last : {kind : StepKind} {step : Step} (h : HeldLock) (rest : List HeldLock) → IsCutShort plan r t
       → s.held_locks t ≡ h ∷ rest → actions.GivingBack plan r t h.lock (mode_held (s.held t h.lock)) kind step
-      → IsLed plan (run_after plan r t (does kind (Stamps t (event.Unlocked (record { 0 = h.lock }) (mode_held (s.held t h.lock))) ∷ step ∷ []))) t
+      → IsLed plan (run_after plan r t
+      (does kind (Stamps t (event.Unlocked (record { 0 = h.lock }) (mode_held (s.held t h.lock))) ∷ step ∷ []))) t
   unfolding after_stamp
   gave_last {kind} {step} h rest i e g =
       let its : LockNo = record { 0 = h.lock } in
       let noted : Entry = entry_of s t (event.Unlocked its (mode_held (s.held t h.lock))) in
       let before : State = after_stamp (config_of plan) s t (event.Unlocked its (mode_held (s.held t h.lock))) in
-      let n : Run = run_after plan r t (does kind (Stamps t (event.Unlocked its (mode_held (s.held t h.lock))) ∷ step ∷ [])) in
+      let n : Run = run_after plan r t
+      (does kind (Stamps t (event.Unlocked its (mode_held (s.held t h.lock))) ∷ step ∷ [])) in
       let gave = releases.gave_back plan r t p k lt before h.lock (mode_held (s.held t h.lock)) g in
       let last = releases.last plan r t p k lt h rest i e in
       let own : n.state.log t ≡ noted ∷ s.log t = ap (λ f. f t) gave.log ∙ put_same s.log t _ in
       let cut : has_reversal (n.state.log t) ≡ true = ap has_reversal own ∙ i.cut in
       let number : h.lock ≡ last.last.l.0 = sym last.lock in
-      let mode : mode_held (s.held t h.lock) ≡ last.last.mode = ap mode_held (releases.cut_holds plan r t p k lt h rest i e h.lock ∙ last.held) in
-      led_to plan n t (noted ∷ s.log t) (Cut (reverse last.others)) own (rw cut (ap (λ (hs : List Held). Cut (reverse hs)) (releases.last_left plan r t p k lt h rest i e n.state step gave)))
+      let mode : mode_held (s.held t h.lock)
+      ≡ last.last.mode = ap mode_held (releases.cut_holds plan r t p k lt h rest i e h.lock ∙ last.held) in
+      led_to plan n t (noted ∷ s.log t) (Cut (reverse last.others)) own (rw cut
+      (ap (λ (hs : List Held). Cut (reverse hs)) (releases.last_left plan r t p k lt h rest i e n.state step gave)))
       (law.gives_back noted
-      (subst (λ (hs : List Held). Follows (Cut hs)) (ap reverse last.is ∙ reverse-append last.others (last.last ∷ [])) (rw i.cut at (is_led plan r t k)))
+      (subst (λ (hs : List Held). Follows (Cut hs)) (ap reverse last.is ∙ reverse-append last.others (last.last ∷ []))
+      (rw i.cut at (is_led plan r t k)))
       (λ j. event.Unlocked (record { 0 = number j }) (mode j)))
 
   acquired : (action : Action) → actions.Acquires plan r t action → IsLed plan (run_after plan r t action) t
@@ -205,7 +223,8 @@ module _ (plan : Plan) (r : Run) (t : ℕ) (p : IsProper plan) (k : IsOnTrack pl
 
 pub led : (plan : Plan) (r : Run) (t : ℕ) (action : Action) → IsProper plan → IsOnTrack plan r → t < length plan.threads
     → actions.Fits plan r t action → IsLed plan (run_after plan r t action) t
-unfolding after_look after_stamp after_drop after_ready after_open after_mark after_resume after_open_sleep after_add after_wake after_lend after_shift after_end_walk after_refuse
+unfolding after_look after_stamp after_drop after_ready after_open after_mark after_resume after_open_sleep after_add
+    after_wake after_lend after_shift after_end_walk after_refuse
 led plan r t _ p k lt (actions.is_over e) = is_led plan r t k
 led plan r t _ p k lt (actions.lends l o h w e f) = is_led plan r t k
 led plan r t _ p k lt (actions.ends_at_lock l w e) = is_led plan r t k

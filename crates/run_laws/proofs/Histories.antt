@@ -89,16 +89,19 @@ slept = entry 1 0 (Sleeps chan) ∷ entry 0 0 (Locked (lock 0) Excl) ∷ []
 
 sleeps_in_wait : LeadsTo kind waits slept (Asleep 1)
 unfolding waits slept
-sleeps_in_wait = law.goes_on (entry 1 0 (Sleeps chan)) (law.goes_on (entry 0 0 (Locked (lock 0) Excl)) law.begins refl (law.locks (lock 0) Excl)) refl (law.sleeps chan)
+sleeps_in_wait = law.goes_on (entry 1 0 (Sleeps chan))
+    (law.goes_on (entry 0 0 (Locked (lock 0) Excl)) law.begins refl (law.locks (lock 0) Excl)) refl (law.sleeps chan)
 
 wakes_from_wait : LeadsTo kind waits (entry 3 0 (Woke chan) ∷ slept) (Before 2)
 unfolding waits
 wakes_from_wait = law.wakes_up (entry 3 0 (Woke chan)) sleeps_in_wait refl refl
 
 -- a halted wait gives its lock back, and that is all
-halted_gives_back : LeadsTo kind waits (entry 3 0 (Unlocked (lock 0) Excl) ∷ entry 2 0 (HaltedChan chan) ∷ slept) (Cut [])
+halted_gives_back : LeadsTo kind waits (entry 3 0 (Unlocked (lock 0) Excl) ∷ entry 2 0 (HaltedChan chan) ∷ slept)
+    (Cut [])
 unfolding waits
-halted_gives_back = law.gives_back (entry 3 0 (Unlocked (lock 0) Excl)) (law.is_woken_by_a_halt (entry 2 0 (HaltedChan chan)) sleeps_in_wait refl refl) refl
+halted_gives_back = law.gives_back (entry 3 0 (Unlocked (lock 0) Excl))
+    (law.is_woken_by_a_halt (entry 2 0 (HaltedChan chan)) sleeps_in_wait refl refl) refl
 
 -- a refused take gives back what is held, the last first
 three_locks : List Op
@@ -123,10 +126,13 @@ refused = entry 2 0 (Reversed (lock 2) (record { 0 = 0 })) ∷ entry 1 0 (Locked
 
 was_refused : LeadsTo kind three_locks refused (Cut (held 1 ∷ held 0 ∷ []))
 unfolding three_locks
-was_refused = law.goes_on (entry 2 0 (Reversed (lock 2) (record { 0 = 0 }))) holds_both refl (law.is_reversed (lock 2) Excl (record { 0 = 0 }))
+was_refused = law.goes_on (entry 2 0 (Reversed (lock 2) (record { 0 = 0 }))) holds_both refl
+    (law.is_reversed (lock 2) Excl (record { 0 = 0 }))
 
-gives_back : LeadsTo kind three_locks (entry 4 0 (Unlocked (lock 0) Excl) ∷ entry 3 0 (Unlocked (lock 1) Excl) ∷ refused) (Cut [])
-gives_back = law.gives_back (entry 4 0 (Unlocked (lock 0) Excl)) (law.gives_back (entry 3 0 (Unlocked (lock 1) Excl)) was_refused refl) refl
+gives_back : LeadsTo kind three_locks
+    (entry 4 0 (Unlocked (lock 0) Excl) ∷ entry 3 0 (Unlocked (lock 1) Excl) ∷ refused) (Cut [])
+gives_back = law.gives_back (entry 4 0 (Unlocked (lock 0) Excl))
+    (law.gives_back (entry 3 0 (Unlocked (lock 1) Excl)) was_refused refl) refl
 
 -- 2. Sleepers. Thread 0, of base 100, sleeps first, then thread 1, of base 50, then thread 2, of base 50; thread 3
 --    wakes them
@@ -136,7 +142,8 @@ bases zero = 100
 bases (suc n) = 50
 
 sleepers : Config
-sleepers = record { threads = 4; locks = 1; chans = 1; kind = kind; class = λ l. l; chan_lock = λ d. 0; declared_base = bases }
+sleepers =
+    record { threads = 4; locks = 1; chans = 1; kind = kind; class = λ l. l; chan_lock = λ d. 0; declared_base = bases }
 
 asleep : List Entry
 asleep = entry 2 2 (Sleeps chan) ∷ entry 1 1 (Sleeps chan) ∷ entry 0 0 (Sleeps chan) ∷ []
@@ -188,7 +195,8 @@ unfolding is_passed_over is_asleep has_bit entries_up_to any_below sleepers base
 passes_over_one_of_all = refl
 
 -- and a thread that was passed over isn't woken any more
-wakes_passed_over : WakingsNameSleepers sleepers (entry 5 1 (Woke chan) ∷ entry 4 3 (WokeOne chan 2) ∷ entry 3 3 (WokeOne chan 1) ∷ asleep) → ⊥
+wakes_passed_over : WakingsNameSleepers sleepers
+    (entry 5 1 (Woke chan) ∷ entry 4 3 (WokeOne chan 2) ∷ entry 3 3 (WokeOne chan 1) ∷ asleep) → ⊥
 unfolding WakingsNameSleepers is_passed_over is_asleep has_bit entries_up_to any_below sleepers bases asleep
 wakes_passed_over w = let z : false ≡ true = w.1 refl in cc
 

@@ -23,34 +23,42 @@ nowhere-any_below zero f h = refl
 nowhere-any_below (suc n) f h = rw (h n) (nowhere-any_below n f h)
 
 -- a thread that owes and holds nothing has ended, where it has no operation left or was cut
-empty_ended : (plan : Plan) (r : Run) (t : ℕ) → IsOnTrack plan r → OwesNothing plan r t → (nat_le (length (operations_of plan t)) (r.next_op t) || was_cut r.state t) ≡ true
+empty_ended : (plan : Plan) (r : Run) (t : ℕ) → IsOnTrack plan r → OwesNothing plan r t
+    → (nat_le (length (operations_of plan t)) (r.next_op t) || was_cut r.state t) ≡ true
     → held_now plan r t ≡ [] → has_ended plan r t ≡ true
 unfolding has_ended
 empty_ended plan r t k f over e =
     let unheld : (l : ℕ) → r.state.held t l ≡ NotHeld = λ l. k.holds t l ∙ ap (λ (hs : List Held). hold_in hs l) e in
-    let none = nowhere-any_below (length plan.locks) (λ l. not (is_unheld (r.state.held t l))) (λ l. ap (λ (x : Hold). not (is_unheld x)) (unheld l)) in
+    let none = nowhere-any_below (length plan.locks) (λ l. not (is_unheld (r.state.held t l)))
+    (λ l. ap (λ (x : Hold). not (is_unheld x)) (unheld l)) in
     rw (over, f.no_walk, f.unmarked, f.released, none) refl
 
 -- a thread of a proper plan that has no operation left holds nothing,
-none_left : (plan : Plan) (r : Run) (t : ℕ) → slice_get (operations_of plan t) (r.next_op t) ≡ None → length (operations_of plan t) ≤ r.next_op t
-none_left plan r t e = elim (slice_get_cases (operations_of plan t) (r.next_op t)).1 [ inl z ↦ absurd (none-some z.0 (sym e ∙ z.2)) | inr z ↦ z.0 ]
+none_left : (plan : Plan) (r : Run) (t : ℕ) → slice_get (operations_of plan t) (r.next_op t) ≡ None
+    → length (operations_of plan t) ≤ r.next_op t
+none_left plan r t e = elim (slice_get_cases (operations_of plan t)
+    (r.next_op t)).1 [ inl z ↦ absurd (none-some z.0 (sym e ∙ z.2)) | inr z ↦ z.0 ]
 
 without_none : (held : ℕ → Hold) (o : Option ℕ) → without_unheld held o [] ≡ []
 without_none held o = grind arith
 
-no_operation_left : (plan : Plan) (r : Run) (t : ℕ) → IsProper plan → IsOnTrack plan r → IsAtOperation plan r t None → has_ended plan r t ≡ true
+no_operation_left : (plan : Plan) (r : Run) (t : ℕ) → IsProper plan → IsOnTrack plan r → IsAtOperation plan r t None
+    → has_ended plan r t ≡ true
 no_operation_left plan r t p k i =
     let left = none_left plan r t i.next in
     empty_ended plan r t k i.free (or_left _ _ (le-leb (length (operations_of plan t)) (r.next_op t) left))
-    (rw (i.uncut, held_none plan p t (r.next_op t) left) (without_none (r.state.held t) (lock_of_wait (config_of plan) r.state t)))
+    (rw (i.uncut, held_none plan p t (r.next_op t) left)
+    (without_none (r.state.held t) (lock_of_wait (config_of plan) r.state t)))
 
 -- and so does one whose list of held locks is empty
 none_listed : (hs : List Held) → gained_order hs ≡ [] → hs ≡ []
 none_listed [] e = refl
 none_listed (h ∷ hs) e = absurd (omega (arith, ap length e, length-gained (h ∷ hs)))
 
-nothing_left : (plan : Plan) (r : Run) (t : ℕ) → IsOnTrack plan r → IsCutShort plan r t → r.state.held_locks t ≡ [] → has_ended plan r t ≡ true
-nothing_left plan r t k i e = empty_ended plan r t k i.free (or_right _ _ i.cut) (none_listed (held_now plan r t) (sym (k.listed t) ∙ e))
+nothing_left : (plan : Plan) (r : Run) (t : ℕ) → IsOnTrack plan r → IsCutShort plan r t → r.state.held_locks t ≡ []
+    → has_ended plan r t ≡ true
+nothing_left plan r t k i e =
+    empty_ended plan r t k i.free (or_right _ _ i.cut) (none_listed (held_now plan r t) (sym (k.listed t) ∙ e))
 
 -- a thread that has ended has no marked list
 pub ended_unmarked : (plan : Plan) (r : Run) (t : ℕ) → has_ended plan r t ≡ true → r.state.marked t ≡ []
@@ -127,13 +135,15 @@ module _ (plan : Plan) (r : Run) (t : ℕ) where
       → run_after plan r t action ≡ r
   same_run action e i = grind arith
 
-pub idle_exactly : (plan : Plan) (r : Run) (t : ℕ) → IsProper plan → IsOnTrack plan r → (turn_of plan r t).answer ≡ Idle ↔ IsSleeping plan r t
+pub idle_exactly : (plan : Plan) (r : Run) (t : ℕ) → IsProper plan → IsOnTrack plan r
+    → (turn_of plan r t).answer ≡ Idle ↔ IsSleeping plan r t
 idle_exactly plan r t p k = (where_idle plan r t (turn_of plan r t) (answer plan r t) p k, sleeping plan r t)
 
 pub ended_exactly : (plan : Plan) (r : Run) (t : ℕ) → (turn_of plan r t).answer ≡ Ended ↔ has_ended plan r t ≡ true
 ended_exactly plan r t = (over plan r t (turn_of plan r t) (answer plan r t), over_answer plan r t)
 
-pub changes_nothing : (plan : Plan) (r : Run) (t : ℕ) → ((turn_of plan r t).answer ≡ Idle) ⊎ ((turn_of plan r t).answer ≡ Ended) → run_behind plan r t ≡ r
+pub changes_nothing : (plan : Plan) (r : Run) (t : ℕ)
+    → ((turn_of plan r t).answer ≡ Idle) ⊎ ((turn_of plan r t).answer ≡ Ended) → run_behind plan r t ≡ r
 unfolding run_behind
 changes_nothing plan r t e = same_run plan r t (turn_of plan r t) (answer plan r t) e
 
@@ -146,13 +156,15 @@ Comes (u ∷ us) t = (u ≡ t) ⊎ Comes us t
 
 in_range : (a n t : ℕ) → a ≤ t → t < a + n → Comes (range_with_len a n) t
 in_range a zero t i l = absurd (omega arith)
-in_range a (suc n) t i l = elim (cases_eq a t) [ inl e ↦ inl e | inr e ↦ inr (in_range (a + 1) n t (omega (arith, e)) (omega arith)) ]
+in_range a (suc n) t i l =
+    elim (cases_eq a t) [ inl e ↦ inl e | inr e ↦ inr (in_range (a + 1) n t (omega (arith, e)) (omega arith)) ]
 
 passes : (test : ℕ → Bool) (xs : List ℕ) (t : ℕ) → test t ≡ true → Comes xs t → Comes (filter test xs) t
 passes test [] t e i = i
 passes test (x ∷ xs) t e i = go (test x) refl i (passes test xs t e)
   where
-    go : (b : Bool) → test x ≡ b → (x ≡ t) ⊎ Comes xs t → (Comes xs t → Comes (filter test xs) t) → Comes (cond b (x ∷ filter test xs) (filter test xs)) t
+    go : (b : Bool) → test x ≡ b → (x ≡ t) ⊎ Comes xs t → (Comes xs t → Comes (filter test xs) t)
+        → Comes (cond b (x ∷ filter test xs) (filter test xs)) t
     go true j (inl k) rest = inl k
     go true j (inr k) rest = inr (rest k)
     go false j (inl k) rest = absurd (let z = sym j ∙ ap test k ∙ e in cc)
@@ -160,7 +172,8 @@ passes test (x ∷ xs) t e i = go (test x) refl i (passes test xs t e)
 
 -- each thread that hasn't ended still comes, or it sleeps
 abbrev SleepsOrComes : Plan → Run → List ℕ → Type 0
-SleepsOrComes plan r ts = (t : ℕ) → t < length plan.threads → has_ended plan r t ≡ false → Comes ts t ⊎ IsSleeping plan r t
+SleepsOrComes plan r ts = (t : ℕ) → t < length plan.threads → has_ended plan r t ≡ false
+    → Comes ts t ⊎ IsSleeping plan r t
 
 -- so it is in a round whose turns were all idle so far
 abbrev IsIdleSoFar : Plan → Course → Type 0
@@ -169,23 +182,28 @@ IsIdleSoFar plan k = k.idle ≡ true → SleepsOrComes plan k.run k.coming
 pub idle_is : (a : Turn) → is_idle a ≡ true → a ≡ Idle
 idle_is a e = grind arith
 
-with_turn_idle : (plan : Plan) (r : Run) (ts : List ℕ) (idle : Bool) → IsProper plan → IsOnTrack plan r → (idle ≡ true → SleepsOrComes plan r ts) → IsIdleSoFar plan (with_turn plan r ts idle)
+with_turn_idle : (plan : Plan) (r : Run) (ts : List ℕ) (idle : Bool) → IsProper plan → IsOnTrack plan r
+    → (idle ≡ true → SleepsOrComes plan r ts) → IsIdleSoFar plan (with_turn plan r ts idle)
 with_turn_idle plan r [] idle p k h e = h e
 with_turn_idle plan r (t ∷ ts) idle p k h e =
     let parts = and_parts idle (is_idle (turn_of plan r t).answer) e in
     let answer = idle_is (turn_of plan r t).answer parts.1 in
     let asleep = (idle_exactly plan r t p k).0 answer in
-    subst (λ n. SleepsOrComes plan n ts) (sym (changes_nothing plan r t (inl answer))) (λ u l going. elim (h parts.0 u l going) [
+    subst (λ n. SleepsOrComes plan n ts) (sym (changes_nothing plan r t (inl answer)))
+    (λ u l going. elim (h parts.0 u l going) [
       | inl c ↦ elim c [ inl i ↦ inr (subst (IsSleeping plan r) i asleep) | inr i ↦ inl i ]
       | inr i ↦ inr i
     ])
 
-after_turn_idle : (plan : Plan) (k : Course) (ts : List ℕ) → IsProper plan → IsOnTrack plan k.run → (k.idle ≡ true → SleepsOrComes plan k.run ts) → IsIdleSoFar plan (after_turn plan k ts)
+after_turn_idle : (plan : Plan) (k : Course) (ts : List ℕ) → IsProper plan → IsOnTrack plan k.run
+    → (k.idle ≡ true → SleepsOrComes plan k.run ts) → IsIdleSoFar plan (after_turn plan k ts)
 after_turn_idle plan k [] p o h = with_turn_idle plan k.run (round_of plan k.run) true p o
-    (λ e t l going. inl (passes (λ u. not (has_ended plan k.run u)) (threads_of plan) t (ap not going) (in_range 0 (length plan.threads) t (omega arith) (omega (arith, l)))))
+    (λ e t l going. inl (passes (λ u. not (has_ended plan k.run u)) (threads_of plan) t (ap not going)
+    (in_range 0 (length plan.threads) t (omega arith) (omega (arith, l)))))
 after_turn_idle plan k (t ∷ ts) p o h = with_turn_idle plan k.run (t ∷ ts) k.idle p o h
 
-go_on_idle : (plan : Plan) (k : Course) → IsProper plan → IsOnTrack plan k.run → IsIdleSoFar plan k → IsIdleSoFar plan (go_on plan k)
+go_on_idle : (plan : Plan) (k : Course) → IsProper plan → IsOnTrack plan k.run → IsIdleSoFar plan k
+    → IsIdleSoFar plan (go_on plan k)
 go_on_idle plan k p o h = go (is_over plan k)
   where
     go : (b : Bool) → IsIdleSoFar plan (cond b k (after_turn plan k k.coming))
@@ -200,20 +218,27 @@ idle_so_far plan (suc n) p = go_on_idle plan (course_after plan n) p (behind_cou
 -- 3. Where a run is stuck
 
 -- a Queued thread stands on the queue that its record names, where nobody has a marked list
-stands_there : (c : Config) (s : State) (t : ℕ) → LawfulTurn c s → ((u : ℕ) → u < c.threads → s.marked u ≡ []) → s.wait t ≡ Queued → (q : QueueName) × (stands t (s.lists q) ≡ 1)
+stands_there : (c : Config) (s : State) (t : ℕ) → LawfulTurn c s → ((u : ℕ) → u < c.threads → s.marked u ≡ [])
+    → s.wait t ≡ Queued → (q : QueueName) × (stands t (s.lists q) ≡ 1)
 unfolding QueuedStands StandsOnce
 stands_there c s t h unmarked e = go (s.blocked_on t) refl
   where
     go : (o : Option QueueName) → s.blocked_on t ≡ o → (q : QueueName) × (stands t (s.lists q) ≡ 1)
     go None f = absurd (h.queued_stands t e f)
     go (Some q) f =
-        let none = sum_below-zero c.threads (λ u. times_marked t q (s.marked u)) (λ u l. ap (times_marked t q) (unmarked u l)) in
+        let none = sum_below-zero c.threads (λ u. times_marked t q (s.marked u))
+        (λ u l. ap (times_marked t q) (unmarked u l)) in
         let named : at_queue q (s.blocked_on t) ≡ 1 = ap (at_queue q) f ∙ ap one (is_queue_same q) in
         (q, omega (arith, none, named, h.lawful.waits.stands_once t q))
 
-pub stuck_sleeps : (plan : Plan) (n t : ℕ) → IsProper plan → is_stuck (course_after plan n) ≡ true → t < length plan.threads → has_ended plan (course_after plan n).run t ≡ false
-    → IsSleeping plan (course_after plan n).run t × ((q : QueueName) × (stands t ((course_after plan n).run.state.lists q) ≡ 1))
-stuck_sleeps plan n t p stuck lt going = (asleep t lt going, stands_there (config_of plan) r.state t (behind_course plan n p).lawful unmarked (asleep t lt going).queued)
+pub stuck_sleeps : (plan : Plan) (n t : ℕ) → IsProper plan → is_stuck (course_after plan n) ≡ true
+    → t < length plan.threads → has_ended plan (course_after plan n).run t ≡ false
+    → IsSleeping plan (course_after plan n).run t
+    × ((q : QueueName) × (stands t ((course_after plan n).run.state.lists q) ≡ 1))
+stuck_sleeps plan n t p stuck lt going = (
+  asleep t lt going,
+  stands_there (config_of plan) r.state t (behind_course plan n p).lawful unmarked (asleep t lt going).queued,
+)
   where
     k : Course
     k = course_after plan n
@@ -240,7 +265,8 @@ stuck_sleeps plan n t p stuck lt going = (asleep t lt going, stands_there (confi
 -- 3. The end
 
 -- a thread whose operations are done doesn't wait, as a wait that it is in is an operation that is left
-pub done_awake : (plan : Plan) (r : Run) (t : ℕ) → IsOnTrack plan r → length (operations_of plan t) ≤ r.next_op t → waits_on (r.state.log t) ≡ None
+pub done_awake : (plan : Plan) (r : Run) (t : ℕ) → IsOnTrack plan r → length (operations_of plan t) ≤ r.next_op t
+    → waits_on (r.state.log t) ≡ None
 done_awake plan r t k l = go (waits_on (r.state.log t)) refl
   where
     go : (w : Option ℕ) → waits_on (r.state.log t) ≡ w → w ≡ None

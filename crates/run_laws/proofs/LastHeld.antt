@@ -15,7 +15,9 @@ hold_in-take zero hs l e = refl
 hold_in-take (suc n) [] l e = refl
 hold_in-take (suc n) (h ∷ hs) l e = go (eqb h.l.0 l) e (hold_in-take n hs l)
   where
-    go : (b : Bool) → cond b (Holds h.mode) (hold_in hs l) ≡ NotHeld → (hold_in hs l ≡ NotHeld → hold_in (take n hs) l ≡ NotHeld) → cond b (Holds h.mode) (hold_in (take n hs) l) ≡ NotHeld
+    go : (b : Bool) → cond b (Holds h.mode) (hold_in hs l) ≡ NotHeld
+        → (hold_in hs l ≡ NotHeld → hold_in (take n hs) l ≡ NotHeld)
+        → cond b (Holds h.mode) (hold_in (take n hs) l) ≡ NotHeld
     go true i f = absurd cc
     go false i f = f i
 
@@ -37,7 +39,8 @@ take_prefix (suc n) (h ∷ hs) (x ∷ xs) ys e =
 
 -- as many as are listed
 pub length-gained : (hs : List Held) → length (gained_order hs) ≡ length hs
-length-gained hs = length-reverse (map (λ (h : Held). record { lock = h.l.0; by_try = h.by_try }) hs) ∙ length-map hs (λ (h : Held). record { lock = h.l.0; by_try = h.by_try })
+length-gained hs = length-reverse (map (λ (h : Held). record { lock = h.l.0; by_try = h.by_try }) hs)
+    ∙ length-map hs (λ (h : Held). record { lock = h.l.0; by_try = h.by_try })
 
 -- 2. The last of a list
 
@@ -62,7 +65,8 @@ push_held : (hs : List Held) (x : Held) (l : ℕ) → x.l.0 ≡ l → hold_in (h
 push_held [] x l e n = let z : Holds x.mode ≡ NotHeld = rw (eq-eqb x.l.0 l e) at n in cc
 push_held (h ∷ hs) x l e n = go (eqb h.l.0 l) n (push_held hs x l e)
   where
-    go : (b : Bool) → cond b (Holds h.mode) (hold_in (hs ++ x ∷ []) l) ≡ NotHeld → (hold_in (hs ++ x ∷ []) l ≡ NotHeld → ⊥) → ⊥
+    go : (b : Bool) → cond b (Holds h.mode) (hold_in (hs ++ x ∷ []) l) ≡ NotHeld
+        → (hold_in (hs ++ x ∷ []) l ≡ NotHeld → ⊥) → ⊥
     go true i f = cc
     go false i f = f i
 
@@ -77,7 +81,9 @@ without-push : (hs : List Held) (x : Held) → hold_in hs x.l.0 ≡ NotHeld → 
 without-push [] x e = rw (eq-eqb x.l.0 x.l.0 refl) refl
 without-push (h ∷ hs) x e = go (eqb h.l.0 x.l.0) e (without-push hs x)
   where
-    go : (b : Bool) → cond b (Holds h.mode) (hold_in hs x.l.0) ≡ NotHeld → (hold_in hs x.l.0 ≡ NotHeld → without_lock x.l.0 (hs ++ x ∷ []) ≡ hs) → cond b (hs ++ x ∷ []) (h ∷ without_lock x.l.0 (hs ++ x ∷ [])) ≡ h ∷ hs
+    go : (b : Bool) → cond b (Holds h.mode) (hold_in hs x.l.0) ≡ NotHeld
+        → (hold_in hs x.l.0 ≡ NotHeld → without_lock x.l.0 (hs ++ x ∷ []) ≡ hs)
+        → cond b (hs ++ x ∷ []) (h ∷ without_lock x.l.0 (hs ++ x ∷ [])) ≡ h ∷ hs
     go true i f = absurd cc
     go false i f = ap (λ ys. h ∷ ys) (f i)
 
@@ -94,15 +100,18 @@ pub record GivesLast (hs : List Held) (n : ℕ) (h : HeldLock) : Type 0 where
   -- these are the first, as many as are still listed
   pub left : take (length (without_held h.lock (gained_order (take n hs)))) hs ≡ others
 
-pub gives_last : (hs : List Held) (n : ℕ) (h : HeldLock) (rest : List HeldLock) → Apart hs → gained_order (take n hs) ≡ h ∷ rest → GivesLast hs n h
+pub gives_last : (hs : List Held) (n : ℕ) (h : HeldLock) (rest : List HeldLock) → Apart hs
+    → gained_order (take n hs) ≡ h ∷ rest → GivesLast hs n h
 gives_last hs n h rest a e = record {
   others = xs;
   last = x;
   is = w.is;
   lock = w.lock;
-  held = ap (hold_in (take n hs)) (sym w.lock) ∙ ap (λ (ys : List Held). hold_in ys x.l.0) w.is ∙ hold_in-push xs x x.l.0 unheld ∙ ap (λ b. cond b (Holds x.mode) (hold_in xs x.l.0)) (eq-eqb x.l.0 x.l.0 refl);
+  held = ap (hold_in (take n hs)) (sym w.lock) ∙ ap (λ (ys : List Held). hold_in ys x.l.0) w.is
+      ∙ hold_in-push xs x x.l.0 unheld ∙ ap (λ b. cond b (Holds x.mode) (hold_in xs x.l.0)) (eq-eqb x.l.0 x.l.0 refl);
   without = without;
-  left = ap (λ m. take m hs) (ap length (gained_order-without h.lock (take n hs) (apart-take n hs a)) ∙ length-gained (without_lock h.lock (take n hs)) ∙ ap length without) ∙ take_prefix n hs xs (x ∷ []) w.is;
+  left = ap (λ m. take m hs) (ap length (gained_order-without h.lock (take n hs) (apart-take n hs a))
+      ∙ length-gained (without_lock h.lock (take n hs)) ∙ ap length without) ∙ take_prefix n hs xs (x ∷ []) w.is;
 }
   where
     w : EndsWith (take n hs) h
@@ -118,4 +127,5 @@ gives_last hs n h rest a e = record {
     unheld = apart-last xs x (subst Apart w.is (apart-take n hs a))
 
     without : without_lock h.lock (take n hs) ≡ xs
-    without = ap (λ l. without_lock l (take n hs)) (sym w.lock) ∙ ap (without_lock x.l.0) w.is ∙ without-push xs x unheld
+    without = ap (λ l. without_lock l (take n hs)) (sym w.lock) ∙ ap (without_lock x.l.0) w.is
+        ∙ without-push xs x unheld

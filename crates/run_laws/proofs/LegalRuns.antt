@@ -26,7 +26,9 @@ passes_at f a (suc n) t e i l =
 
 -- a number that is no thread's has no operations
 no_operations : (plan : Plan) (t : ℕ) → length plan.threads ≤ t → length (operations_of plan t) ≡ 0
-no_operations plan t i = ap (λ o. length (unwrap_or o [])) (slice_get_past (map (λ (d : ThreadDecl). d.ops) plan.threads) t (omega (arith, i, length-map plan.threads (λ (d : ThreadDecl). d.ops))))
+no_operations plan t i = ap (λ o. length (unwrap_or o []))
+    (slice_get_past (map (λ (d : ThreadDecl). d.ops) plan.threads) t
+    (omega (arith, i, length-map plan.threads (λ (d : ThreadDecl). d.ops))))
 
 module _ (plan : Plan) (r : Run) (k : IsOnTrack plan r) (ended : all_ended plan r ≡ true) where
   -- each thread has made all its operations, unless it was cut,
@@ -34,10 +36,13 @@ module _ (plan : Plan) (r : Run) (k : IsOnTrack plan r) (ended : all_ended plan 
   unfolding has_ended
   all_made t uncut = elim (cases_lt t (length plan.threads)) [
     | inl i ↦
-        let its : has_ended plan r t ≡ true = passes_at (has_ended plan r) 0 (length plan.threads) t ended (omega arith) (omega (arith, i)) in
+        let its : has_ended plan r t
+        ≡ true = passes_at (has_ended plan r) 0 (length plan.threads) t ended (omega arith) (omega (arith, i)) in
         let over = nat_le (length (operations_of plan t)) (r.next_op t) || was_cut r.state t in
-        let first = and_parts (over && not (owes (config_of plan) r.state t)) (holds_none (config_of plan) r.state t) its in
-        elim (or_cases (nat_le (length (operations_of plan t)) (r.next_op t)) (was_cut r.state t) (and_parts over (not (owes (config_of plan) r.state t)) first.0).0) [
+        let first = and_parts (over && not (owes (config_of plan) r.state t))
+        (holds_none (config_of plan) r.state t) its in
+        elim (or_cases (nat_le (length (operations_of plan t)) (r.next_op t)) (was_cut r.state t)
+        (and_parts over (not (owes (config_of plan) r.state t)) first.0).0) [
           | inl x ↦ leb-true (length (operations_of plan t)) (r.next_op t) x
           | inr x ↦ absurd (true≢false (sym x ∙ uncut))
         ]
@@ -53,8 +58,10 @@ module _ (plan : Plan) (r : Run) (k : IsOnTrack plan r) (ended : all_ended plan 
       go NotHeld e = refl
       go (Holds mode) e =
           let i = k.lawful.lawful.words.only_threads_hold t l mode e in
-          let its : has_ended plan r t ≡ true = passes_at (has_ended plan r) 0 (length plan.threads) t ended (omega arith) (omega (arith, i)) in
-          let some = true-any_below (length plan.locks) (λ l. not (is_unheld (r.state.held t l))) l (k.taken.only_locks_are_held t l mode e) (ap (λ (x : Hold). not (is_unheld x)) e) in
+          let its : has_ended plan r t
+          ≡ true = passes_at (has_ended plan r) 0 (length plan.threads) t ended (omega arith) (omega (arith, i)) in
+          let some = true-any_below (length plan.locks) (λ l. not (is_unheld (r.state.held t l))) l
+          (k.taken.only_locks_are_held t l mode e) (ap (λ (x : Hold). not (is_unheld x)) e) in
           absurd (true≢false (sym (and_parts _ _ its).1 ∙ ap not some))
 
   -- so its entries have led it to the end
@@ -65,7 +72,8 @@ module _ (plan : Plan) (r : Run) (k : IsOnTrack plan r) (ended : all_ended plan 
       go [] e = refl
       go (h ∷ hs) e =
           let first : hold_in (h ∷ hs) h.l.0 ≡ Holds h.mode = rw (eq-eqb h.l.0 h.l.0 refl) refl in
-          absurd (let z : NotHeld ≡ Holds h.mode = sym (unheld t h.l.0) ∙ k.holds t h.l.0 ∙ ap (λ (xs : List Held). hold_in xs h.l.0) e ∙ first in cc)
+          absurd (let z : NotHeld ≡ Holds h.mode = sym (unheld t h.l.0) ∙ k.holds t h.l.0
+          ∙ ap (λ (xs : List Held). hold_in xs h.l.0) e ∙ first in cc)
 
   at_end : (t : ℕ) → IsAtEnd (operations_of plan t) (point_in plan r t)
   at_end t = go (was_cut r.state t) refl
@@ -83,7 +91,8 @@ module _ (plan : Plan) (r : Run) (k : IsOnTrack plan r) (ended : all_ended plan 
       wants e None f = refl
       wants e (Some l) f =
           let made = all_made t e in
-          let none : slice_get (operations_of plan t) (r.next_op t) ≡ None = slice_get_past (operations_of plan t) (r.next_op t) made in
+          let none : slice_get (operations_of plan t) (r.next_op t)
+          ≡ None = slice_get_past (operations_of plan t) (r.next_op t) made in
           absurd (rw (done_awake plan r t k made, none) at (k.wants t l f))
 
       go : (b : Bool) → was_cut r.state t ≡ b → r.state.wanted t ≡ None
@@ -92,7 +101,8 @@ module _ (plan : Plan) (r : Run) (k : IsOnTrack plan r) (ended : all_ended plan 
 
 -- 2. The law
 
-legal_on_track : (plan : Plan) (r : Run) (cut_short : Bool) → IsOnTrack plan r → (cut_short ≡ false → all_ended plan r ≡ true) → IsLegal plan false cut_short r.state.history
+legal_on_track : (plan : Plan) (r : Run) (cut_short : Bool) → IsOnTrack plan r
+    → (cut_short ≡ false → all_ended plan r ≡ true) → IsLegal plan false cut_short r.state.history
 unfolding EntriesFollowOperations
 legal_on_track plan r cut_short k whole = record {
   so_far = legal_so_far nobody (config_of plan) r.state false k.lawful.lawful k.sleepers k.no_halts;
@@ -106,17 +116,23 @@ legal_on_track plan r cut_short k whole = record {
   busies_are_explained = λ e. absurd cc;
 }
 
-pub runs_are_legal : (plan : Plan) (turns : List ℕ) → IsProper plan → All (λ t. t < length plan.threads) turns → IsLegal plan false true (after_turns plan turns).state.history
-runs_are_legal plan turns p a = legal_on_track plan (after_turns plan turns) true (behind_turns plan turns p a) (λ e. absurd cc)
+pub runs_are_legal : (plan : Plan) (turns : List ℕ) → IsProper plan → All (λ t. t < length plan.threads) turns
+    → IsLegal plan false true (after_turns plan turns).state.history
+runs_are_legal plan turns p a =
+    legal_on_track plan (after_turns plan turns) true (behind_turns plan turns p a) (λ e. absurd cc)
 
 -- a run that wasn't cut short has come to the end of all its threads
 pub not_cut : (plan : Plan) (k : Course) → is_cut_short (ending_of plan k) ≡ false → all_ended plan k.run ≡ true
 not_cut plan k e = grind arith
 
-pub courses_are_legal : (plan : Plan) (n : ℕ) → IsProper plan → IsLegal plan false (is_cut_short (ending_of plan (course_after plan n))) (course_after plan n).run.state.history
+pub courses_are_legal : (plan : Plan) (n : ℕ) → IsProper plan
+    → IsLegal plan false (is_cut_short (ending_of plan (course_after plan n))) (course_after plan n).run.state.history
 courses_are_legal plan n p =
-    legal_on_track plan (course_after plan n).run (is_cut_short (ending_of plan (course_after plan n))) (behind_course plan n p) (not_cut plan (course_after plan n))
+    legal_on_track plan (course_after plan n).run (is_cut_short (ending_of plan (course_after plan n)))
+    (behind_course plan n p) (not_cut plan (course_after plan n))
 
-pub outcomes_are_legal : (plan : Plan) (chains turns : ℕ) → IsProper plan → HasLegalHistory plan (scheduled_run plan chains turns)
+pub outcomes_are_legal : (plan : Plan) (chains turns : ℕ) → IsProper plan
+    → HasLegalHistory plan (scheduled_run plan chains turns)
 unfolding scheduled_run
-outcomes_are_legal plan chains turns p = rw (reverse-reverse (course_after plan turns).run.state.history) (courses_are_legal plan turns p)
+outcomes_are_legal plan chains turns p =
+    rw (reverse-reverse (course_after plan turns).run.state.history) (courses_are_legal plan turns p)

@@ -73,7 +73,8 @@ abbrev pub with_lock : Plan → Option ℕ → Option ℕ
 with_lock plan w = option_map (config_of plan).chan_lock w
 
 abbrev pub holding : Plan → ℕ → Share → List Held
-holding plan t x = cond x.cut (take (length x.held_locks) (led_to plan t x)) (without_unheld x.held (with_lock plan x.waits) (led_to plan t x))
+holding plan t x = cond x.cut (take (length x.held_locks) (led_to plan t x))
+    (without_unheld x.held (with_lock plan x.waits) (led_to plan t x))
 
 pub record IsWhere (plan : Plan) (t : ℕ) (x : Share) : Type 0 where
   pub within : x.next ≤ length (operations_of plan t)
@@ -84,7 +85,8 @@ pub record IsWhere (plan : Plan) (t : ℕ) (x : Share) : Type 0 where
   pub left : (l : ℕ) → with_lock plan x.waits ≡ Some l → (x.sections l).left ≡ hold_in (led_to plan t x) l
   pub opened : (l : ℕ) → (x.sections l).now ≡ cond (is_with l (with_lock plan x.waits)) NotHeld (x.held l)
   pub begun : (l : ℕ) → x.held l ≢ NotHeld → x.has_begun l ≡ true
-  pub wants : (l : ℕ) → x.wanted ≡ Some l → TakesLock (config_of plan) l x.waits (slice_get (operations_of plan t) x.next)
+  pub wants : (l : ℕ) → x.wanted ≡ Some l
+      → TakesLock (config_of plan) l x.waits (slice_get (operations_of plan t) x.next)
   pub wants_unheld : (l : ℕ) → x.wanted ≡ Some l → x.held l ≡ NotHeld
   pub cut_wants_nothing : x.cut ≡ true → x.wanted ≡ None
   pub taking : x.taking ≡ x.wanted
@@ -96,17 +98,20 @@ IsThere plan r t = IsWhere plan t (share_in plan r.state t (r.next_op t))
 
 -- what it may want there: a lock that its operation takes and that it doesn't hold, and nothing where it was cut
 pub record MayWant (plan : Plan) (r : Run) (t : ℕ) (wanted : Option ℕ) : Type 0 where
-  pub takes : (l : ℕ) → wanted ≡ Some l → TakesLock (config_of plan) l (waits_on (r.state.log t)) (slice_get (operations_of plan t) (r.next_op t))
+  pub takes : (l : ℕ) → wanted ≡ Some l
+      → TakesLock (config_of plan) l (waits_on (r.state.log t)) (slice_get (operations_of plan t) (r.next_op t))
   pub unheld : (l : ℕ) → wanted ≡ Some l → r.state.held t l ≡ NotHeld
   pub uncut : was_cut r.state t ≡ true → wanted ≡ None
 
 -- where it wants and takes something else
-pub there_wanting : (plan : Plan) (r : Run) (t : ℕ) (wanted taking : Option ℕ) → IsOnTrack plan r → taking ≡ wanted → MayWant plan r t wanted
+pub there_wanting : (plan : Plan) (r : Run) (t : ℕ) (wanted taking : Option ℕ) → IsOnTrack plan r → taking ≡ wanted
+    → MayWant plan r t wanted
     → IsWhere plan t (record (share_in plan r.state t (r.next_op t)) { wanted = wanted; taking = taking })
 there_wanting plan r t wanted taking k e w = grind arith
 
 pub is_there : (plan : Plan) (r : Run) (t : ℕ) → IsOnTrack plan r → IsThere plan r t
-is_there plan r t k = there_wanting plan r t (r.state.wanted t) (r.state.taking t) k (k.taking t) (record { takes = k.wants t; unheld = k.wants_unheld t; uncut = k.cut_wants_nothing t })
+is_there plan r t k = there_wanting plan r t (r.state.wanted t) (r.state.taking t) k (k.taking t)
+    (record { takes = k.wants t; unheld = k.wants_unheld t; uncut = k.cut_wants_nothing t })
 
 -- 3. What a turn leaves true, beside a lawful state whose entries follow the operations
 
@@ -115,7 +120,8 @@ NoneOut n = NothingIsOut n.turnstile_chain_with n.sleep_chain_with n.record_with
 
 -- a thread that goes on behind a wait wants the lock of it
 abbrev pub WantsBack : Plan → State → ℕ → Type 0
-WantsBack plan s t = (d : ℕ) → waits_on (s.log t) ≡ Some d → s.wait t ≡ Running → s.wanted t ≡ Some ((config_of plan).chan_lock d)
+WantsBack plan s t = (d : ℕ) → waits_on (s.log t) ≡ Some d → s.wait t ≡ Running
+    → s.wanted t ≡ Some ((config_of plan).chan_lock d)
 
 -- the entries of a thread lead it to where it is
 abbrev pub IsLed : Plan → Run → ℕ → Type 0
@@ -170,14 +176,27 @@ module _ (plan : Plan) (r : Run) (t : ℕ) (action : Action) (k : IsOnTrack plan
       let wanted = sym x.wanted in
       let taking = sym x.taking in
       let noted = sym x.noted in
-      λ i. record { next = next i; waits = waits_on (log i); cut = has_reversal (log i); held = held i; held_locks = listed i; sections = λ l. sym (x.sections l) i; has_begun = begun i; wanted = wanted i; taking = taking i; noted = noted i }
+      λ i. record {
+        next = next i;
+        waits = waits_on (log i);
+        cut = has_reversal (log i);
+        held = held i;
+        held_locks = listed i;
+        sections = λ l. sym (x.sections l) i;
+        has_begun = begun i;
+        wanted = wanted i;
+        taking = taking i;
+        noted = noted i;
+      }
 
   there : (u : ℕ) → IsThere plan n u
-  there u = each_place t (IsThere plan n) w.there (λ v ne. subst (IsWhere plan v) (same_share v ne) (is_there plan r v k)) u
+  there u =
+      each_place t (IsThere plan n) w.there (λ v ne. subst (IsWhere plan v) (same_share v ne) (is_there plan r v k)) u
 
   back : (u : ℕ) → WantsBack plan n.state u
   back u = each_place t (WantsBack plan n.state) w.back
-      (λ v ne d e runs. let x = share v ne in x.wanted ∙ k.back_wants v d (sym (ap waits_on x.log) ∙ e) (x.running runs)) u
+      (λ v ne d e runs. let x = share v ne in
+      x.wanted ∙ k.back_wants v d (sym (ap waits_on x.log) ∙ e) (x.running runs)) u
 
   lawful : Lawful (config_of plan) n.state
   lawful = all_keep (config_of plan) r.state action.steps may k.lawful.lawful
@@ -246,7 +265,8 @@ pub lets_go_on : {e : Event} → fell_asleep (of_sleep e) ≡ None → is_halt e
 lets_go_on awake no_halt no_reversal = record { awake = awake; no_halt = no_halt; no_reversal = no_reversal }
 
 -- so it is awake
-pub awake_behind : (r : Run) (t : ℕ) (e : Event) (s : State) → LetsGoOn e → was_cut r.state t ≡ false → s.log ≡ put r.state.log t (entry_of r.state t e ∷ r.state.log t) → IsAwake s t
+pub awake_behind : (r : Run) (t : ℕ) (e : Event) (s : State) → LetsGoOn e → was_cut r.state t ≡ false
+    → s.log ≡ put r.state.log t (entry_of r.state t e ∷ r.state.log t) → IsAwake s t
 awake_behind r t e s q uncut log =
     let own = ap (λ (f : ℕ → List Entry). f t) log ∙ put_same r.state.log t (entry_of r.state t e ∷ r.state.log t) in
     record { no_wait = ap waits_on own ∙ q.awake; uncut = ap has_reversal own ∙ rw (q.no_reversal, uncut) refl }
@@ -267,9 +287,12 @@ pub record EndsWell (plan : Plan) (r : Run) (t n : ℕ) (e : Event) (s : State) 
   pub unnoted : s.noted t ≡ None
 
 -- with its thread there
-pub goes_on : (plan : Plan) (r : Run) (t n : ℕ) (kind : StepKind) (steps : List Step) (e : Event) → IsOnTrack plan r → AsksOfSleepersAll (by_turn t) (config_of plan) r.state steps
-    → NoneOut (after_all (config_of plan) r.state steps) → QueuedStands (after_all (config_of plan) r.state steps).wait (after_all (config_of plan) r.state steps).blocked_on
-    → (after_all (config_of plan) r.state steps).unstamped t ≡ None → EndsWell plan r t n e (after_all (config_of plan) r.state steps)
+pub goes_on : (plan : Plan) (r : Run) (t n : ℕ) (kind : StepKind) (steps : List Step) (e : Event) → IsOnTrack plan r
+    → AsksOfSleepersAll (by_turn t) (config_of plan) r.state steps
+    → NoneOut (after_all (config_of plan) r.state steps)
+    → QueuedStands (after_all (config_of plan) r.state steps).wait (after_all (config_of plan) r.state steps).blocked_on
+    → (after_all (config_of plan) r.state steps).unstamped t ≡ None
+    → EndsWell plan r t n e (after_all (config_of plan) r.state steps)
     → KeepsTrack plan r t (record { answer = Did kind; steps = steps; next = Some n })
 unfolding HaltsOnlyWhenRunning
 goes_on plan r t n kind steps e k asks out stands noted w = record {
@@ -309,7 +332,8 @@ goes_on plan r t n kind steps e k asks out stands noted w = record {
     })
 
 -- the thread's wake that is to be noted, behind an entry
-pub noted_behind : (plan : Plan) (r : Run) (t : ℕ) (e : Event) → IsOnTrack plan r → put r.state.unstamped t (unstamped_after e (r.state.unstamped t)) t ≡ None
+pub noted_behind : (plan : Plan) (r : Run) (t : ℕ) (e : Event) → IsOnTrack plan r
+    → put r.state.unstamped t (unstamped_after e (r.state.unstamped t)) t ≡ None
 noted_behind plan r t e k = put_same r.state.unstamped t _ ∙ none e (r.state.unstamped t) (none_unnoted plan r t k)
   where
     none : (x : Event) (w : Option Wake) → w ≡ None → unstamped_after x w ≡ None
@@ -320,9 +344,11 @@ pub none_taken : (e : Event) (o : Option ℕ) → o ≡ None → taking_after e 
 none_taken e o i = grind arith
 
 -- a thread that is made ready and put on a queue stands there
-pub now_stands : (wait : ℕ → Wait) (blocked_on : ℕ → Option QueueName) (t : ℕ) (q : QueueName) → QueuedStands wait blocked_on → QueuedStands (put wait t Queued) (put blocked_on t (Some q))
+pub now_stands : (wait : ℕ → Wait) (blocked_on : ℕ → Option QueueName) (t : ℕ) (q : QueueName)
+    → QueuedStands wait blocked_on → QueuedStands (put wait t Queued) (put blocked_on t (Some q))
 unfolding QueuedStands
-now_stands wait blocked_on t q h u = each_place t (λ v. put wait t Queued v ≡ Queued → put blocked_on t (Some q) v ≢ None)
+now_stands wait blocked_on t q h u =
+    each_place t (λ v. put wait t Queued v ≡ Queued → put blocked_on t (Some q) v ≢ None)
     (λ e n. none-some q (sym n ∙ put_same blocked_on t (Some q)))
     (λ v ne. rw (put_other wait t Queued v ne, put_other blocked_on t (Some q) v ne) (h v)) u
 
@@ -402,7 +428,8 @@ module _ (plan : Plan) (r : Run) (t : ℕ) (k : IsOnTrack plan r) where
       go o e = grind arith
 
   -- also behind a step that leaves its wait word and its record
-  pub acting_in : (s : State) → s.blocked_on t ≡ r.state.blocked_on t → s.wait t ≡ r.state.wait t → r.state.wait t ≡ Running → IsActing s t
+  pub acting_in : (s : State) → s.blocked_on t ≡ r.state.blocked_on t → s.wait t ≡ r.state.wait t
+      → r.state.wait t ≡ Running → IsActing s t
   acting_in s named says running = record { unnamed = named ∙ unnamed running; unwoken = ap is_woken (says ∙ running) }
 
   pub acting : r.state.wait t ≡ Running → IsActing r.state t
@@ -451,7 +478,8 @@ module _ (plan : Plan) (r : Run) (t : ℕ) (k : IsOnTrack plan r) where
             absurd (let z = sym f ∙ ap is_some takes in cc)
 
     -- and a take's lock at most
-    pub wants_this : (l : LockNo) (mode : Mode) → Next plan r t (Take l mode) → (j : ℕ) → r.state.wanted t ≡ Some j → l.0 ≡ j
+    pub wants_this : (l : LockNo) (mode : Mode) → Next plan r t (Take l mode) → (j : ℕ) → r.state.wanted t ≡ Some j
+        → l.0 ≡ j
     wants_this l mode e j i = same_Some l.0 j (rw (no, e) at (k.wants t j i))
 
   -- a take that was admitted, or a taking back after a wait, wants its lock
@@ -474,9 +502,12 @@ pub record EndsQuietly (plan : Plan) (r : Run) (t n : ℕ) (op : Op) (e : Event)
   pub lets : LetsGoOn e
 
 -- behind a stamp, and steps that leave what the thread holds, wants and takes
-pub ends_quietly : (plan : Plan) (r : Run) (t n : ℕ) (op : Op) (e : Event) (s : State) → IsOnTrack plan r → IsAtOperation plan r t (Some op) → EndsQuietly plan r t n op e
-    → s.log ≡ put r.state.log t (entry_of r.state t e ∷ r.state.log t) → s.history ≡ entry_of r.state t e ∷ r.state.history → s.held ≡ r.state.held → s.held_locks ≡ r.state.held_locks
-    → s.has_begun ≡ begun_after (config_of plan) e t r.state.has_begun → s.wanted ≡ r.state.wanted → s.taking ≡ put r.state.taking t (taking_after e (r.state.taking t)) → s.noted ≡ put r.state.noted t None
+pub ends_quietly : (plan : Plan) (r : Run) (t n : ℕ) (op : Op) (e : Event) (s : State) → IsOnTrack plan r
+    → IsAtOperation plan r t (Some op) → EndsQuietly plan r t n op e
+    → s.log ≡ put r.state.log t (entry_of r.state t e ∷ r.state.log t)
+    → s.history ≡ entry_of r.state t e ∷ r.state.history → s.held ≡ r.state.held → s.held_locks ≡ r.state.held_locks
+    → s.has_begun ≡ begun_after (config_of plan) e t r.state.has_begun → s.wanted ≡ r.state.wanted
+    → s.taking ≡ put r.state.taking t (taking_after e (r.state.taking t)) → s.noted ≡ put r.state.noted t None
     → EndsWell plan r t n e s
 unfolding after_stamp
 ends_quietly plan r t n op e s k i q log history held listed begun wanted taking noted = record {
@@ -484,15 +515,18 @@ ends_quietly plan r t n op e s k i q log history held listed begun wanted taking
   no_halt = q.lets.no_halt;
   history = history;
   within = q.within;
-  holds = λ l. ap (λ (f : ℕ → ℕ → Hold). f t l) held ∙ holds_all plan r t k up l ∙ ap (λ (hs : List Held). hold_in hs l) q.same;
+  holds = λ l. ap (λ (f : ℕ → ℕ → Hold). f t l) held ∙ holds_all plan r t k up l
+      ∙ ap (λ (hs : List Held). hold_in hs l) q.same;
   listed = ap (λ (f : ℕ → List HeldLock). f t) listed ∙ all_listed plan r t k up ∙ ap gained_order q.same;
   sections = λ l.
-      ap (λ es. open_in c es t l) history ∙ ap (λ (x : Sections). x.now) (sections_stay c r.state t e t l q.quiet) ∙ all_open plan r t k up.no_wait l ∙ ap (λ (f : ℕ → ℕ → Hold). f t l) (sym held);
+      ap (λ es. open_in c es t l) history ∙ ap (λ (x : Sections). x.now) (sections_stay c r.state t e t l q.quiet)
+      ∙ all_open plan r t k up.no_wait l ∙ ap (λ (f : ℕ → ℕ → Hold). f t l) (sym held);
   begun = λ l x.
       ap (λ (f : ℕ → ℕ → Bool). f t l) (begun ∙ begun_stays c (facets e).section t r.state.has_begun q.quiet)
       ∙ k.begun t l (λ z. x (ap (λ (f : ℕ → ℕ → Hold). f t l) held ∙ z));
   wants = ap (λ (f : ℕ → Option ℕ). f t) wanted ∙ wants;
-  taking = ap (λ (f : ℕ → Option ℕ). f t) taking ∙ put_same r.state.taking t _ ∙ none_taken e (r.state.taking t) (k.taking t ∙ wants);
+  taking = ap (λ (f : ℕ → Option ℕ). f t) taking ∙ put_same r.state.taking t _
+      ∙ none_taken e (r.state.taking t) (k.taking t ∙ wants);
   unnoted = ap (λ (f : ℕ → Option Note). f t) noted ∙ put_same r.state.noted t None;
 }
   where

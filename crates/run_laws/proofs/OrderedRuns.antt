@@ -35,16 +35,25 @@ pub record IsUpward (plan : Plan) (edges : List (ℕ × ℕ)) (history : List En
 
 module _ (plan : Plan) (o : IsOrdered plan) where
   -- so does each path
-  path_up : (es : List (ℕ × ℕ)) → ((a b : ℕ) → IsEdge es a b → GoesUp plan a b) → {a b : ℕ} → Reaches es a b → GoesUp plan a b
+  path_up : (es : List (ℕ × ℕ)) → ((a b : ℕ) → IsEdge es a b → GoesUp plan a b) → {a b : ℕ} → Reaches es a b
+      → GoesUp plan a b
   path_up es h {a} {b} (edge i) = h a b i
   path_up es h {a} {b = d} (then {b = b} i r) =
       let x = h a b i in
       let y = path_up es h r in
       let e = o.own_classes x.upper y.lower x.lock (omega (arith, y.less, y.lock)) (x.to ∙ sym y.from) in
-      record { lower = x.lower; upper = y.upper; less = omega (arith, x.less, y.less, e); lock = y.lock; from = x.from; to = y.to }
+      record {
+        lower = x.lower;
+        upper = y.upper;
+        less = omega (arith, x.less, y.less, e);
+        lock = y.lock;
+        from = x.from;
+        to = y.to;
+      }
 
   -- the class of a lock doesn't forbid that of one behind it
-  not_forbidden : (es : List (ℕ × ℕ)) → ((a b : ℕ) → IsEdge es a b → GoesUp plan a b) → (j l : ℕ) → j < l → l < length plan.locks → Forbids es (lock_class plan j) (lock_class plan l) → ⊥
+  not_forbidden : (es : List (ℕ × ℕ)) → ((a b : ℕ) → IsEdge es a b → GoesUp plan a b) → (j l : ℕ) → j < l
+      → l < length plan.locks → Forbids es (lock_class plan j) (lock_class plan l) → ⊥
   not_forbidden es h j l less lock f = elim f [
     | inl x ↦ let e = o.own_classes j l (omega (arith, less, lock)) lock x in omega (arith, e, less)
     | inr x ↦
@@ -83,16 +92,25 @@ module _ (plan : Plan) (o : IsOrdered plan) where
 
       -- and each held lock stands before the one that is taken
       lower_lock : (j : ℕ) (m : Mode) → s.held t j ≡ Holds m → j < l.0
-      lower_lock j m e = lower_in (held_before plan r t) l.0 j m (o.upward t (r.next_op t) l mode g.at.next) (ap (λ (hs : List Held). hold_in hs j) (sym holds_all) ∙ sym (k.holds t j) ∙ e)
+      lower_lock j m e = lower_in (held_before plan r t) l.0 j m (o.upward t (r.next_op t) l mode g.at.next)
+          (ap (λ (hs : List Held). hold_in hs j) (sym holds_all) ∙ sym (k.holds t j) ∙ e)
 
       -- so an admission adds edges that lead up,
-      admits_up : IsUpward plan s.edges s.history → IsUpward plan (admitted plan r t l).state.edges (admitted plan r t l).state.history
+      admits_up : IsUpward plan s.edges s.history
+          → IsUpward plan (admitted plan r t l).state.edges (admitted plan r t l).state.history
       unfolding after_admit
       admits_up u = record {
         up = λ a b i. elim (new_or_old s.edges (classes_held c s t) (c.class l.0) a b i) [
           | inl x ↦
               let h = has_held c s t a k.lawful.lawful x.0 in
-              record { lower = h.lock; upper = l.0; less = lower_lock h.lock h.mode h.holds; lock = its_lock; from = h.from; to = x.1 }
+              record {
+                lower = h.lock;
+                upper = l.0;
+                less = lower_lock h.lock h.mode h.holds;
+                lock = its_lock;
+                from = h.from;
+                to = x.1;
+              }
           | inr x ↦ u.up a b x
         ];
         unrefused = u.unrefused;
@@ -104,7 +122,8 @@ module _ (plan : Plan) (o : IsOrdered plan) where
           let f = first_found s.edges (c.class l.0) (classes_held c s t) i e in
           let h = has_held c s t i k.lawful.lawful (first_among s.edges (classes_held c s t) (c.class l.0) i f) in
           not_forbidden s.edges u.up h.lock l.0 (lower_lock h.lock h.mode h.holds) its_lock
-          (subst (λ a. Forbids s.edges a (c.class l.0)) (sym h.from) (first_forbids s.edges (classes_held c s t) (c.class l.0) i f))
+          (subst (λ a. Forbids s.edges a (c.class l.0)) (sym h.from)
+          (first_forbids s.edges (classes_held c s t) (c.class l.0) i f))
 
 -- 3. Action by action
 
@@ -115,7 +134,8 @@ IsUpBehind plan r action =
     (after_all (config_of plan) r.state action.steps).history
 
 -- an entry that is no refusal
-one_more : {plan : Plan} {edges : List (ℕ × ℕ)} {history : List Entry} (e : Entry) → is_reversal e.event ≡ false → IsUpward plan edges history → IsUpward plan edges (e ∷ history)
+one_more : {plan : Plan} {edges : List (ℕ × ℕ)} {history : List Entry} (e : Entry) → is_reversal e.event ≡ false
+    → IsUpward plan edges history → IsUpward plan edges (e ∷ history)
 one_more e i u = record { up = u.up; unrefused = rw (i, u.unrefused) refl }
 
 -- as that of a wake is none
@@ -135,9 +155,11 @@ acquired plan r t _ (actions.claims (actions.by_trying l mode past) i a f) u = o
 acquired plan r t _ (actions.enters by i a (actions.on_turnstile x)) u = u
 acquired plan r t _ (actions.enters by i a (actions.on_sleep_queue x)) u = u
 
-module _ (plan : Plan) (o : IsOrdered plan) (p : IsProper plan) (r : Run) (k : IsOnTrack plan r) (t : ℕ) (u : IsUpward plan r.state.edges r.state.history) where
+module _ (plan : Plan) (o : IsOrdered plan) (p : IsProper plan) (r : Run) (k : IsOnTrack plan r) (t : ℕ)
+    (u : IsUpward plan r.state.edges r.state.history) where
   made : (action : Action) → actions.Fits plan r t action → IsUpBehind plan r action
-  unfolding after_look after_stamp after_drop after_ready after_open after_mark after_resume after_open_sleep after_add after_wake after_lend after_shift after_end_walk after_refuse
+  unfolding after_look after_stamp after_drop after_ready after_open after_mark after_resume after_open_sleep after_add
+      after_wake after_lend after_shift after_end_walk after_refuse
   made _ (actions.is_over e) = u
   made _ (actions.lends l o h w e f) = u
   made _ (actions.ends_at_lock l w e) = u
@@ -185,7 +207,8 @@ one_left f a (suc n) e = go (f a) refl e (one_left f (a + 1) n)
     rest : Bool
     rest = list_all f (range_with_len (a + 1) n)
 
-    go : (b : Bool) → f a ≡ b → (b && rest) ≡ false → (rest ≡ false → (t : ℕ) × (t < (a + 1) + n) × (f t ≡ false)) → (t : ℕ) × (t < a + suc n) × (f t ≡ false)
+    go : (b : Bool) → f a ≡ b → (b && rest) ≡ false → (rest ≡ false → (t : ℕ) × (t < (a + 1) + n) × (f t ≡ false))
+        → (t : ℕ) × (t < a + suc n) × (f t ≡ false)
     go true i j later = let r = later j in (r.0, omega (arith, r.1), r.2)
     go false i j later = (a, omega arith, i)
 
@@ -193,11 +216,13 @@ abbrev IsUp : Plan → Run → Type 0
 IsUp plan r = IsUpward plan r.state.edges r.state.history
 
 module _ (plan : Plan) (o : IsOrdered plan) (p : IsProper plan) where
-  with_turn_up : (r : Run) (ts : List ℕ) (idle : Bool) → IsOnTrack plan r → IsUp plan r → IsUp plan (with_turn plan r ts idle).run
+  with_turn_up : (r : Run) (ts : List ℕ) (idle : Bool) → IsOnTrack plan r → IsUp plan r
+      → IsUp plan (with_turn plan r ts idle).run
   with_turn_up r [] idle k u = u
   with_turn_up r (t ∷ ts) idle k u = turned plan o p r k t u
 
-  after_turn_up : (k : Course) (ts : List ℕ) → IsOnTrack plan k.run → IsUp plan k.run → IsUp plan (after_turn plan k ts).run
+  after_turn_up : (k : Course) (ts : List ℕ) → IsOnTrack plan k.run → IsUp plan k.run
+      → IsUp plan (after_turn plan k ts).run
   after_turn_up k [] h u = with_turn_up k.run (round_of plan k.run) true h u
   after_turn_up k (t ∷ ts) h u = with_turn_up k.run (t ∷ ts) k.idle h u
 
@@ -228,7 +253,8 @@ module _ (plan : Plan) (o : IsOrdered plan) (p : IsProper plan) where
       k : Course
       k = course_after plan n
 
-      go : (ended : Bool) → all_ended plan k.run ≡ ended → (reversed stuck : Bool) → is_stuck k ≡ stuck → cond ended (cond reversed IsReversed IsDone) (cond stuck IsStuck IsTooLong) ≡ IsStuck → ⊥
+      go : (ended : Bool) → all_ended plan k.run ≡ ended → (reversed stuck : Bool) → is_stuck k ≡ stuck
+          → cond ended (cond reversed IsReversed IsDone) (cond stuck IsStuck IsTooLong) ≡ IsStuck → ⊥
       go true a true stuck i f = absurd cc
       go true a false stuck i f = absurd cc
       go false a reversed false i f = absurd cc
@@ -243,17 +269,21 @@ module _ (plan : Plan) (o : IsOrdered plan) (p : IsProper plan) where
       k : Course
       k = course_after plan n
 
-      go : (ended reversed : Bool) → reversed ≡ false → (stuck : Bool) → cond ended (cond reversed IsReversed IsDone) (cond stuck IsStuck IsTooLong) ≡ IsReversed → ⊥
+      go : (ended reversed : Bool) → reversed ≡ false → (stuck : Bool)
+          → cond ended (cond reversed IsReversed IsDone) (cond stuck IsStuck IsTooLong) ≡ IsReversed → ⊥
       go true true a stuck f = absurd cc
       go true false a stuck f = absurd cc
       go false reversed a true f = absurd cc
       go false reversed a false f = absurd cc
 
-pub ordered_unrefused : (plan : Plan) (n : ℕ) → IsProper plan → IsOrdered plan → has_reversal (course_after plan n).run.state.history ≡ false
+pub ordered_unrefused : (plan : Plan) (n : ℕ) → IsProper plan → IsOrdered plan
+    → has_reversal (course_after plan n).run.state.history ≡ false
 ordered_unrefused plan n p o = (course_up plan o p n).unrefused
 
-pub ordered_not_stuck : (plan : Plan) (n : ℕ) → IsProper plan → IsOrdered plan → ending_of plan (course_after plan n) ≢ IsStuck
+pub ordered_not_stuck : (plan : Plan) (n : ℕ) → IsProper plan → IsOrdered plan
+    → ending_of plan (course_after plan n) ≢ IsStuck
 ordered_not_stuck plan n p o = not_stuck plan o p n
 
-pub ordered_not_reversed : (plan : Plan) (n : ℕ) → IsProper plan → IsOrdered plan → ending_of plan (course_after plan n) ≢ IsReversed
+pub ordered_not_reversed : (plan : Plan) (n : ℕ) → IsProper plan → IsOrdered plan
+    → ending_of plan (course_after plan n) ≢ IsReversed
 ordered_not_reversed plan n p o = not_reversed plan o p n

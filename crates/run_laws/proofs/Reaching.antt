@@ -6,7 +6,8 @@ use Names.{IsEdge, edge, then, HasNoCycle, leads_below, above_all, leads_reaches
 use Rattle.std.proofs.Common.{◌≡◌, ◌<◌, ◌≤◌}
 
 -- a sum whose entries are none greater than those of the other, and one is less
-sum_below-less : (n : ℕ) (f g : ℕ → ℕ) (i : ℕ) → i < n → f i < g i → ((j : ℕ) → j < n → f j ≤ g j) → sum_below n f < sum_below n g
+sum_below-less : (n : ℕ) (f g : ℕ → ℕ) (i : ℕ) → i < n → f i < g i → ((j : ℕ) → j < n → f j ≤ g j)
+    → sum_below n f < sum_below n g
 unfolding sum_below
 sum_below-less zero f g i l less h = absurd (omega arith)
 sum_below-less (suc n) f g i l less h =
@@ -50,7 +51,8 @@ module _ (es : List (ℕ × ℕ)) where
         let here : leads a b ≡ true = (leads_reaches es (above_all es) (edge_below es) a b).1 (edge i) in
         let less : one (leads b b) < one (leads a b) = rw (not_itself b, here) (omega arith) in
         sum_below-less (above_all es) (λ d. one (leads b d)) (λ d. one (leads a d)) b (edge_below es a b i) less
-        (λ d k. one_below (leads b d) (leads a d) (λ x. (leads_reaches es (above_all es) (edge_below es) a d).1 (then i ((leads_reaches es (above_all es) (edge_below es) b d).0 x))))
+        (λ d k. one_below (leads b d) (leads a d) (λ x. (leads_reaches es (above_all es) (edge_below es) a d).1
+        (then i ((leads_reaches es (above_all es) (edge_below es) b d).0 x))))
 
     -- what is so of a class where it is so of each class to which an edge leads from it, is so of all
     pub by_edges : (P : ℕ → Type 0) → ((a : ℕ) → ((b : ℕ) → IsEdge es a b → P b) → P a) → (a : ℕ) → P a

@@ -53,7 +53,19 @@ begun_other c (TakenBack d) t f u l ne = put_at_other f t (c.chan_lock d) true u
 
 module _ (c : Config) (u : ℕ) where
   same : (s : State) → SameShare c u s s
-  same s = record { held = refl; held_locks = refl; log = refl; sections = λ l. refl; has_begun = refl; wanted = refl; taking = refl; noted = refl; walk = refl; marked = refl; running = λ e. e }
+  same s = record {
+    held = refl;
+    held_locks = refl;
+    log = refl;
+    sections = λ l. refl;
+    has_begun = refl;
+    wanted = refl;
+    taking = refl;
+    noted = refl;
+    walk = refl;
+    marked = refl;
+    running = λ e. e;
+  }
 
   -- one step, of another thread
   pub leaves : (s : State) (step : Step) → (maker step ≡ u → ⊥) → SameShare c u s (after c s step)
@@ -75,8 +87,32 @@ module _ (c : Config) (u : ℕ) where
         marked = refl;
         running = λ e. e;
       }
-  leaves s (Gains t l mode by_try) ne = record { held = put_at_row s.held t l _ u ne; held_locks = put_other s.held_locks t _ u ne; log = refl; sections = λ l. refl; has_begun = put_at_row s.has_begun t l _ u ne; wanted = put_other s.wanted t _ u ne; taking = refl; noted = refl; walk = refl; marked = refl; running = λ e. e }
-  leaves s (Drops t l mode) ne = record { held = put_at_row s.held t l _ u ne; held_locks = put_other s.held_locks t _ u ne; log = refl; sections = λ l. refl; has_begun = refl; wanted = refl; taking = refl; noted = refl; walk = refl; marked = refl; running = λ e. e }
+  leaves s (Gains t l mode by_try) ne = record {
+    held = put_at_row s.held t l _ u ne;
+    held_locks = put_other s.held_locks t _ u ne;
+    log = refl;
+    sections = λ l. refl;
+    has_begun = put_at_row s.has_begun t l _ u ne;
+    wanted = put_other s.wanted t _ u ne;
+    taking = refl;
+    noted = refl;
+    walk = refl;
+    marked = refl;
+    running = λ e. e;
+  }
+  leaves s (Drops t l mode) ne = record {
+    held = put_at_row s.held t l _ u ne;
+    held_locks = put_other s.held_locks t _ u ne;
+    log = refl;
+    sections = λ l. refl;
+    has_begun = refl;
+    wanted = refl;
+    taking = refl;
+    noted = refl;
+    walk = refl;
+    marked = refl;
+    running = λ e. e;
+  }
   leaves s (Stamps t e) ne =
       record {
         held = refl;
@@ -91,21 +127,201 @@ module _ (c : Config) (u : ℕ) where
         marked = refl;
         running = λ e. e;
       }
-  leaves s (Readies t q) ne = record { held = refl; held_locks = refl; log = refl; sections = λ l. refl; has_begun = refl; wanted = refl; taking = refl; noted = refl; walk = refl; marked = refl; running = λ e. sym (put_other s.wait t _ u ne) ∙ e }
-  leaves s (Unreadies t q) ne = record { held = refl; held_locks = refl; log = refl; sections = λ l. refl; has_begun = refl; wanted = refl; taking = refl; noted = refl; walk = refl; marked = refl; running = λ e. sym (put_other s.wait t _ u ne) ∙ e }
-  leaves s (Enters t l mode x) ne = record { held = refl; held_locks = refl; log = refl; sections = λ l. refl; has_begun = refl; wanted = put_other s.wanted t _ u ne; taking = refl; noted = refl; walk = put_other s.walk t _ u ne; marked = refl; running = λ e. e }
-  leaves s (Opens t l mode) ne = record { held = put_at_row s.held t l _ u ne; held_locks = put_other s.held_locks t _ u ne; log = refl; sections = λ l. refl; has_begun = refl; wanted = refl; taking = refl; noted = refl; walk = refl; marked = put_other s.marked t _ u ne; running = λ e. e }
-  leaves s (EntersSleepQueue t l mode x) ne = record { held = refl; held_locks = refl; log = refl; sections = λ l. refl; has_begun = refl; wanted = put_other s.wanted t _ u ne; taking = refl; noted = refl; walk = refl; marked = refl; running = λ e. e }
-  leaves s (OpensSleepQueue t l mode) ne = record { held = put_at_row s.held t l _ u ne; held_locks = put_other s.held_locks t _ u ne; log = refl; sections = λ l. refl; has_begun = refl; wanted = refl; taking = refl; noted = refl; walk = refl; marked = put_other s.marked t _ u ne; running = λ e. e }
-  leaves s (Wakes t d all) ne = record { held = refl; held_locks = refl; log = refl; sections = λ l. refl; has_begun = refl; wanted = refl; taking = refl; noted = refl; walk = refl; marked = put_other s.marked t _ u ne; running = λ e. e }
-  leaves s (Marks t m ms) ne = record { held = refl; held_locks = refl; log = refl; sections = λ l. refl; has_begun = refl; wanted = refl; taking = refl; noted = refl; walk = refl; marked = put_other s.marked t _ u ne; running = at_put (λ v w. w ≡ Running → s.wait v ≡ Running) s.wait m.thread _ (λ e. absurd cc) (λ v n e. e) u }
-  leaves s (Resumes t q cause) ne = record { held = refl; held_locks = refl; log = refl; sections = λ l. refl; has_begun = refl; wanted = put_other s.wanted t _ u ne; taking = put_other s.taking t _ u ne; noted = put_other s.noted t _ u ne; walk = refl; marked = refl; running = λ e. sym (put_other s.wait t _ u ne) ∙ e }
-  leaves s (Claims t l h by_try) ne = record { held = put_at_row s.held t l _ u ne; held_locks = put_other s.held_locks t _ u ne; log = refl; sections = λ l. refl; has_begun = put_at_row s.has_begun t l _ u ne; wanted = put_other s.wanted t _ u ne; taking = refl; noted = refl; walk = refl; marked = refl; running = λ e. e }
-  leaves s (Lends t l o h) ne = record { held = refl; held_locks = refl; log = refl; sections = λ l. refl; has_begun = refl; wanted = refl; taking = refl; noted = refl; walk = put_other s.walk t _ u ne; marked = refl; running = λ e. e }
-  leaves s (Shifts t o l) ne = record { held = refl; held_locks = refl; log = refl; sections = λ l. refl; has_begun = refl; wanted = refl; taking = refl; noted = refl; walk = put_other s.walk t _ u ne; marked = refl; running = λ e. e }
-  leaves s (EndsWalk t) ne = record { held = refl; held_locks = refl; log = refl; sections = λ l. refl; has_begun = refl; wanted = refl; taking = refl; noted = refl; walk = put_other s.walk t _ u ne; marked = refl; running = λ e. e }
-  leaves s (Admits t l) ne = record { held = refl; held_locks = refl; log = refl; sections = λ l. refl; has_begun = refl; wanted = put_other s.wanted t _ u ne; taking = put_other s.taking t _ u ne; noted = refl; walk = refl; marked = refl; running = λ e. e }
-  leaves s (Refuses t l k) ne = record { held = refl; held_locks = refl; log = refl; sections = λ l. refl; has_begun = refl; wanted = refl; taking = refl; noted = put_other s.noted t _ u ne; walk = refl; marked = refl; running = λ e. e }
+  leaves s (Readies t q) ne = record {
+    held = refl;
+    held_locks = refl;
+    log = refl;
+    sections = λ l. refl;
+    has_begun = refl;
+    wanted = refl;
+    taking = refl;
+    noted = refl;
+    walk = refl;
+    marked = refl;
+    running = λ e. sym (put_other s.wait t _ u ne) ∙ e;
+  }
+  leaves s (Unreadies t q) ne = record {
+    held = refl;
+    held_locks = refl;
+    log = refl;
+    sections = λ l. refl;
+    has_begun = refl;
+    wanted = refl;
+    taking = refl;
+    noted = refl;
+    walk = refl;
+    marked = refl;
+    running = λ e. sym (put_other s.wait t _ u ne) ∙ e;
+  }
+  leaves s (Enters t l mode x) ne = record {
+    held = refl;
+    held_locks = refl;
+    log = refl;
+    sections = λ l. refl;
+    has_begun = refl;
+    wanted = put_other s.wanted t _ u ne;
+    taking = refl;
+    noted = refl;
+    walk = put_other s.walk t _ u ne;
+    marked = refl;
+    running = λ e. e;
+  }
+  leaves s (Opens t l mode) ne = record {
+    held = put_at_row s.held t l _ u ne;
+    held_locks = put_other s.held_locks t _ u ne;
+    log = refl;
+    sections = λ l. refl;
+    has_begun = refl;
+    wanted = refl;
+    taking = refl;
+    noted = refl;
+    walk = refl;
+    marked = put_other s.marked t _ u ne;
+    running = λ e. e;
+  }
+  leaves s (EntersSleepQueue t l mode x) ne = record {
+    held = refl;
+    held_locks = refl;
+    log = refl;
+    sections = λ l. refl;
+    has_begun = refl;
+    wanted = put_other s.wanted t _ u ne;
+    taking = refl;
+    noted = refl;
+    walk = refl;
+    marked = refl;
+    running = λ e. e;
+  }
+  leaves s (OpensSleepQueue t l mode) ne = record {
+    held = put_at_row s.held t l _ u ne;
+    held_locks = put_other s.held_locks t _ u ne;
+    log = refl;
+    sections = λ l. refl;
+    has_begun = refl;
+    wanted = refl;
+    taking = refl;
+    noted = refl;
+    walk = refl;
+    marked = put_other s.marked t _ u ne;
+    running = λ e. e;
+  }
+  leaves s (Wakes t d all) ne = record {
+    held = refl;
+    held_locks = refl;
+    log = refl;
+    sections = λ l. refl;
+    has_begun = refl;
+    wanted = refl;
+    taking = refl;
+    noted = refl;
+    walk = refl;
+    marked = put_other s.marked t _ u ne;
+    running = λ e. e;
+  }
+  leaves s (Marks t m ms) ne = record {
+    held = refl;
+    held_locks = refl;
+    log = refl;
+    sections = λ l. refl;
+    has_begun = refl;
+    wanted = refl;
+    taking = refl;
+    noted = refl;
+    walk = refl;
+    marked = put_other s.marked t _ u ne;
+    running = at_put (λ v w. w ≡ Running → s.wait v ≡ Running) s.wait m.thread _ (λ e. absurd cc) (λ v n e. e) u;
+  }
+  leaves s (Resumes t q cause) ne = record {
+    held = refl;
+    held_locks = refl;
+    log = refl;
+    sections = λ l. refl;
+    has_begun = refl;
+    wanted = put_other s.wanted t _ u ne;
+    taking = put_other s.taking t _ u ne;
+    noted = put_other s.noted t _ u ne;
+    walk = refl;
+    marked = refl;
+    running = λ e. sym (put_other s.wait t _ u ne) ∙ e;
+  }
+  leaves s (Claims t l h by_try) ne = record {
+    held = put_at_row s.held t l _ u ne;
+    held_locks = put_other s.held_locks t _ u ne;
+    log = refl;
+    sections = λ l. refl;
+    has_begun = put_at_row s.has_begun t l _ u ne;
+    wanted = put_other s.wanted t _ u ne;
+    taking = refl;
+    noted = refl;
+    walk = refl;
+    marked = refl;
+    running = λ e. e;
+  }
+  leaves s (Lends t l o h) ne = record {
+    held = refl;
+    held_locks = refl;
+    log = refl;
+    sections = λ l. refl;
+    has_begun = refl;
+    wanted = refl;
+    taking = refl;
+    noted = refl;
+    walk = put_other s.walk t _ u ne;
+    marked = refl;
+    running = λ e. e;
+  }
+  leaves s (Shifts t o l) ne = record {
+    held = refl;
+    held_locks = refl;
+    log = refl;
+    sections = λ l. refl;
+    has_begun = refl;
+    wanted = refl;
+    taking = refl;
+    noted = refl;
+    walk = put_other s.walk t _ u ne;
+    marked = refl;
+    running = λ e. e;
+  }
+  leaves s (EndsWalk t) ne = record {
+    held = refl;
+    held_locks = refl;
+    log = refl;
+    sections = λ l. refl;
+    has_begun = refl;
+    wanted = refl;
+    taking = refl;
+    noted = refl;
+    walk = put_other s.walk t _ u ne;
+    marked = refl;
+    running = λ e. e;
+  }
+  leaves s (Admits t l) ne = record {
+    held = refl;
+    held_locks = refl;
+    log = refl;
+    sections = λ l. refl;
+    has_begun = refl;
+    wanted = put_other s.wanted t _ u ne;
+    taking = put_other s.taking t _ u ne;
+    noted = refl;
+    walk = refl;
+    marked = refl;
+    running = λ e. e;
+  }
+  leaves s (Refuses t l k) ne = record {
+    held = refl;
+    held_locks = refl;
+    log = refl;
+    sections = λ l. refl;
+    has_begun = refl;
+    wanted = refl;
+    taking = refl;
+    noted = put_other s.noted t _ u ne;
+    walk = refl;
+    marked = refl;
+    running = λ e. e;
+  }
   leaves s (Aborts t q side w) ne =
       record {
         held = refl;
@@ -126,7 +342,8 @@ module _ (c : Config) (u : ℕ) where
   behind a b = grind arith
 
   -- and a list of steps of another thread
-  pub all_leave : (t : ℕ) (s : State) (steps : List Step) → (t ≡ u → ⊥) → AllBy t steps → SameShare c u s (after_all c s steps)
+  pub all_leave : (t : ℕ) (s : State) (steps : List Step) → (t ≡ u → ⊥) → AllBy t steps
+      → SameShare c u s (after_all c s steps)
   all_leave t s [] ne by = same s
   all_leave t s (step ∷ steps) ne by =
       behind (leaves s step (λ e. ne (sym (ap (λ p. p.0) by.0) ∙ e))) (all_leave t (after c s step) steps ne by.1)

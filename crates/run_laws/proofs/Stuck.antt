@@ -23,11 +23,15 @@ sharing : (x : Hold) → 1 ≤ shares x → x ≡ Holds Shared
 sharing x l = grind arith
 
 -- a lock whose word has a holder is held by a thread
-holder_found : (c : Config) (s : State) (l : ℕ) → Lawful c s → 1 ≤ busy (s.word l).holder → (u : ℕ) × (mode : Mode) × (s.held u l ≡ Holds mode)
+holder_found : (c : Config) (s : State) (l : ℕ) → Lawful c s → 1 ≤ busy (s.word l).holder
+    → (u : ℕ) × (mode : Mode) × (s.held u l ≡ Holds mode)
 unfolding WordsMatchHolders
-holder_found c s l h b = go (s.word l).holder (h.words.words_match_holders l).owner (h.words.words_match_holders l).sharers_are_counted (h.words.words_match_holders l).some_sharer b
+holder_found c s l h b = go (s.word l).holder (h.words.words_match_holders l).owner
+    (h.words.words_match_holders l).sharers_are_counted (h.words.words_match_holders l).some_sharer b
   where
-    go : (x : Holder) → ((t : ℕ) → is_exclusive (s.held t l) ≡ owns t x) → sum_below c.threads (λ t. shares (s.held t l)) ≡ sharers x → x ≢ SharedBy 0 → 1 ≤ busy x → (u : ℕ) × (mode : Mode) × (s.held u l ≡ Holds mode)
+    go : (x : Holder) → ((t : ℕ) → is_exclusive (s.held t l) ≡ owns t x)
+        → sum_below c.threads (λ t. shares (s.held t l)) ≡ sharers x → x ≢ SharedBy 0 → 1 ≤ busy x
+        → (u : ℕ) × (mode : Mode) × (s.held u l ≡ Holds mode)
     go Free own count some b = absurd (omega arith)
     go (HeldBy u) own count some b = (u, Excl, exclusive_is (s.held u l) (own u ∙ eq-eqb u u refl))
     go (SharedBy zero) own count some b = absurd (some refl)
@@ -41,11 +45,13 @@ holder_found c s l h b = go (s.word l).holder (h.words.words_match_holders l).ow
 pub record AllSleep (plan : Plan) (r : Run) : Type 0 where
   pub unmarked : (t : ℕ) → t < length plan.threads → r.state.marked t ≡ []
   pub queued : (t : ℕ) → t < length plan.threads → has_ended plan r t ≡ false → r.state.wait t ≡ Queued
-  pub stand : (t : ℕ) → t < length plan.threads → has_ended plan r t ≡ false → (q : QueueName) × (stands t (r.state.lists q) ≡ 1)
+  pub stand : (t : ℕ) → t < length plan.threads → has_ended plan r t ≡ false
+      → (q : QueueName) × (stands t (r.state.lists q) ≡ 1)
 
 -- some thread stands on a channel's queue
 abbrev pub SleepsOnChannel : Plan → Run → Type 0
-SleepsOnChannel plan r = (u : ℕ) × ((d : ℕ) × ((u < length plan.threads) × (0 < stands u (r.state.lists (chan_queue d)))))
+SleepsOnChannel plan r =
+    (u : ℕ) × ((d : ℕ) × ((u < length plan.threads) × (0 < stands u (r.state.lists (chan_queue d)))))
 
 module _ (plan : Plan) (r : Run) (k : IsOnTrack plan r) where
   abbrev c : Config
@@ -62,12 +68,14 @@ module _ (plan : Plan) (r : Run) (k : IsOnTrack plan r) where
       let first = and_parts ((made || was_cut s t) && not (owes c s t)) (holds_none c s t) e in
       elim (or_cases made (was_cut s t) (and_parts (made || was_cut s t) (not (owes c s t)) first.0).0) [
         | inl x ↦
-            let none = slice_get_past (operations_of plan t) (r.next_op t) (leb-true (length (operations_of plan t)) (r.next_op t) x) in
+            let none = slice_get_past (operations_of plan t) (r.next_op t)
+            (leb-true (length (operations_of plan t)) (r.next_op t) x) in
             go (waits_on (s.log t)) refl none (k.wants t l w)
         | inr x ↦ none-some l (sym (k.cut_wants_nothing t x) ∙ w)
       ]
     where
-      go : (o : Option ℕ) → waits_on (s.log t) ≡ o → slice_get (operations_of plan t) (r.next_op t) ≡ None → TakesLock c l (waits_on (s.log t)) (slice_get (operations_of plan t) (r.next_op t)) → ⊥
+      go : (o : Option ℕ) → waits_on (s.log t) ≡ o → slice_get (operations_of plan t) (r.next_op t) ≡ None
+          → TakesLock c l (waits_on (s.log t)) (slice_get (operations_of plan t) (r.next_op t)) → ⊥
       go o i none takes = grind arith
 
   -- nor has one that holds one
@@ -76,7 +84,8 @@ module _ (plan : Plan) (r : Run) (k : IsOnTrack plan r) where
   holding t l mode h e =
       let made = nat_le (length (operations_of plan t)) (r.next_op t) || was_cut s t in
       let none = not-true _ (and_parts (made && not (owes c s t)) (holds_none c s t) e).1 in
-      let some = true-any_below c.locks (λ j. not (is_unheld (s.held t j))) l (k.taken.only_locks_are_held t l mode h) (ap (λ (x : Hold). not (is_unheld x)) h) in
+      let some = true-any_below c.locks (λ j. not (is_unheld (s.held t j))) l (k.taken.only_locks_are_held t l mode h)
+      (ap (λ (x : Hold). not (is_unheld x)) h) in
       let z : true ≡ false = sym some ∙ none in
       cc
 
@@ -114,9 +123,11 @@ module _ (plan : Plan) (r : Run) (k : IsOnTrack plan r) where
     uncalled : (l : ℕ) → callers c s.marked s.wait s.called l ≡ 0
     unfolding callers
     uncalled l =
-        let a = sum_below-zero c.threads (λ t. calls_marked l (s.marked t)) (λ t lt. ap (calls_marked l) (all.unmarked t lt)) in
+        let a = sum_below-zero c.threads (λ t. calls_marked l (s.marked t))
+        (λ t lt. ap (calls_marked l) (all.unmarked t lt)) in
         let b = sum_below-zero c.threads (λ t. calls_woken l (s.wait t)) (λ t lt. not_woken t l lt (s.wait t) refl) in
-        let d = sum_below-zero c.threads (λ t. at_option l (s.called t)) (λ t lt. not_called t l lt (s.called t) refl) in
+        let d = sum_below-zero c.threads (λ t. at_option l (s.called t))
+        (λ t lt. not_called t l lt (s.called t) refl) in
         omega (arith, a, b, d)
 
     -- a lock on whose queue a thread stands is held,
@@ -124,13 +135,15 @@ module _ (plan : Plan) (r : Run) (k : IsOnTrack plan r) where
     unfolding FreeWordHasCalled
     found t l i =
         let shows = ap one (shown c s t l k.lawful.lawful i).2 in
-        holder_found c s l k.lawful.lawful (omega (arith, shows, uncalled l, k.lawful.lawful.waits.free_word_has_called l))
+        holder_found c s l k.lawful.lawful
+        (omega (arith, shows, uncalled l, k.lawful.lawful.waits.free_word_has_called l))
 
     abbrev Goal : Type 0
     Goal = SleepsOnChannel plan r
 
     -- and its holder stands on a queue too:
-    on_from : (t : ℕ) → t < c.threads → has_ended plan r t ≡ false → ((l : ℕ) → 1 ≤ stands t (s.lists (lock_queue l)) → Goal) → Goal
+    on_from : (t : ℕ) → t < c.threads → has_ended plan r t ≡ false
+        → ((l : ℕ) → 1 ≤ stands t (s.lists (lock_queue l)) → Goal) → Goal
     on_from t lt e by_lock = let z = all.stand t lt e in go z.0 z.1
       where
         go : (q : QueueName) → stands t (s.lists q) ≡ 1 → Goal
@@ -138,7 +151,8 @@ module _ (plan : Plan) (r : Run) (k : IsOnTrack plan r) where
         go (Chan d) i = (t, (d.0, (lt, omega (arith, i))))
 
     -- of a lock to whose class an edge leads, or of a channel;
-    goes_on : (t l : ℕ) → 1 ≤ stands t (s.lists (lock_queue l)) → ((u j : ℕ) → IsEdge s.edges (c.class l) (c.class j) → 1 ≤ stands u (s.lists (lock_queue j)) → Goal) → Goal
+    goes_on : (t l : ℕ) → 1 ≤ stands t (s.lists (lock_queue l))
+        → ((u j : ℕ) → IsEdge s.edges (c.class l) (c.class j) → 1 ≤ stands u (s.lists (lock_queue j)) → Goal) → Goal
     unfolding OnlyThreadsHold WantsAreOrdered
     goes_on t l i by_edge =
         let h = found t l i in
@@ -148,21 +162,28 @@ module _ (plan : Plan) (r : Run) (k : IsOnTrack plan r) where
 
     -- so it comes to a channel
     from_class : (a t l : ℕ) → c.class l ≡ a → 1 ≤ stands t (s.lists (lock_queue l)) → Goal
-    from_class = by_edges s.edges k.ordered.no_cycle (λ a. (t l : ℕ) → c.class l ≡ a → 1 ≤ stands t (s.lists (lock_queue l)) → Goal)
-        (λ a rest t l e i. goes_on t l i (λ u j x y. rest (c.class j) (subst (λ b. IsEdge s.edges b (c.class j)) e x) u j refl y))
+    from_class = by_edges s.edges k.ordered.no_cycle
+        (λ a. (t l : ℕ) → c.class l ≡ a → 1 ≤ stands t (s.lists (lock_queue l)) → Goal)
+        (λ a rest t l e i. goes_on t l i
+        (λ u j x y. rest (c.class j) (subst (λ b. IsEdge s.edges b (c.class j)) e x) u j refl y))
 
     pub sleeps_on_channel : (t : ℕ) → t < c.threads → has_ended plan r t ≡ false → Goal
     sleeps_on_channel t lt e = on_from t lt e (λ l i. from_class (c.class l) t l refl i)
 
 -- 4. The scheduled run
 
-pub stuck_on_channels : (plan : Plan) (n t : ℕ) → IsProper plan → is_stuck (course_after plan n) ≡ true → t < length plan.threads → has_ended plan (course_after plan n).run t ≡ false → SleepsOnChannel plan (course_after plan n).run
-stuck_on_channels plan n t p stuck lt going = sleeps_on_channel plan r (behind_course plan n p) (record { unmarked = unmarked; queued = λ u l e. (slept u l e).0.queued; stand = λ u l e. (slept u l e).1 }) t lt going
+pub stuck_on_channels : (plan : Plan) (n t : ℕ) → IsProper plan → is_stuck (course_after plan n) ≡ true
+    → t < length plan.threads → has_ended plan (course_after plan n).run t ≡ false
+    → SleepsOnChannel plan (course_after plan n).run
+stuck_on_channels plan n t p stuck lt going = sleeps_on_channel plan r (behind_course plan n p)
+    (record { unmarked = unmarked; queued = λ u l e. (slept u l e).0.queued; stand = λ u l e. (slept u l e).1 }) t lt
+    going
   where
     r : Run
     r = (course_after plan n).run
 
-    slept : (u : ℕ) → u < length plan.threads → has_ended plan r u ≡ false → IsSleeping plan r u × ((q : QueueName) × (stands u (r.state.lists q) ≡ 1))
+    slept : (u : ℕ) → u < length plan.threads → has_ended plan r u ≡ false
+        → IsSleeping plan r u × ((q : QueueName) × (stands u (r.state.lists q) ≡ 1))
     slept u l e = stuck_sleeps plan n u p stuck l e
 
     unmarked : (u : ℕ) → u < length plan.threads → r.state.marked u ≡ []

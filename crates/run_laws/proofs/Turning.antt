@@ -24,14 +24,19 @@ use Rattle.run_laws.proofs.OtherThreads.{own_steps}
 
 -- 1. The begin
 
-nothing_out : (c : Config) → NothingIsOut (start_state c).turnstile_chain_with (start_state c).sleep_chain_with (start_state c).record_with (start_state c).cell_with (start_state c).graph_with
+nothing_out : (c : Config) → NothingIsOut (start_state c).turnstile_chain_with (start_state c).sleep_chain_with
+    (start_state c).record_with (start_state c).cell_with (start_state c).graph_with
 unfolding start_state NothingIsOut
 nothing_out c e = grind arith
 
 pub begins_on_track : (plan : Plan) → IsProper plan → IsOnTrack plan (start_run (config_of plan))
 unfolding start_state sections_in QueuedStands HaltsOnlyWhenRunning
 begins_on_track plan p = record {
-  lawful = record { lawful = start.lawful (config_of plan); nothing_out = nothing_out (config_of plan); queued_stands = λ t e. absurd cc };
+  lawful = record {
+    lawful = start.lawful (config_of plan);
+    nothing_out = nothing_out (config_of plan);
+    queued_stands = λ t e. absurd cc;
+  };
   sleepers = sleepers_begin nobody (config_of plan);
   halted = refl;
   no_halts = tt;
@@ -66,7 +71,15 @@ record IsMade (plan : Plan) (r : Run) (t : ℕ) (action : Action) : Type 0 where
 unmoved : (plan : Plan) (r : Run) (t : ℕ) (answer : Turn) → IsOnTrack plan r → IsMade plan r t (nothing answer)
 unmoved plan r t answer k = record {
   may = tt;
-  keeps = record { asks = tt; out = k.lawful.nothing_out; stands = k.lawful.queued_stands; noted = none_unnoted plan r t k; no_halts = k.no_halts; there = is_there plan r t k; back = k.back_wants t };
+  keeps = record {
+    asks = tt;
+    out = k.lawful.nothing_out;
+    stands = k.lawful.queued_stands;
+    noted = none_unnoted plan r t k;
+    no_halts = k.no_halts;
+    there = is_there plan r t k;
+    back = k.back_wants t;
+  };
 }
 
 acquired : (plan : Plan) (r : Run) (t : ℕ) (action : Action) → IsProper plan → IsOnTrack plan r
@@ -141,7 +154,10 @@ module _ (plan : Plan) (r : Run) (t : ℕ) (p : IsProper plan) (k : IsOnTrack pl
       record { may = sleeping.may_wake_all plan r t p k lt d by i; keeps = sleeping.woke_keeps plan r t p k lt d by i }
   made _ (actions.makes_entry op e i n) =
       let noted = noting.is_noted plan r t p k lt op e n i in
-      record { may = noting.may_note_all plan r t p k lt i.running noted; keeps = noting.noted_keeps plan r t p k lt i noted }
+      record {
+        may = noting.may_note_all plan r t p k lt i.running noted;
+        keeps = noting.noted_keeps plan r t p k lt i noted;
+      }
   made _ (actions.gives_last_back h hs i e back) =
       record {
         may = releases.may_give_last_all plan r t p k lt h hs i e back;
@@ -165,7 +181,8 @@ module _ (plan : Plan) (r : Run) (t : ℕ) (p : IsProper plan) (k : IsOnTrack pl
       stays_on_track plan r t action k may_all (action_keeps_order plan r t action p k lt fits)
       (own_steps plan r t action fits) turn_made.keeps (led plan r t action p k lt fits)
 
-pub turns_may : (plan : Plan) (r : Run) (t : ℕ) → IsProper plan → IsOnTrack plan r → t < length plan.threads → MayAll (config_of plan) r.state (turn_of plan r t).steps
+pub turns_may : (plan : Plan) (r : Run) (t : ℕ) → IsProper plan → IsOnTrack plan r → t < length plan.threads
+    → MayAll (config_of plan) r.state (turn_of plan r t).steps
 turns_may plan r t p k lt = may_all plan r t p k lt
 
 -- so may those of the action that it is
@@ -174,7 +191,8 @@ pub action_may : (plan : Plan) (r : Run) (t : ℕ) (action : Action) → IsPrope
 action_may plan r t action p k lt e =
     subst (λ (x : Action). MayAll (config_of plan) r.state x.steps) e (turns_may plan r t p k lt)
 
-pub stays : (plan : Plan) (r : Run) (t : ℕ) → IsProper plan → IsOnTrack plan r → t < length plan.threads → IsOnTrack plan (run_behind plan r t)
+pub stays : (plan : Plan) (r : Run) (t : ℕ) → IsProper plan → IsOnTrack plan r → t < length plan.threads
+    → IsOnTrack plan (run_behind plan r t)
 stays plan r t p k lt = turned plan r t p k lt
 
 -- 3. Runs
@@ -187,26 +205,33 @@ pub record IsReached (plan : Plan) (r : Run) : Type 0 where
 pub start_reached : (plan : Plan) → IsProper plan → IsReached plan (start_run (config_of plan))
 start_reached plan p = record { on_track = begins_on_track plan p; reachable = begins }
 
-pub turn_reached : (plan : Plan) (r : Run) (t : ℕ) → IsProper plan → IsReached plan r → t < length plan.threads → IsReached plan (run_behind plan r t)
+pub turn_reached : (plan : Plan) (r : Run) (t : ℕ) → IsProper plan → IsReached plan r → t < length plan.threads
+    → IsReached plan (run_behind plan r t)
 unfolding run_behind
 turn_reached plan r t p h lt = record {
   on_track = stays plan r t p h.on_track lt;
-  reachable = all_reach (config_of plan) r.state (turn_of plan r t).steps (turns_may plan r t p h.on_track lt) h.reachable;
+  reachable =
+      all_reach (config_of plan) r.state (turn_of plan r t).steps (turns_may plan r t p h.on_track lt) h.reachable;
 }
 
 abbrev pub AreThreads : Plan → List ℕ → Type 0
 AreThreads plan ts = All (λ t. t < length plan.threads) ts
 
-turns_reached : (plan : Plan) (turns : List ℕ) → IsProper plan → AreThreads plan turns → IsReached plan (after_turns plan turns)
+turns_reached : (plan : Plan) (turns : List ℕ) → IsProper plan → AreThreads plan turns
+    → IsReached plan (after_turns plan turns)
 unfolding after_turns
 turns_reached plan [] p a = start_reached plan p
 turns_reached plan (t ∷ turns) p a =
-    turn_reached plan (after_turns plan turns) t p (turns_reached plan turns p (All-tail (λ t. t < length plan.threads) t turns a)) (All-head (λ t. t < length plan.threads) t turns a)
+    turn_reached plan (after_turns plan turns) t p
+    (turns_reached plan turns p (All-tail (λ t. t < length plan.threads) t turns a))
+    (All-head (λ t. t < length plan.threads) t turns a)
 
-pub behind_turns : (plan : Plan) (turns : List ℕ) → IsProper plan → AreThreads plan turns → IsOnTrack plan (after_turns plan turns)
+pub behind_turns : (plan : Plan) (turns : List ℕ) → IsProper plan → AreThreads plan turns
+    → IsOnTrack plan (after_turns plan turns)
 behind_turns plan turns p a = (turns_reached plan turns p a).on_track
 
-pub turns_reachable : (plan : Plan) (turns : List ℕ) → IsProper plan → AreThreads plan turns → IsReachable (config_of plan) (after_turns plan turns).state
+pub turns_reachable : (plan : Plan) (turns : List ℕ) → IsProper plan → AreThreads plan turns
+    → IsReachable (config_of plan) (after_turns plan turns).state
 turns_reachable plan turns p a = (turns_reached plan turns p a).reachable
 
 -- a course whose run is, and in which threads of the plan come
@@ -219,16 +244,19 @@ below a zero m i = All-nil (λ t. t < m)
 below a (suc n) m i = All-cons (λ t. t < m) a (range_with_len (a + 1) n) (omega arith) (below (a + 1) n m (omega arith))
 
 round_below : (plan : Plan) (r : Run) → AreThreads plan (round_of plan r)
-round_below plan r = All-filter (λ t. not (has_ended plan r t)) (λ t. t < length plan.threads) (threads_of plan) (below 0 (length plan.threads) (length plan.threads) (omega arith))
+round_below plan r = All-filter (λ t. not (has_ended plan r t)) (λ t. t < length plan.threads) (threads_of plan)
+    (below 0 (length plan.threads) (length plan.threads) (omega arith))
 
-with_turn_on : (plan : Plan) (r : Run) (ts : List ℕ) (idle : Bool) → IsProper plan → IsReached plan r → AreThreads plan ts → IsOnCourse plan (with_turn plan r ts idle)
+with_turn_on : (plan : Plan) (r : Run) (ts : List ℕ) (idle : Bool) → IsProper plan → IsReached plan r
+    → AreThreads plan ts → IsOnCourse plan (with_turn plan r ts idle)
 with_turn_on plan r [] idle p h a = record { reached = h; coming = a }
 with_turn_on plan r (t ∷ ts) idle p h a = record {
   reached = turn_reached plan r t p h (All-head (λ t. t < length plan.threads) t ts a);
   coming = All-tail (λ t. t < length plan.threads) t ts a;
 }
 
-after_turn_on : (plan : Plan) (k : Course) (ts : List ℕ) → IsProper plan → IsReached plan k.run → AreThreads plan ts → IsOnCourse plan (after_turn plan k ts)
+after_turn_on : (plan : Plan) (k : Course) (ts : List ℕ) → IsProper plan → IsReached plan k.run → AreThreads plan ts
+    → IsOnCourse plan (after_turn plan k ts)
 after_turn_on plan k [] p h a = with_turn_on plan k.run (round_of plan k.run) true p h (round_below plan k.run)
 after_turn_on plan k (t ∷ ts) p h a = with_turn_on plan k.run (t ∷ ts) k.idle p h a
 
@@ -241,11 +269,15 @@ go_on_on plan k p h = go (is_over plan k)
 
 pub on_course : (plan : Plan) (n : ℕ) → IsProper plan → IsOnCourse plan (course_after plan n)
 unfolding course_after
-on_course plan zero p = record { reached = start_reached plan p; coming = All-map (λ t. t < length plan.threads) (λ t. t.0) plan.schedule p.schedule }
+on_course plan zero p = record {
+  reached = start_reached plan p;
+  coming = All-map (λ t. t < length plan.threads) (λ t. t.0) plan.schedule p.schedule;
+}
 on_course plan (suc n) p = go_on_on plan (course_after plan n) p (on_course plan n p)
 
 pub behind_course : (plan : Plan) (n : ℕ) → IsProper plan → IsOnTrack plan (course_after plan n).run
 behind_course plan n p = (on_course plan n p).reached.on_track
 
-pub courses_reachable : (plan : Plan) (n : ℕ) → IsProper plan → IsReachable (config_of plan) (course_after plan n).run.state
+pub courses_reachable : (plan : Plan) (n : ℕ) → IsProper plan
+    → IsReachable (config_of plan) (course_after plan n).run.state
 courses_reachable plan n p = (on_course plan n p).reached.reachable

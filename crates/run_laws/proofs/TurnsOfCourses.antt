@@ -14,13 +14,16 @@ unfolding course_after
 one_more plan n = rw add-one refl
 
 -- a run that is over stays as it is
-still : (plan : Plan) (n k : ℕ) → is_over plan (course_after plan n) ≡ true → course_after plan (n + k) ≡ course_after plan n
+still : (plan : Plan) (n k : ℕ) → is_over plan (course_after plan n) ≡ true
+    → course_after plan (n + k) ≡ course_after plan n
 unfolding course_after
 still plan n zero e = ap (course_after plan) (let i : n + 0 ≡ n = omega arith in i)
 still plan n (suc k) e =
     ap (course_after plan) (let i : n + suc k ≡ suc (n + k) = omega arith in i)
     ∙ ap (go_on plan) (still plan n k e)
-    ∙ ap (λ (b : Bool). cond b (course_after plan n) (after_turn plan (course_after plan n) (course_after plan n).coming)) e
+    ∙ ap
+    (λ (b : Bool). cond b (course_after plan n) (after_turn plan (course_after plan n) (course_after plan n).coming)) e
 
-pub stays_over : (plan : Plan) (n m : ℕ) → n ≤ m → is_over plan (course_after plan n) ≡ true → course_after plan m ≡ course_after plan n
+pub stays_over : (plan : Plan) (n m : ℕ) → n ≤ m → is_over plan (course_after plan n) ≡ true
+    → course_after plan m ≡ course_after plan n
 stays_over plan n m l e = ap (course_after plan) (let i : m ≡ n + (m - n) = omega arith in i) ∙ still plan n (m - n) e

@@ -56,11 +56,14 @@ module _ (plan : Plan) (r : Run) (t : ℕ) (p : IsProper plan) (k : IsOnTrack pl
   s = r.state
 
   -- a take, or a try
-  anew_finds : (l : LockNo) (mode : Mode) (by_try : Bool) (e : Event) → IsAwake s t → GainFits plan l mode by_try (before plan r t) (behind plan r t)
+  anew_finds : (l : LockNo) (mode : Mode) (by_try : Bool) (e : Event) → IsAwake s t
+      → GainFits plan l mode by_try (before plan r t) (behind plan r t)
       → ((s.wanted t ≡ Some l.0) ⊎ (s.wanted t ≡ None))
       → ((j : ℕ) (x : Sections) → (sections_by c e j x).now ≡ replaced (cond (eqb l.0 j) (Holds mode) NotHeld) x.now)
-      → ((f : ℕ → ℕ → Bool) → begun_after c e t f ≡ put_at f t l.0 true) → LetsGoOn e → taking_after e (s.taking t) ≡ None
-      → ((n : State) → (n.held t l.0 ≡ Holds mode) → (open_in c n.history t l.0 ≡ NotHeld) → (others : List HeldLock) → n.held_locks t ≡ record { lock = l.0; by_try = by_try } ∷ others → Asks c n t e)
+      → ((f : ℕ → ℕ → Bool) → begun_after c e t f ≡ put_at f t l.0 true) → LetsGoOn e
+      → taking_after e (s.taking t) ≡ None
+      → ((n : State) → (n.held t l.0 ≡ Holds mode) → (open_in c n.history t l.0 ≡ NotHeld) → (others : List HeldLock)
+      → n.held_locks t ≡ record { lock = l.0; by_try = by_try } ∷ others → Asks c n t e)
       → Finds plan r t l mode by_try e
   anew_finds l mode by_try e up fits wants section begun lets taken asks = grind arith
 
@@ -94,7 +97,8 @@ module _ (plan : Plan) (r : Run) (t : ℕ) (p : IsProper plan) (k : IsOnTrack pl
     was_woken = go (s.woken_from t) refl
       where
         none : (v : ℕ) → v < c.threads → signals_noted t (s.unstamped v) (s.marked v) ≡ 0
-        none v l = rw (none_unnoted plan r v k) (signals_nowhere c s t k.lawful.lawful v l (unnamed plan r t k i.running))
+        none v l =
+            rw (none_unnoted plan r v k) (signals_nowhere c s t k.lawful.lawful v l (unnamed plan r t k i.running))
 
         go : (o : Option ℕ) → s.woken_from t ≡ o → o ≡ Some d.0
         go None f =
@@ -114,11 +118,14 @@ module _ (plan : Plan) (r : Run) (t : ℕ) (p : IsProper plan) (k : IsOnTrack pl
     back_opened : (j : ℕ) → open_in c s.history t j ≡ s.held t j
     back_opened j = grind arith
 
-    back_section : (j : ℕ) → (sections_by c (event.Woke d) j (sections_in c s.history t j)).now ≡ replaced (cond (eqb wait_lock j) (Holds (mode_left plan r t d)) NotHeld) (open_in c s.history t j)
+    back_section : (j : ℕ) → (sections_by c (event.Woke d) j (sections_in c s.history t j)).now
+        ≡ replaced (cond (eqb wait_lock j) (Holds (mode_left plan r t d)) NotHeld) (open_in c s.history t j)
     back_section j = ap (λ x. replaced x (open_in c s.history t j)) (go (eqb wait_lock j) refl)
       where
-        go : (b : Bool) → eqb wait_lock j ≡ b → cond b (left_in c s.history t j) NotHeld ≡ cond b (Holds (mode_left plan r t d)) NotHeld
-        go true x = subst (λ m. left_in c s.history t m ≡ Holds (mode_left plan r t d)) (eqb-true wait_lock j x) left_mode
+        go : (b : Bool) → eqb wait_lock j ≡ b
+            → cond b (left_in c s.history t j) NotHeld ≡ cond b (Holds (mode_left plan r t d)) NotHeld
+        go true x =
+            subst (λ m. left_in c s.history t m ≡ Holds (mode_left plan r t d)) (eqb-true wait_lock j x) left_mode
         go false x = refl
 
     back_finds : Finds plan r t (lock_with plan d) (mode_left plan r t d) false (event.Woke d)
@@ -128,27 +135,39 @@ module _ (plan : Plan) (r : Run) (t : ℕ) (p : IsProper plan) (k : IsOnTrack pl
       unheld = released;
       wants = inl (wants_it plan r t k (back d e w) i);
       opened = back_opened;
-      adds = rw (i.uncut, its_lock, released) (last_is (lock_with plan d) (mode_left plan r t d) (before plan r t) wait_finds.last (are_locks plan r t p).apart (sym left_so ∙ left_mode) ∙ wait_finds.same);
+      adds = rw (i.uncut, its_lock, released) (last_is (lock_with plan d) (mode_left plan r t d)
+          (before plan r t) wait_finds.last (are_locks plan r t p).apart (sym left_so ∙ left_mode) ∙ wait_finds.same);
       section = back_section;
       begun = λ f. refl;
       lets = lets_go_on refl refl refl;
       taken = refl;
       asks = λ n same woken held listed.
-          let at : left_in c n.history t wait_lock ≡ Holds (mode_left plan r t d) = ap (λ es. left_in c es t wait_lock) same ∙ left_mode in
-          (record { held = held ∙ sym at; holds = λ z. let y : NotHeld ≡ Holds (mode_left plan r t d) = sym z ∙ held in cc; closed = ap (λ es. open_in c es t wait_lock) same ∙ back_opened wait_lock ∙ released }, ap (λ f. f t) woken ∙ was_woken);
+          let at : left_in c n.history t wait_lock
+          ≡ Holds (mode_left plan r t d) = ap (λ es. left_in c es t wait_lock) same ∙ left_mode in (
+            record {
+              held = held ∙ sym at;
+              holds = λ z. let y : NotHeld ≡ Holds (mode_left plan r t d) = sym z ∙ held in cc;
+              closed = ap (λ es. open_in c es t wait_lock) same ∙ back_opened wait_lock ∙ released;
+            },
+            ap (λ f. f t) woken ∙ was_woken,
+          );
     }
 
   -- 3. A gain
 
-  taking_finds : {l : LockNo} {mode : Mode} {op : Op} {e : Event} → Taking plan r t l mode op e → IsAtOperation plan r t (Some op) → Finds plan r t l mode false e
+  taking_finds : {l : LockNo} {mode : Mode} {op : Op} {e : Event} → Taking plan r t l mode op e
+      → IsAtOperation plan r t (Some op) → Finds plan r t l mode false e
   taking_finds (anew l mode j e) i =
       let up = is_awake plan r t k (Take l mode) i refl in
       let f = fit plan r t p (Take l mode) i.next in
-      anew_finds l mode false (event.Locked l mode) up (gain_passes plan l mode false _ _ f.passes f.behind) (inl (wants_it plan r t k (anew l mode j e) i))
-      (λ j x. refl) (λ g. refl) (lets_go_on refl refl refl) refl (λ n held closed others listed. (record { held = held; closed = closed }, record { others = others; last = listed }))
+      anew_finds l mode false (event.Locked l mode) up (gain_passes plan l mode false _ _ f.passes f.behind)
+      (inl (wants_it plan r t k (anew l mode j e) i))
+      (λ j x. refl) (λ g. refl) (lets_go_on refl refl refl) refl (λ n held closed others listed.
+      (record { held = held; closed = closed }, record { others = others; last = listed }))
   taking_finds (back d e w) i = back_finds d e w i
 
-  pub finds : {l : LockNo} {mode : Mode} {op : Op} {by_try : Bool} {e : Event} → Gaining plan r t l mode op by_try e → IsAtOperation plan r t (Some op) → Finds plan r t l mode by_try e
+  pub finds : {l : LockNo} {mode : Mode} {op : Op} {by_try : Bool} {e : Event} → Gaining plan r t l mode op by_try e
+      → IsAtOperation plan r t (Some op) → Finds plan r t l mode by_try e
   finds (by_taking g) i = taking_finds g i
   finds (by_trying l mode past) i =
       let up = is_awake plan r t k (Try l mode past) i refl in
@@ -156,18 +175,30 @@ module _ (plan : Plan) (r : Run) (t : ℕ) (p : IsProper plan) (k : IsOnTrack pl
       let f = fit plan r t p (Try l mode past) i.next in
       anew_finds l mode true (event.Tried l mode) up (gain_passes plan l mode true _ _ f.passes f.behind) (inr none)
       (λ j x. refl) (λ g. refl) (lets_go_on refl refl refl) (k.taking t ∙ none)
-      (λ n held closed others listed. (record { held = held; closed = closed }, record { others = others; last = listed }))
+      (λ n held closed others listed.
+      (record { held = held; closed = closed }, record { others = others; last = listed }))
 
-  module _ {l : LockNo} {mode : Mode} {op : Op} {by_try : Bool} {noted : Event} (g : Gaining plan r t l mode op by_try noted) (i : IsAtOperation plan r t (Some op)) where
+  module _ {l : LockNo} {mode : Mode} {op : Op} {by_try : Bool} {noted : Event}
+      (g : Gaining plan r t l mode op by_try noted) (i : IsAtOperation plan r t (Some op)) where
     found : Finds plan r t l mode by_try noted
     found = finds g i
 
     -- plain, or a claim
 
-    may_gain : admits (c.kind l.0) (s.word l.0) mode ≡ true → is_plain (c.kind l.0) (s.word l.0) mode ≡ true → MayGain c s t l.0 mode
-    may_gain e f = record { thread = lt; lock = found.lock; admitted = e; plainly = f; unheld = found.unheld; acting = acting plan r t k i.running; wants = found.wants }
+    may_gain : admits (c.kind l.0) (s.word l.0) mode ≡ true → is_plain (c.kind l.0) (s.word l.0) mode ≡ true
+        → MayGain c s t l.0 mode
+    may_gain e f = record {
+      thread = lt;
+      lock = found.lock;
+      admitted = e;
+      plainly = f;
+      unheld = found.unheld;
+      acting = acting plan r t k i.running;
+      wants = found.wants;
+    }
 
-    claims : admits (c.kind l.0) (s.word l.0) mode ≡ true → is_plain (c.kind l.0) (s.word l.0) mode ≡ false → IsClaim (c.kind l.0) (s.word l.0) mode
+    claims : admits (c.kind l.0) (s.word l.0) mode ≡ true → is_plain (c.kind l.0) (s.word l.0) mode ≡ false
+        → IsClaim (c.kind l.0) (s.word l.0) mode
     unfolding FreeMutexShowsNone
     claims e f =
         is_claim (c.kind l.0) (s.word l.0) mode
@@ -176,7 +207,8 @@ module _ (plan : Plan) (r : Run) (t : ℕ) (p : IsProper plan) (k : IsOnTrack pl
     abbrev pub head : ℕ
     head = unwrap_or (s.head (lock_queue l.0)) t
 
-    may_claim : admits (c.kind l.0) (s.word l.0) mode ≡ true → is_plain (c.kind l.0) (s.word l.0) mode ≡ false → MayClaim c s t l.0 head
+    may_claim : admits (c.kind l.0) (s.word l.0) mode ≡ true → is_plain (c.kind l.0) (s.word l.0) mode ≡ false
+        → MayClaim c s t l.0 head
     may_claim e f =
         let claim = claims e f in
         let stands = shown_head c s l.0 k.lawful.lawful claim.shown in
@@ -193,19 +225,35 @@ module _ (plan : Plan) (r : Run) (t : ℕ) (p : IsProper plan) (k : IsOnTrack pl
         }
 
     -- the entry may be made behind either
-    may_stamp : (n : State) → n.blocked_on t ≡ s.blocked_on t → n.wait t ≡ s.wait t → n.history ≡ s.history → n.woken_from ≡ s.woken_from → n.held t l.0 ≡ Holds mode
+    may_stamp : (n : State) → n.blocked_on t ≡ s.blocked_on t → n.wait t ≡ s.wait t → n.history ≡ s.history
+        → n.woken_from ≡ s.woken_from → n.held t l.0 ≡ Holds mode
         → n.held_locks t ≡ record { lock = l.0; by_try = by_try } ∷ s.held_locks t → MayStamp c n t noted
-    may_stamp n named says same woken held listed = record { thread = lt; acting = acting_in plan r t k n named says i.running; asks = found.asks n same woken held listed }
+    may_stamp n named says same woken held listed = record {
+      thread = lt;
+      acting = acting_in plan r t k n named says i.running;
+      asks = found.asks n same woken held listed;
+    }
 
-    pub may_gain_all : admits (c.kind l.0) (s.word l.0) mode ≡ true → is_plain (c.kind l.0) (s.word l.0) mode ≡ true → MayAll c s (Gains t l.0 mode by_try ∷ Stamps t noted ∷ [])
+    pub may_gain_all : admits (c.kind l.0) (s.word l.0) mode ≡ true → is_plain (c.kind l.0) (s.word l.0) mode ≡ true
+        → MayAll c s (Gains t l.0 mode by_try ∷ Stamps t noted ∷ [])
     unfolding after_gain
-    may_gain_all e f = (may_gain e f, (may_stamp (after_gain s t l.0 mode by_try) refl refl refl refl (put_at_same s.held t l.0 (Holds mode)) (put_same s.held_locks t _), tt))
+    may_gain_all e f = (
+      may_gain e f,
+      (
+        may_stamp (after_gain s t l.0 mode by_try) refl refl refl refl (put_at_same s.held t l.0 (Holds mode))
+            (put_same s.held_locks t _),
+        tt,
+      ),
+    )
 
-    pub may_claim_all : admits (c.kind l.0) (s.word l.0) mode ≡ true → is_plain (c.kind l.0) (s.word l.0) mode ≡ false → MayAll c s (Claims t l.0 head by_try ∷ Stamps t noted ∷ [])
+    pub may_claim_all : admits (c.kind l.0) (s.word l.0) mode ≡ true → is_plain (c.kind l.0) (s.word l.0) mode ≡ false
+        → MayAll c s (Claims t l.0 head by_try ∷ Stamps t noted ∷ [])
     unfolding after_claim
     may_claim_all e f =
-        let held = put_at_same s.held t l.0 (Holds Excl) ∙ ap Holds (sym (claims e f).exclusive) in
-        (may_claim e f, (may_stamp (after_claim c s t l.0 head by_try) refl refl refl refl held (put_same s.held_locks t _), tt))
+        let held = put_at_same s.held t l.0 (Holds Excl) ∙ ap Holds (sym (claims e f).exclusive) in (
+          may_claim e f,
+          (may_stamp (after_claim c s t l.0 head by_try) refl refl refl refl held (put_same s.held_locks t _), tt),
+        )
 
     -- what either leaves
 
@@ -215,9 +263,11 @@ module _ (plan : Plan) (r : Run) (t : ℕ) (p : IsProper plan) (k : IsOnTrack pl
     abbrev entry : Entry
     entry = entry_of s t noted
 
-    ends_gained : (n : State) → n.log ≡ put s.log t (entry ∷ s.log t) → n.history ≡ entry ∷ s.history → n.held ≡ put_at s.held t l.0 (Holds mode)
+    ends_gained : (n : State) → n.log ≡ put s.log t (entry ∷ s.log t) → n.history ≡ entry ∷ s.history
+        → n.held ≡ put_at s.held t l.0 (Holds mode)
         → n.held_locks ≡ put s.held_locks t (record { lock = l.0; by_try = by_try } ∷ s.held_locks t)
-        → n.has_begun ≡ begun_after c noted t (put_at s.has_begun t l.0 false) → n.wanted ≡ put s.wanted t None → n.taking ≡ put s.taking t (taking_after noted (s.taking t)) → n.noted ≡ put s.noted t None
+        → n.has_begun ≡ begun_after c noted t (put_at s.has_begun t l.0 false) → n.wanted ≡ put s.wanted t None
+        → n.taking ≡ put s.taking t (taking_after noted (s.taking t)) → n.noted ≡ put s.noted t None
         → EndsWell plan r t (suc (r.next_op t)) noted n
     unfolding after_stamp
     ends_gained n log history held listed begun wanted taking unnoted = record {
@@ -226,14 +276,18 @@ module _ (plan : Plan) (r : Run) (t : ℕ) (p : IsProper plan) (k : IsOnTrack pl
       history = history;
       within = left plan r t op i.next;
       holds = λ j.
-          holds j ∙ ap (cond (eqb l.0 j) (Holds mode)) (k.holds t j) ∙ sym (hold_in-push (held_now plan r t) gained j (sym (k.holds t l.0) ∙ found.unheld))
+          holds j ∙ ap (cond (eqb l.0 j) (Holds mode)) (k.holds t j)
+          ∙ sym (hold_in-push (held_now plan r t) gained j (sym (k.holds t l.0) ∙ found.unheld))
           ∙ ap (λ (hs : List Held). hold_in hs j) found.adds;
-      listed = ap (λ f. f t) listed ∙ put_same s.held_locks t _ ∙ ap (λ hs. record { lock = l.0; by_try = by_try } ∷ hs) (k.listed t) ∙ sym (gained_order-push (held_now plan r t) gained)
+      listed = ap (λ f. f t) listed ∙ put_same s.held_locks t _ ∙ ap (λ hs. record { lock = l.0; by_try = by_try } ∷ hs)
+          (k.listed t) ∙ sym (gained_order-push (held_now plan r t) gained)
           ∙ ap gained_order found.adds;
       sections = λ j.
-          ap (λ es. open_in c es t j) history ∙ own_section c s t noted j ∙ found.section j ∙ gained_section (eqb l.0 j) mode (open_in c s.history t j) (s.held t j) (found.opened j)
+          ap (λ es. open_in c es t j) history ∙ own_section c s t noted j ∙ found.section j
+          ∙ gained_section (eqb l.0 j) mode (open_in c s.history t j) (s.held t j) (found.opened j)
           ∙ sym (holds j);
-      begun = λ j x. ap (λ (f : ℕ → ℕ → Bool). f t j) (begun ∙ found.begun (put_at s.has_begun t l.0 false)) ∙ began j (λ z. x (ap (λ (f : ℕ → ℕ → Hold). f t j) held ∙ z));
+      begun = λ j x. ap (λ (f : ℕ → ℕ → Bool). f t j) (begun ∙ found.begun (put_at s.has_begun t l.0 false))
+          ∙ began j (λ z. x (ap (λ (f : ℕ → ℕ → Hold). f t j) held ∙ z));
       wants = ap (λ f. f t) wanted ∙ put_same s.wanted t None;
       taking = ap (λ f. f t) taking ∙ put_same s.taking t _ ∙ found.taken;
       unnoted = ap (λ f. f t) unnoted ∙ put_same s.noted t None;
@@ -242,23 +296,28 @@ module _ (plan : Plan) (r : Run) (t : ℕ) (p : IsProper plan) (k : IsOnTrack pl
         holds : (j : ℕ) → n.held t j ≡ cond (eqb l.0 j) (Holds mode) (s.held t j)
         holds j = ap (λ (f : ℕ → ℕ → Hold). f t j) held ∙ put_at_own s.held t l.0 (Holds mode) j
 
-        began : (j : ℕ) → put_at s.held t l.0 (Holds mode) t j ≢ NotHeld → put_at (put_at s.has_begun t l.0 false) t l.0 true t j ≡ true
+        began : (j : ℕ) → put_at s.held t l.0 (Holds mode) t j ≢ NotHeld
+            → put_at (put_at s.has_begun t l.0 false) t l.0 true t j ≡ true
         began j = grind (arith, columns, k.begun t j)
 
     pub gained_keeps : KeepsTrack plan r t (ends r t kind.Gain (Gains t l.0 mode by_try ∷ Stamps t noted ∷ []))
     unfolding after_gain after_stamp
-    gained_keeps = goes_on plan r t (suc (r.next_op t)) kind.Gain (Gains t l.0 mode by_try ∷ Stamps t noted ∷ []) noted k (tt, ((λ d f. refl), tt)) k.lawful.nothing_out k.lawful.queued_stands
+    gained_keeps = goes_on plan r t (suc (r.next_op t)) kind.Gain (Gains t l.0 mode by_try ∷ Stamps t noted ∷ []) noted
+        k (tt, ((λ d f. refl), tt)) k.lawful.nothing_out k.lawful.queued_stands
         (noted_behind plan r t noted k) (ends_gained _ refl refl refl refl refl refl refl refl)
 
     pub claimed_keeps : admits (c.kind l.0) (s.word l.0) mode ≡ true → is_plain (c.kind l.0) (s.word l.0) mode ≡ false
         → KeepsTrack plan r t (ends r t kind.Claim (Claims t l.0 head by_try ∷ Stamps t noted ∷ []))
     unfolding after_claim after_stamp
-    claimed_keeps e f = goes_on plan r t (suc (r.next_op t)) kind.Claim (Claims t l.0 head by_try ∷ Stamps t noted ∷ []) noted k (tt, ((λ d f. refl), tt)) k.lawful.nothing_out k.lawful.queued_stands
-        (noted_behind plan r t noted k) (ends_gained _ refl refl (ap (λ m. put_at s.held t l.0 (Holds m)) (sym (claims e f).exclusive)) refl refl refl refl refl)
+    claimed_keeps e f = goes_on plan r t (suc (r.next_op t)) kind.Claim (Claims t l.0 head by_try ∷ Stamps t noted ∷ [])
+        noted k (tt, ((λ d f. refl), tt)) k.lawful.nothing_out k.lawful.queued_stands
+        (noted_behind plan r t noted k) (ends_gained _ refl refl
+        (ap (λ m. put_at s.held t l.0 (Holds m)) (sym (claims e f).exclusive)) refl refl refl refl refl)
 
   -- 4. A take, or a taking back, whose lock refuses it blocks
 
-  module _ {l : LockNo} {mode : Mode} {op : Op} {noted : Event} (g : Taking plan r t l mode op noted) (i : IsAtOperation plan r t (Some op)) where
+  module _ {l : LockNo} {mode : Mode} {op : Op} {noted : Event} (g : Taking plan r t l mode op noted)
+      (i : IsAtOperation plan r t (Some op)) where
     takes : Finds plan r t l mode false noted
     takes = taking_finds g i
 
@@ -282,12 +341,15 @@ module _ (plan : Plan) (r : Run) (t : ℕ) (p : IsProper plan) (k : IsOnTrack pl
       sections = λ j m f. takes.opened j ∙ f;
     }
 
-    may_enter : {step : Step} → admits (c.kind l.0) (s.word l.0) mode ≡ false → Entering plan r t l.0 mode step → May c (after_ready s t) step
+    may_enter : {step : Step} → admits (c.kind l.0) (s.word l.0) mode ≡ false → Entering plan r t l.0 mode step
+        → May c (after_ready s t) step
     unfolding after_ready
-    may_enter e (on_turnstile f) = record { waits = must_wait e; turnstile = f; mutex = takes.mutex; own = its_turnstile }
+    may_enter e (on_turnstile f) =
+        record { waits = must_wait e; turnstile = f; mutex = takes.mutex; own = its_turnstile }
     may_enter e (on_sleep_queue f) = record { waits = must_wait e; sleeps = f; own = its_sleep_queue }
 
-    pub may_enter_all : {step : Step} → admits (c.kind l.0) (s.word l.0) mode ≡ false → Entering plan r t l.0 mode step → MayAll c s (Readies t (Lock l) ∷ step ∷ [])
+    pub may_enter_all : {step : Step} → admits (c.kind l.0) (s.word l.0) mode ≡ false → Entering plan r t l.0 mode step
+        → MayAll c s (Readies t (Lock l) ∷ step ∷ [])
     may_enter_all e f = (record { thread = lt; running = i.running }, (may_enter e f, tt))
 
     -- it isn't on its way to a channel
@@ -299,7 +361,8 @@ module _ (plan : Plan) (r : Run) (t : ℕ) (p : IsProper plan) (k : IsOnTrack pl
     there : IsWhere plan t (record (share_in plan s t (r.next_op t)) { wanted = put s.wanted t (Some l.0) t })
     there = rw (put_same s.wanted t (Some l.0), ← wants_it plan r t k g i) (is_there plan r t k)
 
-    pub entered_keeps : {step : Step} → Entering plan r t l.0 mode step → KeepsTrack plan r t (does kind.Enter (Readies t (Lock l) ∷ step ∷ []))
+    pub entered_keeps : {step : Step} → Entering plan r t l.0 mode step
+        → KeepsTrack plan r t (does kind.Enter (Readies t (Lock l) ∷ step ∷ []))
     unfolding after_ready after_enter after_enter_sleep
     entered_keeps (on_turnstile f) = record {
       asks = (tt, (off, tt));
@@ -332,7 +395,8 @@ module _ (plan : Plan) (r : Run) (t : ℕ) (p : IsProper plan) (k : IsOnTrack pl
     passes : PassesBlock (operations_of plan t) (r.next_op t) past
     passes = try_passes plan p t (r.next_op t) l mode past i.next
 
-    may_stamp_busy : admits (c.kind l.0) (s.word l.0) mode ≡ false → MayStamp c (after_look s t l.0 false) t (event.Busy l seen)
+    may_stamp_busy : admits (c.kind l.0) (s.word l.0) mode ≡ false
+        → MayStamp c (after_look s t l.0 false) t (event.Busy l seen)
     unfolding after_look
     may_stamp_busy e = record {
       thread = lt;
@@ -353,6 +417,14 @@ module _ (plan : Plan) (r : Run) (t : ℕ) (p : IsProper plan) (k : IsOnTrack pl
 
     pub found_busy_keeps : KeepsTrack plan r t (finds_busy r t l past)
     unfolding after_look after_stamp
-    found_busy_keeps = goes_on plan r t past kind.Note (finds_busy r t l past).steps (event.Busy l seen) k (tt, ((λ d f. refl), tt)) k.lawful.nothing_out k.lawful.queued_stands
+    found_busy_keeps = goes_on plan r t past kind.Note (finds_busy r t l past).steps (event.Busy l seen) k
+        (tt, ((λ d f. refl), tt)) k.lawful.nothing_out k.lawful.queued_stands
         (noted_behind plan r t (event.Busy l seen) k)
-        (ends_quietly plan r t past (Try l mode past) (event.Busy l seen) _ k i (record { no_take = refl; no_wait = refl; within = passes.within; same = sym passes.leaves; quiet = refl; lets = lets_go_on refl refl refl }) refl refl refl refl refl refl refl refl)
+        (ends_quietly plan r t past (Try l mode past) (event.Busy l seen) _ k i (record {
+          no_take = refl;
+          no_wait = refl;
+          within = passes.within;
+          same = sym passes.leaves;
+          quiet = refl;
+          lets = lets_go_on refl refl refl;
+        }) refl refl refl refl refl refl refl refl)

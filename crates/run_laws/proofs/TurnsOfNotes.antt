@@ -42,20 +42,52 @@ module _ (plan : Plan) (r : Run) (t : ℕ) (p : IsProper plan) (k : IsOnTrack pl
   is_noted _ _ (sets l key value) i =
       let f = fit plan r t p (operation.Set l key value) i.next in
       let exclusive = (passed _ _ (passed _ _ f.passes).1).0 in
-      record { same = f.behind; asks = open_exclusive (operation.Set l key value) i refl l.0 exclusive; no_take = refl; no_wait = refl; quiet = refl; lets = lets_go_on refl refl refl }
+      record {
+        same = f.behind;
+        asks = open_exclusive (operation.Set l key value) i refl l.0 exclusive;
+        no_take = refl;
+        no_wait = refl;
+        quiet = refl;
+        lets = lets_go_on refl refl refl;
+      }
   is_noted _ _ (adds l key amount) i =
       let f = fit plan r t p (operation.Add l key amount) i.next in
       let exclusive = (passed _ _ (passed _ _ f.passes).1).0 in
-      record { same = f.behind; asks = open_exclusive (operation.Add l key amount) i refl l.0 exclusive; no_take = refl; no_wait = refl; quiet = refl; lets = lets_go_on refl refl refl }
+      record {
+        same = f.behind;
+        asks = open_exclusive (operation.Add l key amount) i refl l.0 exclusive;
+        no_take = refl;
+        no_wait = refl;
+        quiet = refl;
+        lets = lets_go_on refl refl refl;
+      }
   is_noted _ _ (gets l key) i =
       let f = fit plan r t p (operation.Get l key) i.next in
       let held = not-true (is_unheld (hold_in (before plan r t) l.0)) (passed _ _ f.passes).0 in
-      record { same = f.behind; asks = (some_open (operation.Get l key) i refl l.0 held, refl); no_take = refl; no_wait = refl; quiet = refl; lets = lets_go_on refl refl refl }
+      record {
+        same = f.behind;
+        asks = (some_open (operation.Get l key) i refl l.0 held, refl);
+        no_take = refl;
+        no_wait = refl;
+        quiet = refl;
+        lets = lets_go_on refl refl refl;
+      }
   is_noted _ _ (changes_base prio) i =
-      record { same = (fit plan r t p (operation.Base prio) i.next).behind; asks = tt; no_take = refl; no_wait = refl; quiet = refl; lets = lets_go_on refl refl refl }
+      record {
+        same = (fit plan r t p (operation.Base prio) i.next).behind;
+        asks = tt;
+        no_take = refl;
+        no_wait = refl;
+        quiet = refl;
+        lets = lets_go_on refl refl refl;
+      }
   is_noted _ _ shows i = record {
     same = (fit plan r t p operation.Show i.next).behind;
-    asks = record { its_base = refl; its_effective = refl; sections = λ l mode e. all_open plan r t k (awake plan r t k operation.Show i.next refl) l ∙ e };
+    asks = record {
+      its_base = refl;
+      its_effective = refl;
+      sections = λ l mode e. all_open plan r t k (awake plan r t k operation.Show i.next refl) l ∙ e;
+    };
     no_take = refl;
     no_wait = refl;
     quiet = refl;
@@ -65,7 +97,16 @@ module _ (plan : Plan) (r : Run) (t : ℕ) (p : IsProper plan) (k : IsOnTrack pl
   pub may_note_all : {op : Op} {e : Event} → s.wait t ≡ Running → IsNoted plan r t op e → MayAll c s (notes r t e).steps
   may_note_all running n = (record { thread = lt; acting = acting plan r t k running; asks = n.asks }, tt)
 
-  pub noted_keeps : {op : Op} {e : Event} → IsAtOperation plan r t (Some op) → IsNoted plan r t op e → KeepsTrack plan r t (notes r t e)
+  pub noted_keeps : {op : Op} {e : Event} → IsAtOperation plan r t (Some op) → IsNoted plan r t op e
+      → KeepsTrack plan r t (notes r t e)
   unfolding after_stamp
-  noted_keeps {op} {e} i n = goes_on plan r t (suc (r.next_op t)) kind.Note (notes r t e).steps e k ((λ d f. refl), tt) k.lawful.nothing_out k.lawful.queued_stands (noted_behind plan r t e k)
-      (ends_quietly plan r t (suc (r.next_op t)) op e _ k i (record { no_take = n.no_take; no_wait = n.no_wait; within = left plan r t op i.next; same = n.same; quiet = n.quiet; lets = n.lets }) refl refl refl refl refl refl refl refl)
+  noted_keeps {op} {e} i n = goes_on plan r t (suc (r.next_op t)) kind.Note (notes r t e).steps e k
+      ((λ d f. refl), tt) k.lawful.nothing_out k.lawful.queued_stands (noted_behind plan r t e k)
+      (ends_quietly plan r t (suc (r.next_op t)) op e _ k i (record {
+        no_take = n.no_take;
+        no_wait = n.no_wait;
+        within = left plan r t op i.next;
+        same = n.same;
+        quiet = n.quiet;
+        lets = n.lets;
+      }) refl refl refl refl refl refl refl refl)

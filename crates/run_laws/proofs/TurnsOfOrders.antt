@@ -15,7 +15,8 @@ use Rattle.run_laws.proofs.LastHeld.{length-gained}
 use Rattle.run_laws.proofs.OnTrack.{KeepsTrack, NoneOut, waits_back, IsAwake, IsWhere, is_awake, is_led, share_in, there_wanting, stays_on_track, noted_behind, none_unnoted, acting_in, before, behind, fit, holds_all, all_listed, all_open}
 
 -- nothing is out still once the class graph is home
-graph_home : (s : State) → NoneOut s → NothingIsOut s.turnstile_chain_with s.sleep_chain_with s.record_with s.cell_with None
+graph_home : (s : State) → NoneOut s
+    → NothingIsOut s.turnstile_chain_with s.sleep_chain_with s.record_with s.cell_with None
 unfolding NothingIsOut
 graph_home s none (TurnstileChain k) = none (TurnstileChain k)
 graph_home s none (SleepChain k) = none (SleepChain k)
@@ -23,7 +24,8 @@ graph_home s none (RecordOf t) = none (RecordOf t)
 graph_home s none (CellOf l k) = none (CellOf l k)
 graph_home s none ClassGraph = refl
 
-module _ (plan : Plan) (r : Run) (t : ℕ) (l : LockNo) (mode : Mode) (p : IsProper plan) (k : IsOnTrack plan r) (lt : t < length plan.threads) (b : BeginsTake plan r t l mode) where
+module _ (plan : Plan) (r : Run) (t : ℕ) (l : LockNo) (mode : Mode) (p : IsProper plan) (k : IsOnTrack plan r)
+    (lt : t < length plan.threads) (b : BeginsTake plan r t l mode) where
   abbrev c : Config
   c = config_of plan
 
@@ -61,17 +63,20 @@ module _ (plan : Plan) (r : Run) (t : ℕ) (l : LockNo) (mode : Mode) (p : IsPro
     stands = k.lawful.queued_stands;
     noted = none_unnoted plan r t k;
     no_halts = k.no_halts;
-    there = rw (put_same s.wanted t (Some l.0), put_same s.taking t (Some l.0)) (there_wanting plan r t (Some l.0) (Some l.0) k refl (record {
-      takes = λ j e. rw (up.no_wait, b.at.next) e;
-      unheld = λ j e. subst (λ m. s.held t m ≡ NotHeld) (same_Some l.0 j e) (holds_all plan r t k up l.0 ∙ fits.unheld);
-      uncut = λ e. absurd (let z = sym e ∙ b.at.uncut in cc);
-    }));
+    there = rw (put_same s.wanted t (Some l.0), put_same s.taking t (Some l.0))
+        (there_wanting plan r t (Some l.0) (Some l.0) k refl (record {
+          takes = λ j e. rw (up.no_wait, b.at.next) e;
+          unheld =
+              λ j e. subst (λ m. s.held t m ≡ NotHeld) (same_Some l.0 j e) (holds_all plan r t k up l.0 ∙ fits.unheld);
+          uncut = λ e. absurd (let z = sym e ∙ b.at.uncut in cc);
+        }));
     back = λ d e runs. absurd (none-some d (sym up.no_wait ∙ e));
   }
 
   pub admitted_on_track : IsAdmitted s.edges (classes_held c s t) (c.class l.0) → IsOnTrack plan (admitted plan r t l)
   unfolding after_admit
-  admitted_on_track a = stays_on_track plan r t (does kind.Note (Admits t l.0 ∷ [])) k (may_admit a, tt) (tt, tt) (refl, tt) admitted_keeps (is_led plan r t k)
+  admitted_on_track a = stays_on_track plan r t (does kind.Note (Admits t l.0 ∷ [])) k (may_admit a, tt) (tt, tt)
+      (refl, tt) admitted_keeps (is_led plan r t k)
 
   -- by the test
   pub found_admitted : first_against plan r t l ≡ None → IsAdmitted s.edges (classes_held c s t) (c.class l.0)
@@ -94,10 +99,17 @@ module _ (plan : Plan) (r : Run) (t : ℕ) (l : LockNo) (mode : Mode) (p : IsPro
 
     may_note : MayStamp c refused t noted
     unfolding after_refuse
-    may_note = record { thread = lt; acting = acting_in plan r t k refused refl refl b.at.running; asks = put_same s.noted t (Some (OrderRefused l.0 class)) }
+    may_note = record {
+      thread = lt;
+      acting = acting_in plan r t k refused refl refl b.at.running;
+      asks = put_same s.noted t (Some (OrderRefused l.0 class));
+    }
 
     pub may_refuse_all : MayAll c s (Refuses t l.0 class ∷ Stamps t noted ∷ [])
-    may_refuse_all = (record { free = free; refused = first_found s.edges (c.class l.0) (classes_held c s t) class e }, (may_note, tt))
+    may_refuse_all = (
+      record { free = free; refused = first_found s.edges (c.class l.0) (classes_held c s t) class e },
+      (may_note, tt),
+    )
 
     abbrev now : State
     now = after_stamp c refused t noted
@@ -111,7 +123,8 @@ module _ (plan : Plan) (r : Run) (t : ℕ) (l : LockNo) (mode : Mode) (p : IsPro
       holds = λ j. holds_all plan r t k up j ∙ ap (λ (hs : List Held). hold_in hs j) (sym has_all);
       listed = all_listed plan r t k up ∙ ap gained_order (sym has_all);
       left = λ j f. absurd cc;
-      opened = λ j. ap (λ (x : Sections). x.now) (sections_stay c refused t noted t j refl) ∙ all_open plan r t k up.no_wait j;
+      opened = λ j. ap (λ (x : Sections). x.now) (sections_stay c refused t noted t j refl)
+          ∙ all_open plan r t k up.no_wait j;
       begun = k.begun t;
       wants = λ j f. absurd cc;
       wants_unheld = λ j f. absurd cc;

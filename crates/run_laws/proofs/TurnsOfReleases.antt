@@ -45,12 +45,23 @@ module _ (plan : Plan) (r : Run) (t : ℕ) (p : IsProper plan) (k : IsOnTrack pl
     unmarked : n.marked t ≡ []
     off_turnstiles : (j : ℕ) → n.blocked_on t ≡ Some (lock_queue j) → is_turnstile (c.kind j) ≡ false
 
-  releases : (n : State) (l : ℕ) (mode : Mode) → is_drop (s.word l) ≡ false → CanGive n l mode → IsLastHolder c n t l mode
+  releases : (n : State) (l : ℕ) (mode : Mode) → is_drop (s.word l) ≡ false → CanGive n l mode
+      → IsLastHolder c n t l mode
   releases n l mode e f =
       let finds = open_finds (n.word l) (ap (λ w. is_drop (w l)) f.word ∙ e) in
-      record { thread = lt; lock = f.lock; held = f.held; last = finds.0; shown = finds.1; unmarked = f.unmarked; closed = f.closed; begun = f.begun }
+      record {
+        thread = lt;
+        lock = f.lock;
+        held = f.held;
+        last = finds.0;
+        shown = finds.1;
+        unmarked = f.unmarked;
+        closed = f.closed;
+        begun = f.begun;
+      }
 
-  may_give_back : {kind : StepKind} {step : Step} (n : State) (l : ℕ) (mode : Mode) → GivingBack plan r t l mode kind step → CanGive n l mode → May c n step
+  may_give_back : {kind : StepKind} {step : Step} (n : State) (l : ℕ) (mode : Mode)
+      → GivingBack plan r t l mode kind step → CanGive n l mode → May c n step
   may_give_back n l mode (actions.drops e) f =
       record {
         thread = lt;
@@ -80,14 +91,57 @@ module _ (plan : Plan) (r : Run) (t : ℕ) (p : IsProper plan) (k : IsOnTrack pl
     pub out : NoneOut n → NoneOut m
     pub stands : QueuedStands n.wait n.blocked_on → QueuedStands m.wait m.blocked_on
 
-  pub gave_back : {kind : StepKind} {step : Step} (n : State) (l : ℕ) (mode : Mode) → GivingBack plan r t l mode kind step → GaveBack n (after c n step) l step
+  pub gave_back : {kind : StepKind} {step : Step} (n : State) (l : ℕ) (mode : Mode)
+      → GivingBack plan r t l mode kind step → GaveBack n (after c n step) l step
   unfolding after_drop after_open after_open_sleep
   gave_back n l mode (actions.drops e) =
-      record { asks = tt; held = refl; held_locks = refl; log = refl; history = refl; has_begun = refl; wanted = refl; taking = refl; noted = refl; wait = refl; unstamped = refl; out = λ h. h; stands = λ h. h }
+      record {
+        asks = tt;
+        held = refl;
+        held_locks = refl;
+        log = refl;
+        history = refl;
+        has_begun = refl;
+        wanted = refl;
+        taking = refl;
+        noted = refl;
+        wait = refl;
+        unstamped = refl;
+        out = λ h. h;
+        stands = λ h. h;
+      }
   gave_back n l mode (actions.opens e i) =
-      record { asks = tt; held = refl; held_locks = refl; log = refl; history = refl; has_begun = refl; wanted = refl; taking = refl; noted = refl; wait = refl; unstamped = refl; out = λ h. h; stands = λ h. h }
+      record {
+        asks = tt;
+        held = refl;
+        held_locks = refl;
+        log = refl;
+        history = refl;
+        has_begun = refl;
+        wanted = refl;
+        taking = refl;
+        noted = refl;
+        wait = refl;
+        unstamped = refl;
+        out = λ h. h;
+        stands = λ h. h;
+      }
   gave_back n l mode (actions.opens_sleep_queue e i) =
-      record { asks = tt; held = refl; held_locks = refl; log = refl; history = refl; has_begun = refl; wanted = refl; taking = refl; noted = refl; wait = refl; unstamped = refl; out = λ h. h; stands = λ h. h }
+      record {
+        asks = tt;
+        held = refl;
+        held_locks = refl;
+        log = refl;
+        history = refl;
+        has_begun = refl;
+        wanted = refl;
+        taking = refl;
+        noted = refl;
+        wait = refl;
+        unstamped = refl;
+        out = λ h. h;
+        stands = λ h. h;
+      }
 
   -- 2. A running thread that doesn't wait and gives a lock back that it holds, behind the entry of that
 
@@ -97,7 +151,8 @@ module _ (plan : Plan) (r : Run) (t : ℕ) (p : IsProper plan) (k : IsOnTrack pl
   abbrev noted : LockNo → State
   noted l = after_stamp c s t (event.Unlocked l (mode l))
 
-  module _ (l : LockNo) (running : s.wait t ≡ Running) (free : OwesNothing plan r t) (up : waits_on (s.log t) ≡ None) (holds : s.held t l.0 ≢ NotHeld) where
+  module _ (l : LockNo) (running : s.wait t ≡ Running) (free : OwesNothing plan r t) (up : waits_on (s.log t) ≡ None)
+      (holds : s.held t l.0 ≢ NotHeld) where
     held : s.held t l.0 ≡ Holds (mode l)
     held = its_mode (s.held t l.0) holds
 
@@ -107,14 +162,19 @@ module _ (plan : Plan) (r : Run) (t : ℕ) (p : IsProper plan) (k : IsOnTrack pl
       word = refl;
       lock = k.taken.only_locks_are_held t l.0 (mode l) held;
       held = held;
-      closed = own_section c s t (event.Unlocked l (mode l)) l.0 ∙ ap (λ b. cond b NotHeld (open_in c s.history t l.0)) (eq-eqb l.0 l.0 refl);
+      closed = own_section c s t (event.Unlocked l (mode l)) l.0
+          ∙ ap (λ b. cond b NotHeld (open_in c s.history t l.0)) (eq-eqb l.0 l.0 refl);
       begun = k.begun t l.0 holds;
       unmarked = free.unmarked;
       off_turnstiles = λ j f. absurd (none-some (lock_queue j) (sym (unnamed plan r t k running) ∙ f));
     }
 
-    pub may_unlock_all : {kind : StepKind} {step : Step} → GivingBack plan r t l.0 (mode l) kind step → MayAll c s (Stamps t (event.Unlocked l (mode l)) ∷ step ∷ [])
-    may_unlock_all g = (record { thread = lt; acting = acting plan r t k running; asks = all_open plan r t k up l.0 ∙ held }, (may_give_back (noted l) l.0 (mode l) g can_give, tt))
+    pub may_unlock_all : {kind : StepKind} {step : Step} → GivingBack plan r t l.0 (mode l) kind step
+        → MayAll c s (Stamps t (event.Unlocked l (mode l)) ∷ step ∷ [])
+    may_unlock_all g = (
+      record { thread = lt; acting = acting plan r t k running; asks = all_open plan r t k up l.0 ∙ held },
+      (may_give_back (noted l) l.0 (mode l) g can_give, tt),
+    )
 
     -- what it has then
     record HasGiven (m : State) : Type 0 where
@@ -130,8 +190,10 @@ module _ (plan : Plan) (r : Run) (t : ℕ) (p : IsProper plan) (k : IsOnTrack pl
     has_given m step g = record {
       held = left_so;
       listed = ap (λ f. f t) g.held_locks ∙ put_same s.held_locks t _;
-      sections = λ j. ap (λ es. open_in c es t j) g.history ∙ own_section c s t (event.Unlocked l (mode l)) j ∙ ap (cond (eqb l.0 j) NotHeld) (all_open plan r t k up j) ∙ sym (left_so j);
-      begun = λ j x. ap (λ (f : ℕ → ℕ → Bool). f t j) g.has_begun ∙ k.begun t j (λ z. x (left_so j ∙ still_unheld (eqb l.0 j) (s.held t j) z));
+      sections = λ j. ap (λ es. open_in c es t j) g.history ∙ own_section c s t (event.Unlocked l (mode l)) j
+          ∙ ap (cond (eqb l.0 j) NotHeld) (all_open plan r t k up j) ∙ sym (left_so j);
+      begun = λ j x. ap (λ (f : ℕ → ℕ → Bool). f t j) g.has_begun
+          ∙ k.begun t j (λ z. x (left_so j ∙ still_unheld (eqb l.0 j) (s.held t j) z));
       taking = ap (λ f. f t) g.taking ∙ put_same s.taking t (s.taking t);
       unnoted = ap (λ f. f t) g.noted ∙ put_same s.noted t None;
     }
@@ -151,10 +213,12 @@ module _ (plan : Plan) (r : Run) (t : ℕ) (p : IsProper plan) (k : IsOnTrack pl
     is_held : s.held t l.0 ≢ NotHeld
     is_held z = release_finds.0 (sym (holds_all plan r t k up l.0) ∙ z)
 
-    pub may_release_all : {kind : StepKind} {step : Step} → GivingBack plan r t l.0 (mode l) kind step → MayAll c s (Stamps t (event.Unlocked l (mode l)) ∷ step ∷ [])
+    pub may_release_all : {kind : StepKind} {step : Step} → GivingBack plan r t l.0 (mode l) kind step
+        → MayAll c s (Stamps t (event.Unlocked l (mode l)) ∷ step ∷ [])
     may_release_all g = may_unlock_all l i.running i.free up.no_wait is_held g
 
-    released : (m : State) (step : Step) → GaveBack (noted l) m l.0 step → EndsWell plan r t (suc (r.next_op t)) (event.Unlocked l (mode l)) m
+    released : (m : State) (step : Step) → GaveBack (noted l) m l.0 step
+        → EndsWell plan r t (suc (r.next_op t)) (event.Unlocked l (mode l)) m
     unfolding after_stamp
     released m step g =
         let has = has_given l i.running i.free up.no_wait is_held m step g in
@@ -165,9 +229,11 @@ module _ (plan : Plan) (r : Run) (t : ℕ) (p : IsProper plan) (k : IsOnTrack pl
           history = g.history;
           within = left plan r t (Release l) i.next;
           holds = λ j.
-              has.held j ∙ ap (cond (eqb l.0 j) NotHeld) (holds_all plan r t k up j) ∙ sym (hold_in-without l.0 (before plan r t) j (are_locks plan r t p).apart)
+              has.held j ∙ ap (cond (eqb l.0 j) NotHeld) (holds_all plan r t k up j)
+              ∙ sym (hold_in-without l.0 (before plan r t) j (are_locks plan r t p).apart)
               ∙ ap (λ (hs : List Held). hold_in hs j) release_finds.1;
-          listed = has.listed ∙ ap (without_held l.0) (all_listed plan r t k up) ∙ gained_order-without l.0 (before plan r t) (are_locks plan r t p).apart ∙ ap gained_order release_finds.1;
+          listed = has.listed ∙ ap (without_held l.0) (all_listed plan r t k up) ∙ gained_order-without l.0
+              (before plan r t) (are_locks plan r t p).apart ∙ ap gained_order release_finds.1;
           sections = has.sections;
           begun = has.begun;
           wants = ap (λ f. f t) g.wanted ∙ none;
@@ -175,12 +241,16 @@ module _ (plan : Plan) (r : Run) (t : ℕ) (p : IsProper plan) (k : IsOnTrack pl
           unnoted = has.unnoted;
         }
 
-    pub released_keeps : {kind : StepKind} {step : Step} → GivingBack plan r t l.0 (mode l) kind step → KeepsTrack plan r t (ends r t kind (Stamps t (event.Unlocked l (mode l)) ∷ step ∷ []))
+    pub released_keeps : {kind : StepKind} {step : Step} → GivingBack plan r t l.0 (mode l) kind step
+        → KeepsTrack plan r t (ends r t kind (Stamps t (event.Unlocked l (mode l)) ∷ step ∷ []))
     unfolding after_stamp
     released_keeps {kind} {step} g =
         let gave = gave_back (noted l) l.0 (mode l) g in
-        goes_on plan r t (suc (r.next_op t)) kind (Stamps t (event.Unlocked l (mode l)) ∷ step ∷ []) (event.Unlocked l (mode l)) k ((λ d f. refl), (gave.asks, tt)) (gave.out k.lawful.nothing_out)
-        (gave.stands k.lawful.queued_stands) (ap (λ f. f t) gave.unstamped ∙ noted_behind plan r t (event.Unlocked l (mode l)) k) (released (after c (noted l) step) step gave)
+        goes_on plan r t (suc (r.next_op t)) kind (Stamps t (event.Unlocked l (mode l)) ∷ step ∷ [])
+        (event.Unlocked l (mode l)) k ((λ d f. refl), (gave.asks, tt)) (gave.out k.lawful.nothing_out)
+        (gave.stands k.lawful.queued_stands)
+        (ap (λ f. f t) gave.unstamped ∙ noted_behind plan r t (event.Unlocked l (mode l)) k)
+        (released (after c (noted l) step) step gave)
 
   -- 4. A release after a wait's first turn
 
@@ -192,10 +262,12 @@ module _ (plan : Plan) (r : Run) (t : ℕ) (p : IsProper plan) (k : IsOnTrack pl
     pub owes_it : (lock_of_wait c s t ≡ Some l) × (s.held t l ≢ NotHeld)
     owes_it = go (lock_of_wait c s t) refl owed
       where
-        held : (j : ℕ) (x : Hold) → s.held t j ≡ x → cond (is_unheld x) None (Some j) ≡ Some l → (Some j ≡ Some l) × (s.held t l ≢ NotHeld)
+        held : (j : ℕ) (x : Hold) → s.held t j ≡ x → cond (is_unheld x) None (Some j) ≡ Some l
+            → (Some j ≡ Some l) × (s.held t l ≢ NotHeld)
         held j x e f = grind arith
 
-        go : (o : Option ℕ) → lock_of_wait c s t ≡ o → to_release (s.held t) o ≡ Some l → (o ≡ Some l) × (s.held t l ≢ NotHeld)
+        go : (o : Option ℕ) → lock_of_wait c s t ≡ o → to_release (s.held t) o ≡ Some l
+            → (o ≡ Some l) × (s.held t l ≢ NotHeld)
         go o e f = grind arith
 
     pub holds_it : s.held t l ≡ Holds held_so
@@ -220,12 +292,15 @@ module _ (plan : Plan) (r : Run) (t : ℕ) (p : IsProper plan) (k : IsOnTrack pl
     unfolding StandingWants
     off_queues j e =
         let wanted = k.lawful.lawful.waits.standing_wants t j e in
-        owes_it.1 (subst (λ m. s.held t m ≡ NotHeld) (its_lock (waits_on (s.log t)) owes_it.0 (k.wants t j wanted)) (k.wants_unheld t j wanted))
+        owes_it.1 (subst (λ m. s.held t m ≡ NotHeld) (its_lock (waits_on (s.log t)) owes_it.0 (k.wants t j wanted))
+        (k.wants_unheld t j wanted))
       where
-        its_lock : (w : Option ℕ) → option_map c.chan_lock w ≡ Some l → TakesLock c j w (slice_get (operations_of plan t) (r.next_op t)) → j ≡ l
+        its_lock : (w : Option ℕ) → option_map c.chan_lock w ≡ Some l
+            → TakesLock c j w (slice_get (operations_of plan t) (r.next_op t)) → j ≡ l
         its_lock w f x = grind arith
 
-    pub may_give_up_all : {kind : StepKind} {step : Step} → GivingBack plan r t l held_so kind step → MayAll c s (step ∷ [])
+    pub may_give_up_all : {kind : StepKind} {step : Step} → GivingBack plan r t l held_so kind step
+        → MayAll c s (step ∷ [])
     may_give_up_all g = (
       may_give_back s l held_so g (record {
         word = refl;
@@ -244,10 +319,13 @@ module _ (plan : Plan) (r : Run) (t : ℕ) (p : IsProper plan) (k : IsOnTrack pl
       within = k.within t;
       no_endtry = k.no_endtry t;
       waiting = k.waiting t;
-      holds = λ j. holds j ∙ ap (cond (eqb l j) NotHeld) (holds_before j) ∙ sym (hold_in-without l (before plan r t) j apart) ∙ ap (λ (hs : List Held). hold_in hs j) (sym now);
-      listed = ap (λ f. f t) g.held_locks ∙ put_same s.held_locks t _ ∙ ap (without_held l) listed_before ∙ gained_order-without l (before plan r t) apart ∙ ap gained_order (sym now);
+      holds = λ j. holds j ∙ ap (cond (eqb l j) NotHeld) (holds_before j)
+          ∙ sym (hold_in-without l (before plan r t) j apart) ∙ ap (λ (hs : List Held). hold_in hs j) (sym now);
+      listed = ap (λ f. f t) g.held_locks ∙ put_same s.held_locks t _ ∙ ap (without_held l) listed_before
+          ∙ gained_order-without l (before plan r t) apart ∙ ap gained_order (sym now);
       left = k.left t;
-      opened = λ j. k.sections t j ∙ rw owes_it.0 (twice_unheld (eqb l j) (s.held t j) ∙ ap (cond (eqb l j) NotHeld) (sym (holds j)));
+      opened = λ j. k.sections t j
+          ∙ rw owes_it.0 (twice_unheld (eqb l j) (s.held t j) ∙ ap (cond (eqb l j) NotHeld) (sym (holds j)));
       begun = λ j x. k.begun t j (λ z. x (holds j ∙ still_unheld (eqb l j) (s.held t j) z));
       wants = k.wants t;
       wants_unheld = λ j f. holds j ∙ still_unheld (eqb l j) (s.held t j) (k.wants_unheld t j f);
@@ -262,10 +340,12 @@ module _ (plan : Plan) (r : Run) (t : ℕ) (p : IsProper plan) (k : IsOnTrack pl
         holds : (j : ℕ) → m.held t j ≡ cond (eqb l j) NotHeld (s.held t j)
         holds j = ap (λ (f : ℕ → ℕ → Hold). f t j) g.held ∙ put_at_own s.held t l NotHeld j
 
-        now : cond (was_cut s t) (take (length (m.held_locks t)) (before plan r t)) (without_unheld (m.held t) (lock_of_wait c s t) (before plan r t)) ≡ without_lock l (before plan r t)
+        now : cond (was_cut s t) (take (length (m.held_locks t)) (before plan r t))
+            (without_unheld (m.held t) (lock_of_wait c s t) (before plan r t)) ≡ without_lock l (before plan r t)
         now = rw (uncut, owes_it.0, holds l, eq-eqb l l refl) refl
 
-    pub gave_up_keeps : {kind : StepKind} {step : Step} → GivingBack plan r t l held_so kind step → KeepsTrack plan r t (does kind (step ∷ []))
+    pub gave_up_keeps : {kind : StepKind} {step : Step} → GivingBack plan r t l held_so kind step
+        → KeepsTrack plan r t (does kind (step ∷ []))
     gave_up_keeps {kind} {step} g =
         let gave = gave_back s l held_so g in
         record {
@@ -305,26 +385,32 @@ module _ (plan : Plan) (r : Run) (t : ℕ) (p : IsProper plan) (k : IsOnTrack pl
     none : waits_on (s.log t) ≡ None
     none = cut_no_wait plan r t k i.cut
 
-    pub may_give_last_all : {kind : StepKind} {step : Step} → GivingBack plan r t h.lock (mode its) kind step → MayAll c s (Stamps t (event.Unlocked its (mode its)) ∷ step ∷ [])
+    pub may_give_last_all : {kind : StepKind} {step : Step} → GivingBack plan r t h.lock (mode its) kind step
+        → MayAll c s (Stamps t (event.Unlocked its (mode its)) ∷ step ∷ [])
     may_give_last_all g = may_unlock_all its i.running i.free none last_held g
 
-    fewer : (m : State) (step : Step) → GaveBack (noted its) m h.lock step → m.held_locks t ≡ without_held h.lock (gained_order (take left_now (before plan r t)))
+    fewer : (m : State) (step : Step) → GaveBack (noted its) m h.lock step
+        → m.held_locks t ≡ without_held h.lock (gained_order (take left_now (before plan r t)))
     unfolding after_stamp
     fewer m step g = ap (λ f. f t) g.held_locks ∙ put_same s.held_locks t _ ∙ ap (without_held h.lock) cut_listed
 
-    pub last_left : (m : State) (step : Step) → GaveBack (noted its) m h.lock step → take (length (m.held_locks t)) (before plan r t) ≡ last.others
+    pub last_left : (m : State) (step : Step) → GaveBack (noted its) m h.lock step
+        → take (length (m.held_locks t)) (before plan r t) ≡ last.others
     last_left m step g = ap (λ (ls : List HeldLock). take (length ls) (before plan r t)) (fewer m step g) ∙ last.left
 
-    gave_last : (m : State) (step : Step) → GaveBack (noted its) m h.lock step → IsWhere plan t (share_in plan m t (r.next_op t))
+    gave_last : (m : State) (step : Step) → GaveBack (noted its) m h.lock step
+        → IsWhere plan t (share_in plan m t (r.next_op t))
     unfolding after_stamp
     gave_last m step g = rw (waits, cut, wanted, taking, has.unnoted) (record {
       within = k.within t;
       no_endtry = k.no_endtry t;
       waiting = λ d f. absurd cc;
       holds = λ j.
-          has.held j ∙ ap (cond (eqb h.lock j) NotHeld) (cut_holds j) ∙ sym (hold_in-without h.lock (take left_now (before plan r t)) j (apart-take left_now (before plan r t) apart))
+          has.held j ∙ ap (cond (eqb h.lock j) NotHeld) (cut_holds j) ∙ sym
+          (hold_in-without h.lock (take left_now (before plan r t)) j (apart-take left_now (before plan r t) apart))
           ∙ ap (λ (hs : List Held). hold_in hs j) (last.without ∙ sym (last_left m step g));
-      listed = fewer m step g ∙ gained_order-without h.lock (take left_now (before plan r t)) (apart-take left_now (before plan r t) apart) ∙ ap gained_order (last.without ∙ sym (last_left m step g));
+      listed = fewer m step g ∙ gained_order-without h.lock (take left_now (before plan r t))
+          (apart-take left_now (before plan r t) apart) ∙ ap gained_order (last.without ∙ sym (last_left m step g));
       left = λ j f. absurd cc;
       opened = has.sections;
       begun = has.begun;
@@ -353,7 +439,8 @@ module _ (plan : Plan) (r : Run) (t : ℕ) (p : IsProper plan) (k : IsOnTrack pl
         taking : m.taking t ≡ None
         taking = has.taking ∙ k.taking t ∙ k.cut_wants_nothing t i.cut
 
-    pub gave_last_keeps : {kind : StepKind} {step : Step} → GivingBack plan r t h.lock (mode its) kind step → KeepsTrack plan r t (does kind (Stamps t (event.Unlocked its (mode its)) ∷ step ∷ []))
+    pub gave_last_keeps : {kind : StepKind} {step : Step} → GivingBack plan r t h.lock (mode its) kind step
+        → KeepsTrack plan r t (does kind (Stamps t (event.Unlocked its (mode its)) ∷ step ∷ []))
     unfolding after_stamp HaltsOnlyWhenRunning
     gave_last_keeps {kind} {step} g =
         let gave = gave_back (noted its) h.lock (mode its) g in

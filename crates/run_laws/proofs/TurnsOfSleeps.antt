@@ -48,11 +48,14 @@ module _ (plan : Plan) (r : Run) (t : ℕ) (p : IsProper plan) (k : IsOnTrack pl
     section z = holds_it (sym (all_open plan r t k no l) ∙ z)
 
     -- and it was gained last, and not by a try
-    pub gained_last : s.held_locks t ≡ record { lock = l; by_try = false } ∷ gained_order (without_lock l (before plan r t))
+    pub gained_last : s.held_locks t ≡ record { lock = l; by_try = false }
+        ∷ gained_order (without_lock l (before plan r t))
     gained_last =
         let mode : Mode = mode_held (hold_in (before plan r t) l) in
-        let last = last_is (lock_with plan d) mode (before plan r t) finds.last (are_locks plan r t p).apart (its_mode (hold_in (before plan r t) l) finds.held) in
-        all_listed plan r t k up ∙ ap gained_order (sym last) ∙ gained_order-push (without_lock l (before plan r t)) (record { l = lock_with plan d; mode = mode; by_try = false })
+        let last = last_is (lock_with plan d) mode (before plan r t) finds.last (are_locks plan r t p).apart
+        (its_mode (hold_in (before plan r t) l) finds.held) in
+        all_listed plan r t k up ∙ ap gained_order (sym last) ∙ gained_order-push (without_lock l (before plan r t))
+        (record { l = lock_with plan d; mode = mode; by_try = false })
 
     its_sleep_queue : s.sleep_queue t ≡ Some x
     its_sleep_queue = let y = has_sleep_queue c s t k.lawful.lawful (unnamed plan r t k i.running) in rw y.1 refl
@@ -114,8 +117,10 @@ module _ (plan : Plan) (r : Run) (t : ℕ) (p : IsProper plan) (k : IsOnTrack pl
       waiting = λ e f. i.next ∙ ap (λ (n : ℕ). Some (Sleep (record { 0 = n }))) (same_Some d.0 e f);
       holds = λ j. holds_all plan r t k up j ∙ ap (λ (hs : List Held). hold_in hs j) (sym holding);
       listed = all_listed plan r t k up ∙ ap gained_order (sym holding);
-      left = λ j f. subst (λ m. (sections_in c noted.history t m).left ≡ hold_in (before plan r t) m) (same_Some l j f) left_so;
-      opened = λ j. ap (λ (y : Sections). y.now) (own_sections_by c (after_ready s t) t (event.Sleeps d) j) ∙ ap (cond (eqb l j) NotHeld) (all_open plan r t k no j);
+      left = λ j f. subst (λ m. (sections_in c noted.history t m).left ≡ hold_in (before plan r t) m)
+          (same_Some l j f) left_so;
+      opened = λ j. ap (λ (y : Sections). y.now) (own_sections_by c (after_ready s t) t (event.Sleeps d) j)
+          ∙ ap (cond (eqb l j) NotHeld) (all_open plan r t k no j);
       begun = k.begun t;
       wants = λ j f. absurd (none-some j f);
       wants_unheld = λ j f. absurd (none-some j f);
@@ -129,10 +134,12 @@ module _ (plan : Plan) (r : Run) (t : ℕ) (p : IsProper plan) (k : IsOnTrack pl
 
         left_so : (sections_in c noted.history t l).left ≡ hold_in (before plan r t) l
         left_so =
-            ap (λ (y : Sections). y.left) (own_sections_by c (after_ready s t) t (event.Sleeps d) l) ∙ ap (λ b. cond b (open_in c s.history t l) (sections_in c s.history t l).left) (eq-eqb l l refl)
+            ap (λ (y : Sections). y.left) (own_sections_by c (after_ready s t) t (event.Sleeps d) l)
+            ∙ ap (λ b. cond b (open_in c s.history t l) (sections_in c s.history t l).left) (eq-eqb l l refl)
             ∙ all_open plan r t k no l ∙ holds_all plan r t k up l
 
-    pub slept_keeps : KeepsTrack plan r t (does kind.Add (Readies t (Chan d) ∷ Stamps t (event.Sleeps d) ∷ Adds t d.0 x ∷ []))
+    pub slept_keeps : KeepsTrack plan r t
+        (does kind.Add (Readies t (Chan d) ∷ Stamps t (event.Sleeps d) ∷ Adds t d.0 x ∷ []))
     unfolding after_ready after_stamp after_add HaltsOnlyWhenRunning
     slept_keeps = record {
       asks = (
@@ -159,7 +166,8 @@ module _ (plan : Plan) (r : Run) (t : ℕ) (p : IsProper plan) (k : IsOnTrack pl
 
   -- 2. A wake
 
-  module _ {op : Op} {all : Bool} {noting : ℕ → Event} (d : ChanNo) (g : Waking d op all noting) (i : IsAtOperation plan r t (Some op)) where
+  module _ {op : Op} {all : Bool} {noting : ℕ → Event} (d : ChanNo) (g : Waking d op all noting)
+      (i : IsAtOperation plan r t (Some op)) where
     abbrev taken : List ℕ
     taken = map (λ (w : Waiter). w.thread) (taken_off all (s.lists (chan_queue d.0)).exclusive)
 
@@ -183,13 +191,32 @@ module _ (plan : Plan) (r : Run) (t : ℕ) (p : IsProper plan) (k : IsOnTrack pl
     is_waking : (bits : ℕ) → IsWaking op all (noting bits) bits
     is_waking bits = go g i
       where
-        go : {o : Op} {b : Bool} {f : ℕ → Event} → Waking d o b f → IsAtOperation plan r t (Some o) → IsWaking o b (f bits) bits
+        go : {o : Op} {b : Bool} {f : ℕ → Event} → Waking d o b f → IsAtOperation plan r t (Some o)
+            → IsWaking o b (f bits) bits
         go of_one at =
             let f = fit plan r t p (WakeOne d) at.next in
-            record { chan = wake_fits plan d [] f.passes; same = f.behind; asks = λ n w. w; no_take = refl; no_wait = refl; quiet = refl; lets = lets_go_on refl refl refl; noted = λ w. refl }
+            record {
+              chan = wake_fits plan d [] f.passes;
+              same = f.behind;
+              asks = λ n w. w;
+              no_take = refl;
+              no_wait = refl;
+              quiet = refl;
+              lets = lets_go_on refl refl refl;
+              noted = λ w. refl;
+            }
         go of_all at =
             let f = fit plan r t p (WakeAll d) at.next in
-            record { chan = wake_fits plan d [] f.passes; same = f.behind; asks = λ n w. w; no_take = refl; no_wait = refl; quiet = refl; lets = lets_go_on refl refl refl; noted = λ w. refl }
+            record {
+              chan = wake_fits plan d [] f.passes;
+              same = f.behind;
+              asks = λ n w. w;
+              no_take = refl;
+              no_wait = refl;
+              quiet = refl;
+              lets = lets_go_on refl refl refl;
+              noted = λ w. refl;
+            }
 
     its : IsWaking op all woken (bits_of_threads taken)
     its = is_waking (bits_of_threads taken)
@@ -203,10 +230,21 @@ module _ (plan : Plan) (r : Run) (t : ℕ) (p : IsProper plan) (k : IsOnTrack pl
     }
 
     pub may_wake_all : MayAll c s (wakes r t d all noting).steps
-    may_wake_all = (record { thread = lt; chan = its.chan; unmarked = i.free.unmarked; stamped = none_unnoted plan r t k }, (may_note_wake, tt))
+    may_wake_all = (
+      record { thread = lt; chan = its.chan; unmarked = i.free.unmarked; stamped = none_unnoted plan r t k },
+      (may_note_wake, tt),
+    )
 
     pub woke_keeps : KeepsTrack plan r t (wakes r t d all noting)
     unfolding after_wake after_stamp
-    woke_keeps = goes_on plan r t (suc (r.next_op t)) kind.Wake (wakes r t d all noting).steps woken k (refl, ((λ e f. refl), tt)) k.lawful.nothing_out k.lawful.queued_stands
+    woke_keeps = goes_on plan r t (suc (r.next_op t)) kind.Wake (wakes r t d all noting).steps woken k
+        (refl, ((λ e f. refl), tt)) k.lawful.nothing_out k.lawful.queued_stands
         (put_same (put s.unstamped t (Some wake)) t _ ∙ its.noted _)
-        (ends_quietly plan r t (suc (r.next_op t)) op woken _ k i (record { no_take = its.no_take; no_wait = its.no_wait; within = left plan r t op i.next; same = its.same; quiet = its.quiet; lets = its.lets }) refl refl refl refl refl refl refl refl)
+        (ends_quietly plan r t (suc (r.next_op t)) op woken _ k i (record {
+          no_take = its.no_take;
+          no_wait = its.no_wait;
+          within = left plan r t op i.next;
+          same = its.same;
+          quiet = its.quiet;
+          lets = its.lets;
+        }) refl refl refl refl refl refl refl refl)

@@ -34,13 +34,17 @@ module _ (plan : Plan) (r : Run) (t : ℕ) (k : IsOnTrack plan r) (lt : t < leng
   marked m ms = record {
     asks = (tt, tt);
     out = k.lawful.nothing_out;
-    stands = λ u. each_place m.thread (λ v. put s.wait m.thread (Woken m.queue m.cause) v ≡ Queued → put s.blocked_on m.thread None v ≢ None)
-        (λ i. absurd (let z : Woken m.queue m.cause ≡ Queued = sym (put_same s.wait m.thread (Woken m.queue m.cause)) ∙ i in cc))
-        (λ v ne. rw (put_other s.wait m.thread (Woken m.queue m.cause) v ne, put_other s.blocked_on m.thread None v ne) (k.lawful.queued_stands v)) u;
+    stands = λ u. each_place m.thread
+        (λ v. put s.wait m.thread (Woken m.queue m.cause) v ≡ Queued → put s.blocked_on m.thread None v ≢ None)
+        (λ i. absurd
+        (let z : Woken m.queue m.cause ≡ Queued = sym (put_same s.wait m.thread (Woken m.queue m.cause)) ∙ i in cc))
+        (λ v ne. rw (put_other s.wait m.thread (Woken m.queue m.cause) v ne, put_other s.blocked_on m.thread None v ne)
+        (k.lawful.queued_stands v)) u;
     noted = none_unnoted plan r t k;
     no_halts = k.no_halts;
     there = is_there plan r t k;
-    back = λ d e runs. k.back_wants t d e (at_put (λ v w. w ≡ Running → s.wait v ≡ Running) s.wait m.thread (Woken m.queue m.cause) (λ x. absurd cc) (λ v ne x. x) t runs);
+    back = λ d e runs. k.back_wants t d e (at_put (λ v w. w ≡ Running → s.wait v ≡ Running) s.wait m.thread
+        (Woken m.queue m.cause) (λ x. absurd cc) (λ v ne x. x) t runs);
   }
 
   -- 2. A resume
@@ -69,7 +73,8 @@ module _ (plan : Plan) (r : Run) (t : ℕ) (k : IsOnTrack plan r) (lt : t < leng
     abbrev Wants : QueueName → Cause → Type 0
     Wants x y =
         let w : Option ℕ = wanted_after c x y (is_taking_back (s.log t)) (s.wanted t) in
-        MayWant plan r t w × (taking_by c x (s.taking t) ≡ w) × ((d : ℕ) → waits_on (s.log t) ≡ Some d → w ≡ Some (c.chan_lock d))
+        MayWant plan r t w × (taking_by c x (s.taking t) ≡ w)
+        × ((d : ℕ) → waits_on (s.log t) ≡ Some d → w ≡ Some (c.chan_lock d))
 
     signal : cause ≡ BySignal
     unfolding WokenBySignal
@@ -84,7 +89,8 @@ module _ (plan : Plan) (r : Run) (t : ℕ) (k : IsOnTrack plan r) (lt : t < leng
           record { takes = k.wants t; unheld = k.wants_unheld t; uncut = k.cut_wants_nothing t },
           k.taking t,
           λ d w.
-              let its = k.lawful.lawful.waits.woken_wants t j.0 (e ∙ ap (λ x. Woken x cause) i ∙ ap (Woken (Lock j)) signal) in
+              let its = k.lawful.lawful.waits.woken_wants t j.0
+              (e ∙ ap (λ x. Woken x cause) i ∙ ap (Woken (Lock j)) signal) in
               let same : c.chan_lock d ≡ j.0 = rw w at (k.wants t j.0 its) in
               its ∙ ap Some (sym same),
         )
@@ -103,10 +109,12 @@ module _ (plan : Plan) (r : Run) (t : ℕ) (k : IsOnTrack plan r) (lt : t < leng
     resumed = record {
       asks = (tt, tt);
       out = k.lawful.nothing_out;
-      stands = at_put (λ v w. w ≡ Queued → s.blocked_on v ≢ None) s.wait t Running (λ e. absurd cc) (λ v ne. k.lawful.queued_stands v);
+      stands = at_put (λ v w. w ≡ Queued → s.blocked_on v ≢ None) s.wait t Running (λ e. absurd cc)
+          (λ v ne. k.lawful.queued_stands v);
       noted = none_unnoted plan r t k;
       no_halts = k.no_halts;
-      there = rw (put_same s.wanted t wanted, put_same s.taking t (taking_by c q (s.taking t)), still) (there_wanting plan r t wanted (taking_by c q (s.taking t)) k wants.1 wants.0);
+      there = rw (put_same s.wanted t wanted, put_same s.taking t (taking_by c q (s.taking t)), still)
+          (there_wanting plan r t wanted (taking_by c q (s.taking t)) k wants.1 wants.0);
       back = λ d w runs. put_same s.wanted t wanted ∙ wants.2 d w;
     }
       where

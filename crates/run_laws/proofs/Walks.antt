@@ -11,10 +11,13 @@ use Rattle.std.proofs.Common.{◌≡◌, ◌∷◌}
 
 module _ (c : Config) (s : State) (h : WalksAtTurnstiles c s.walk) where
   -- one thread's walk goes on
-  moved : (t : ℕ) (w : Walk) → ((l : ℕ) → w ≡ AtLock l → is_turnstile (c.kind l) ≡ true) → WalksAtTurnstiles c (put s.walk t w)
-  moved t w here u l = at_put (λ v x. x ≡ AtLock l → is_turnstile (c.kind l) ≡ true) s.walk t w (here l) (λ v ne. h v l) u
+  moved : (t : ℕ) (w : Walk) → ((l : ℕ) → w ≡ AtLock l → is_turnstile (c.kind l) ≡ true)
+      → WalksAtTurnstiles c (put s.walk t w)
+  moved t w here u l =
+      at_put (λ v x. x ≡ AtLock l → is_turnstile (c.kind l) ≡ true) s.walk t w (here l) (λ v ne. h v l) u
 
-  up : (k : ℕ) (o : Option ℕ) → is_turnstile (c.kind k) ≡ true → (l : ℕ) → walk_up k o ≡ AtLock l → is_turnstile (c.kind l) ≡ true
+  up : (k : ℕ) (o : Option ℕ) → is_turnstile (c.kind k) ≡ true → (l : ℕ) → walk_up k o ≡ AtLock l
+      → is_turnstile (c.kind l) ≡ true
   up k o e l i = grind arith
 
   to : (o : ℕ) (b : Bool) (l : ℕ) → walk_to o b ≡ AtLock l → is_turnstile (c.kind l) ≡ true
@@ -32,6 +35,7 @@ module _ (c : Config) (s : State) (h : WalksAtTurnstiles c s.walk) where
   keeps (EndsWalk t) g = moved t NoWalk (λ l i. absurd cc)
   keeps other g = h
 
-pub walks_keep : (c : Config) (s : State) (steps : List Step) → MayAll c s steps → WalksAtTurnstiles c s.walk → WalksAtTurnstiles c (after_all c s steps).walk
+pub walks_keep : (c : Config) (s : State) (steps : List Step) → MayAll c s steps → WalksAtTurnstiles c s.walk
+    → WalksAtTurnstiles c (after_all c s steps).walk
 walks_keep c s [] g h = h
 walks_keep c s (step ∷ steps) g h = walks_keep c (after c s step) steps g.1 (keeps c s h step g.0)

@@ -76,6 +76,7 @@ module _ {T : Type 0} where
   -- rows rise
   pub rows_rise : (xs : List (ℕ × T)) → Ascend xs → IsNonDecreasingBy (λ x. x.0) xs
   rows_rise xs h i j d l n = elim (cases_eq i j) [
-    | inl e ↦ let same : (get_or xs i d).0 ≡ (get_or xs j d).0 = ap (λ (k : ℕ). (get_or xs k d).0) e in omega (arith, same)
+    | inl e ↦ let same : (get_or xs i d).0 ≡ (get_or xs j d).0 = ap (λ (k : ℕ). (get_or xs k d).0) e in
+        omega (arith, same)
     | inr e ↦ let less = h i j d (omega (arith, e)) n in omega (arith, less)
   ]

@@ -34,12 +34,15 @@ AreWithin locks threads es = All (λ e. IsWithin locks threads e.1) es
 within_more : (l m n o : ℕ) → l ≤ m → n ≤ o → (es : List (List ℕ × Declared)) → AreWithin l n es → AreWithin m o es
 within_more l m n o locks threads es h = grind arith
 
-found_within : (locks threads : ℕ) (p : List ℕ → Bool) (es : List (List ℕ × Declared)) (d : Declared) → AreWithin locks threads es → lookup p es ≡ Some d → IsWithin locks threads d
+found_within : (locks threads : ℕ) (p : List ℕ → Bool) (es : List (List ℕ × Declared)) (d : Declared)
+    → AreWithin locks threads es → lookup p es ≡ Some d → IsWithin locks threads d
 found_within locks threads p [] d h e = absurd (none-some d e)
-found_within locks threads p (x ∷ es) d h e = elim (p x.0) as (λ b. cond b (Some x.1) (lookup p es) ≡ Some d → IsWithin locks threads d) [
-  | true ↦ λ q. subst (IsWithin locks threads) (same_Some x.1 d q) (All-head (λ e. IsWithin locks threads e.1) x es h)
-  | false ↦ λ q. found_within locks threads p es d (All-tail (λ e. IsWithin locks threads e.1) x es h) q
-] e
+found_within locks threads p (x ∷ es) d h e =
+    elim (p x.0) as (λ b. cond b (Some x.1) (lookup p es) ≡ Some d → IsWithin locks threads d) [
+      | true ↦
+          λ q. subst (IsWithin locks threads) (same_Some x.1 d q) (All-head (λ e. IsWithin locks threads e.1) x es h)
+      | false ↦ λ q. found_within locks threads p es d (All-tail (λ e. IsWithin locks threads e.1) x es h) q
+    ] e
 
 guarded : {A : Type 0} (b : Bool) (x : Option A) (y : A) → cond b x None ≡ Some y → x ≡ Some y
 guarded true x y e = e
@@ -47,9 +50,11 @@ guarded false x y e = absurd (none-some y e)
 
 -- what a name stands for is within the same bounds
 module _ (locks threads : ℕ) (k : Known) (name : List ℕ) (h : AreWithin locks threads k.names) where
-  named_so : {A : Type 0} (f : Declared → Option A) (P : A → Type 0) (x : A) → ((d : Declared) → IsWithin locks threads d → f d ≡ Some x → P x)
+  named_so : {A : Type 0} (f : Declared → Option A) (P : A → Type 0) (x : A)
+      → ((d : Declared) → IsWithin locks threads d → f d ≡ Some x → P x)
       → cond (is_name name) (option_and_then f (declared_as k name)) None ≡ Some x → P x
-  named_so f P x its e = option_and_then_some f (declared_as k name) x (guarded (is_name name) _ x e) (λ d there q. its d (found_within locks threads (is_same name) k.names d h there) q)
+  named_so f P x its e = option_and_then_some f (declared_as k name) x (guarded (is_name name) _ x e)
+      (λ d there q. its d (found_within locks threads (is_same name) k.names d h there) q)
 
   lock_within : (l : LockNo) → lock_named k name ≡ Some l → l.0 < locks
   lock_within l e = named_so lock_of (λ l. l.0 < locks) l its e
@@ -103,7 +108,8 @@ nothing_sound = grind arith
 -- 3. Each statement keeps that
 
 -- where no thread is open
-not_open : (locks : List LockDecl) (chans : List ChanDecl) (o : Option OpenThread) → o ≡ None → OpenIsSound locks chans o
+not_open : (locks : List LockDecl) (chans : List ChanDecl) (o : Option OpenThread) → o ≡ None
+    → OpenIsSound locks chans o
 not_open locks chans o e = subst (OpenIsSound locks chans) (sym e) tt
 
 none_begun : (k : Known) → k.open_thread ≡ None → begun k ≡ length k.threads
@@ -122,17 +128,22 @@ record IsKnown (before all : List (List ℕ)) (number : ℕ) : Type 0 where
   keeps : length before ≤ length all
   most : length all ≤ max (length before) (number + 1)
 
-class_known : (classes : List (List ℕ)) (class : List ℕ) → IsKnown classes (with_class classes class) (class_number classes class)
+class_known : (classes : List (List ℕ)) (class : List ℕ)
+    → IsKnown classes (with_class classes class) (class_number classes class)
 class_known [] class = record { there = omega arith; keeps = omega arith; most = omega arith }
-class_known (x ∷ xs) class = go (is_same class x) (list_any (is_same class) xs) (prefix_len (λ y. not (is_same class y)) xs) (class_known xs class)
+class_known (x ∷ xs) class = go (is_same class x) (list_any (is_same class) xs)
+    (prefix_len (λ y. not (is_same class y)) xs) (class_known xs class)
   where
     go : (here later : Bool) (n : ℕ) → IsKnown xs (if later then xs else xs ++ class ∷ []) n
         → IsKnown (x ∷ xs) (if here || later then x ∷ xs else x ∷ (xs ++ class ∷ [])) (cond (not here) (1 + n) 0)
     go true later n h = record { there = omega arith; keeps = omega arith; most = omega arith }
     go false true n h = record { there = omega (arith, h.there); keeps = omega arith; most = omega arith }
-    go false false n h = record { there = omega (arith, h.there); keeps = omega (arith, h.keeps); most = omega (arith, h.most) }
+    go false false n h =
+        record { there = omega (arith, h.there); keeps = omega (arith, h.keeps); most = omega (arith, h.most) }
 
-lock_sound : (k : Known) (kind : Kind) (name class : List ℕ) → IsSound k → Passes (place_tests k (Declares kind name class)) → Passes (name_tests k (Declares kind name class)) → IsSound (with_lock k kind name class)
+lock_sound : (k : Known) (kind : Kind) (name class : List ℕ) → IsSound k
+    → Passes (place_tests k (Declares kind name class)) → Passes (name_tests k (Declares kind name class))
+    → IsSound (with_lock k kind name class)
 lock_sound k kind name class h place names =
     let before = and_parts _ _ (passed _ _ place).0 in
     let later = passed _ _ (passed _ _ (passed _ _ (passed _ _ names).1).1).1 in
@@ -142,17 +153,23 @@ lock_sound k kind name class h place names =
     let few : length k.locks < most_locks = ltb-true (length k.locks) most_locks room in
     let n : ℕ = length (k.locks ++ lock ∷ []) in
     let known = class_known k.classes class in
-    let fewer : class_number k.classes class < most_classes = ltb-true (class_number k.classes class) most_classes (passed _ _ later.1).0 in
+    let fewer : class_number k.classes class
+    < most_classes = ltb-true (class_number k.classes class) most_classes (passed _ _ later.1).0 in
     record {
-      names = All-push (λ e. IsWithin n (begun k) e.1) k.names (name, Lock (record { 0 = length k.locks })) (within_more (length k.locks) n (begun k) (begun k) (omega (arith, size)) (omega arith) k.names h.names) (omega (arith, size));
+      names = All-push (λ e. IsWithin n (begun k) e.1) k.names (name, Lock (record { 0 = length k.locks }))
+          (within_more (length k.locks) n (begun k) (begun k) (omega (arith, size)) (omega arith) k.names h.names)
+          (omega (arith, size));
       locks = omega (arith, size, few);
       chans = h.chans;
       classes = omega (arith, known.most, fewer, h.classes);
       lock_classes = All-push (λ d. d.class.0 < length (with_class k.classes class)) k.locks lock
-          (All-weaker (λ d. d.class.0 < length k.classes) (λ d. d.class.0 < length (with_class k.classes class)) (λ d b. omega (arith, b, known.keeps)) k.locks h.lock_classes) known.there;
-      chan_locks = All-weaker (λ d. d.lock.0 < length k.locks) (λ d. d.lock.0 < n) (λ d b. omega (arith, size, b)) k.chans h.chan_locks;
+          (All-weaker (λ d. d.class.0 < length k.classes) (λ d. d.class.0 < length (with_class k.classes class))
+          (λ d b. omega (arith, b, known.keeps)) k.locks h.lock_classes) known.there;
+      chan_locks = All-weaker (λ d. d.lock.0 < length k.locks) (λ d. d.lock.0 < n)
+          (λ d b. omega (arith, size, b)) k.chans h.chan_locks;
       threads = h.threads;
-      fits = All-same (λ d. Fit (k.locks ++ lock ∷ []) k.chans d.ops) k.threads [] (empty_is k.threads before.1) (All-nil _);
+      fits = All-same (λ d. Fit (k.locks ++ lock ∷ []) k.chans d.ops) k.threads [] (empty_is k.threads before.1)
+          (All-nil _);
       open_thread = not_open (k.locks ++ lock ∷ []) k.chans k.open_thread (none_is k.open_thread before.0);
       operations = h.operations;
       counted = h.counted;
@@ -160,19 +177,22 @@ lock_sound k kind name class h place names =
       schedule = h.schedule;
     }
 
-chan_sound : (k : Known) (cond : Bool) (name : List ℕ) (l : LockNo) → IsSound k → is_before_threads k ≡ true → l.0 < length k.locks → length k.chans < most_channels → IsSound (with_chan k cond name l)
+chan_sound : (k : Known) (cond : Bool) (name : List ℕ) (l : LockNo) → IsSound k → is_before_threads k ≡ true
+    → l.0 < length k.locks → length k.chans < most_channels → IsSound (with_chan k cond name l)
 chan_sound k cond name l h place within few =
     let before = and_parts _ _ place in
     let chan : ChanDecl = record { name = name; cond = cond; lock = l } in
     record {
-      names = All-push (λ e. IsWithin (length k.locks) (begun k) e.1) k.names (name, Chan (record { 0 = length k.chans })) h.names tt;
+      names = All-push (λ e. IsWithin (length k.locks) (begun k) e.1) k.names
+          (name, Chan (record { 0 = length k.chans })) h.names tt;
       locks = h.locks;
       chans = omega (arith, length-append k.chans (chan ∷ []), few);
       classes = h.classes;
       lock_classes = h.lock_classes;
       chan_locks = All-push (λ d. d.lock.0 < length k.locks) k.chans chan h.chan_locks within;
       threads = h.threads;
-      fits = All-same (λ d. Fit k.locks (k.chans ++ chan ∷ []) d.ops) k.threads [] (empty_is k.threads before.1) (All-nil _);
+      fits = All-same (λ d. Fit k.locks (k.chans ++ chan ∷ []) d.ops) k.threads [] (empty_is k.threads before.1)
+          (All-nil _);
       open_thread = not_open k.locks (k.chans ++ chan ∷ []) k.open_thread (none_is k.open_thread before.0);
       operations = h.operations;
       counted = h.counted;
@@ -180,13 +200,16 @@ chan_sound k cond name l h place within few =
       schedule = h.schedule;
     }
 
-thread_sound : (k : Known) (name : List ℕ) (base : ℕ) → IsSound k → k.open_thread ≡ None → length k.threads < most_threads → IsSound (with_thread k name base)
+thread_sound : (k : Known) (name : List ℕ) (base : ℕ) → IsSound k → k.open_thread ≡ None
+    → length k.threads < most_threads → IsSound (with_thread k name base)
 thread_sound k name base h none few =
     let n : ℕ = length k.threads in
     let before : begun k ≡ n = none_begun k none in
     let nothing : operations_of_open k.open_thread ≡ 0 = ap operations_of_open none in
     record {
-      names = All-push (λ e. IsWithin (length k.locks) (n + 1) e.1) k.names (name, Thread (record { 0 = n })) (within_more (length k.locks) (length k.locks) (begun k) (n + 1) (omega arith) (omega (arith, before)) k.names h.names) (omega arith);
+      names = All-push (λ e. IsWithin (length k.locks) (n + 1) e.1) k.names (name, Thread (record { 0 = n }))
+          (within_more (length k.locks) (length k.locks) (begun k) (n + 1) (omega arith)
+          (omega (arith, before)) k.names h.names) (omega arith);
       locks = h.locks;
       chans = h.chans;
       classes = h.classes;
@@ -201,7 +224,8 @@ thread_sound k name base h none few =
       schedule = h.schedule;
     }
 
-end_sound : (k : Known) (t : OpenThread) → IsSound k → k.open_thread ≡ Some t → t.blocks ≡ [] → t.held ≡ [] → IsSound (with_end k (Some t))
+end_sound : (k : Known) (t : OpenThread) → IsSound k → k.open_thread ≡ Some t → t.blocks ≡ [] → t.held ≡ []
+    → IsSound (with_end k (Some t))
 end_sound k t h o closed released =
     let done : ThreadDecl = record { name = t.name; base = record { 0 = t.base }; ops = t.ops } in
     let size : length (k.threads ++ done ∷ []) ≡ length k.threads + 1 = length-append k.threads _ in
@@ -217,41 +241,56 @@ end_sound k t h o closed released =
       lock_classes = h.lock_classes;
       chan_locks = h.chan_locks;
       threads = omega (arith, same, h.threads);
-      fits = All-push (λ d. Fit k.locks k.chans d.ops) k.threads done h.fits (end_fits k.locks k.chans t (subst (OpenIsSound k.locks k.chans) o h.open_thread) closed released);
+      fits = All-push (λ d. Fit k.locks k.chans d.ops) k.threads done h.fits
+          (end_fits k.locks k.chans t (subst (OpenIsSound k.locks k.chans) o h.open_thread) closed released);
       open_thread = tt;
       operations = h.operations;
       counted = omega (arith, in_all, its, h.counted);
       scheduled = h.scheduled;
-      schedule = All-weaker (λ t. t.0 < length k.threads) (λ t. t.0 < length (k.threads ++ done ∷ [])) (λ t b. omega (arith, size, b)) k.schedule h.schedule;
+      schedule = All-weaker (λ t. t.0 < length k.threads) (λ t. t.0 < length (k.threads ++ done ∷ []))
+          (λ t b. omega (arith, size, b)) k.schedule h.schedule;
     }
 
 -- the schedule names threads that have begun
-threads_within : (locks threads : ℕ) (k : Known) (names : List (List ℕ)) → AreWithin locks threads k.names → All (λ t. t.0 < threads) (threads_named k names)
+threads_within : (locks threads : ℕ) (k : Known) (names : List (List ℕ)) → AreWithin locks threads k.names
+    → All (λ t. t.0 < threads) (threads_named k names)
 threads_within locks threads k [] h = All-nil _
-threads_within locks threads k (name ∷ names) h = All-append (λ t. t.0 < threads) (option_to_list (thread_named k name)) (threads_named k names) (go (thread_named k name) refl) (threads_within locks threads k names h)
+threads_within locks threads k (name ∷ names) h = All-append (λ t. t.0 < threads) (option_to_list (thread_named k name))
+    (threads_named k names) (go (thread_named k name) refl) (threads_within locks threads k names h)
   where
     go : (o : Option ThreadNo) → thread_named k name ≡ o → All (λ t. t.0 < threads) (option_to_list o)
     go None e = All-nil (λ (t : ThreadNo). t.0 < threads)
-    go (Some t) e = All-cons (λ (t : ThreadNo). t.0 < threads) t [] (thread_within locks threads k name h t e) (All-nil (λ (t : ThreadNo). t.0 < threads))
+    go (Some t) e = All-cons (λ (t : ThreadNo). t.0 < threads) t [] (thread_within locks threads k name h t e)
+        (All-nil (λ (t : ThreadNo). t.0 < threads))
 
 one_at_most : {A : Type 0} (o : Option A) → length (option_to_list o) ≤ 1
 one_at_most o = grind arith
 
 threads_few : (k : Known) (names : List (List ℕ)) → length (threads_named k names) ≤ length names
 threads_few k [] = omega arith
-threads_few k (name ∷ names) = omega (arith, length-append (option_to_list (thread_named k name)) (threads_named k names), one_at_most (thread_named k name), threads_few k names)
+threads_few k (name ∷ names) = omega (
+  arith,
+  length-append (option_to_list (thread_named k name)) (threads_named k names),
+  one_at_most (thread_named k name),
+  threads_few k names,
+)
 
-schedule_sound : (k : Known) (names : List (List ℕ)) → IsSound k → k.open_thread ≡ None → length k.schedule + length names ≤ most_scheduled → IsSound (learned k (Schedules names))
+schedule_sound : (k : Known) (names : List (List ℕ)) → IsSound k → k.open_thread ≡ None
+    → length k.schedule + length names ≤ most_scheduled → IsSound (learned k (Schedules names))
 schedule_sound k names h none few =
-    let scheduled : length (k.schedule ++ threads_named k names) ≤ most_scheduled = omega (arith, length-append k.schedule (threads_named k names), threads_few k names, few) in
-    let schedule = All-append (λ t. t.0 < length k.threads) k.schedule (threads_named k names) h.schedule (threads_within (length k.locks) (length k.threads) k names (subst (λ m. AreWithin (length k.locks) m k.names) (none_begun k none) h.names)) in
+    let scheduled : length (k.schedule ++ threads_named k names)
+    ≤ most_scheduled = omega (arith, length-append k.schedule (threads_named k names), threads_few k names, few) in
+    let schedule = All-append (λ t. t.0 < length k.threads) k.schedule (threads_named k names) h.schedule
+    (threads_within (length k.locks) (length k.threads) k names
+    (subst (λ m. AreWithin (length k.locks) m k.names) (none_begun k none) h.names)) in
     assumption (h, scheduled, schedule)
 
 said_new : (k : Known) (o : Operation) → IfSome (op_of k o) IsNew
 said_new k o = grind arith
 
 -- the open thread has made one operation more
-operation_sound : (k : Known) (t made : OpenThread) → IsSound k → k.open_thread ≡ Some t → k.operations < most_operations → length made.ops ≡ length t.ops + 1 → IsSoundOpen k.locks k.chans made
+operation_sound : (k : Known) (t made : OpenThread) → IsSound k → k.open_thread ≡ Some t
+    → k.operations < most_operations → length made.ops ≡ length t.ops + 1 → IsSoundOpen k.locks k.chans made
     → IsSound (record k { open_thread = Some made; operations = suc k.operations })
 operation_sound k t made h o few size sound =
     let before : begun k ≡ length k.threads + 1 = ap (λ o. length k.threads + opened o) o in
@@ -273,51 +312,66 @@ operation_sound k t made h o few size sound =
     }
 
 -- an operation's line
-said_sound : (k : Known) (o : Operation) → IsSound k → (x : Option OpenThread) → k.open_thread ≡ x → Passes (where_some (tests_in_thread k o) x) → IsSound (with_operation k x (op_of k o))
+said_sound : (k : Known) (o : Operation) → IsSound k → (x : Option OpenThread) → k.open_thread ≡ x
+    → Passes (where_some (tests_in_thread k o) x) → IsSound (with_operation k x (op_of k o))
 said_sound k o h None e passes = h
 said_sound k o h (Some t) e passes =
-    let later = passed_both (operation_words k t o) (has_room most_operations k.operations ∷ where_some (λ op. operation_tests k.locks k.chans op t.held) (op_of k o)) passes in
+    let later = passed_both (operation_words k t o)
+    (has_room most_operations k.operations ∷ where_some (λ op. operation_tests k.locks k.chans op t.held) (op_of k o))
+    passes in
     let room = passed _ _ later.1 in
     go (op_of k o) (said_new k o) (ltb-true k.operations most_operations room.0) room.1
   where
-    go : (x : Option Op) → IfSome x IsNew → k.operations < most_operations → Passes (where_some (λ op. operation_tests k.locks k.chans op t.held) x) → IsSound (with_operation k (Some t) x)
+    go : (x : Option Op) → IfSome x IsNew → k.operations < most_operations → Passes
+        (where_some (λ op. operation_tests k.locks k.chans op t.held) x) → IsSound (with_operation k (Some t) x)
     go None new few q = h
     go (Some op) new few q =
-        operation_sound k t _ h e few (length-append t.ops (op ∷ [])) (operation_push k.locks k.chans t op (subst (OpenIsSound k.locks k.chans) e h.open_thread) new q)
+        operation_sound k t _ h e few (length-append t.ops (op ∷ []))
+        (operation_push k.locks k.chans t op (subst (OpenIsSound k.locks k.chans) e h.open_thread) new q)
 
 -- the line of an endtry
-endtry_line : (k : Known) → IsSound k → (x : Option OpenThread) → k.open_thread ≡ x → is_in_block x ≡ true → Passes (where_some (λ (t : OpenThread). endtry_tests k t t.blocks) x)
+endtry_line : (k : Known) → IsSound k → (x : Option OpenThread) → k.open_thread ≡ x → is_in_block x ≡ true
+    → Passes (where_some (λ (t : OpenThread). endtry_tests k t t.blocks) x)
     → IsSound (with_endtry k x)
 endtry_line k h None e inside passes = absurd (false≢true inside)
 endtry_line k h (Some t) e inside passes = go t.blocks refl inside passes
   where
-    go : (bs : List Block) → t.blocks ≡ bs → not (is_empty bs) ≡ true → Passes (endtry_tests k t bs) → IsSound (record k { open_thread = Some (without_block t bs); operations = suc k.operations })
+    go : (bs : List Block) → t.blocks ≡ bs → not (is_empty bs) ≡ true → Passes (endtry_tests k t bs)
+        → IsSound (record k { open_thread = Some (without_block t bs); operations = suc k.operations })
     go [] f inside q = absurd (false≢true inside)
     go (b ∷ bs) f inside q =
         let room = passed _ _ q in
-        operation_sound k t (without_block t (b ∷ bs)) h e (ltb-true k.operations most_operations room.0) (length-append _ (EndTry ∷ []) ∙ ap (λ n. n + 1) (length-set t.ops b.opened_at _))
-        (endtry_sound k.locks k.chans t b bs (subst (OpenIsSound k.locks k.chans) e h.open_thread) f (passed _ _ room.1).0)
+        operation_sound k t (without_block t (b ∷ bs)) h e (ltb-true k.operations most_operations room.0)
+        (length-append _ (EndTry ∷ []) ∙ ap (λ n. n + 1) (length-set t.ops b.opened_at _))
+        (endtry_sound k.locks k.chans t b bs (subst (OpenIsSound k.locks k.chans) e h.open_thread) f
+        (passed _ _ room.1).0)
 
-statement_sound : (k : Known) (s : Statement) → IsSound k → Passes (place_tests k s) → Passes (name_tests k s) → IsSound (learned k s)
+statement_sound : (k : Known) (s : Statement) → IsSound k → Passes (place_tests k s) → Passes (name_tests k s)
+    → IsSound (learned k s)
 statement_sound k (Declares kind name class) h place names = lock_sound k kind name class h place names
 statement_sound k (DeclaresChan cond name lock) h place names =
     let later = passed _ _ (passed _ _ (passed _ _ (passed _ _ names).1).1).1 in
     go (lock_named k lock) refl later.0 (ltb-true (length k.chans) most_channels (passed _ _ later.1).0)
   where
-    go : (o : Option LockNo) → lock_named k lock ≡ o → is_some o ≡ true → length k.chans < most_channels → IsSound (with_chan k cond name (unwrap_or o (record { 0 = 0 })))
+    go : (o : Option LockNo) → lock_named k lock ≡ o → is_some o ≡ true → length k.chans < most_channels
+        → IsSound (with_chan k cond name (unwrap_or o (record { 0 = 0 })))
     go None e there few = absurd (false≢true there)
-    go (Some l) e there few = chan_sound k cond name l h (passed _ _ place).0 (lock_within (length k.locks) (begun k) k lock h.names l e) few
+    go (Some l) e there few =
+        chan_sound k cond name l h (passed _ _ place).0 (lock_within (length k.locks) (begun k) k lock h.names l e) few
 statement_sound k (Begins name prio) h place names =
     let room = (passed _ _ (passed _ _ (passed _ _ (passed _ _ names).1).1).1).0 in
-    thread_sound k name _ h (not_inside k.open_thread (passed _ _ place).0) (ltb-true (length k.threads) most_threads room)
+    thread_sound k name _ h (not_inside k.open_thread (passed _ _ place).0)
+    (ltb-true (length k.threads) most_threads room)
 statement_sound k Ends h place names = go k.open_thread refl (passed _ _ (passed _ _ place).1).0 names
   where
-    go : (o : Option OpenThread) → k.open_thread ≡ o → not (is_in_block o) ≡ true → Passes (where_some (λ (t : OpenThread). test 14 (is_empty t.held) ∷ []) o) → IsSound (with_end k o)
+    go : (o : Option OpenThread) → k.open_thread ≡ o → not (is_in_block o) ≡ true
+        → Passes (where_some (λ (t : OpenThread). test 14 (is_empty t.held) ∷ []) o) → IsSound (with_end k o)
     go None e closed q = h
     go (Some t) e closed q = end_sound k t h e (none_left t.blocks closed) (empty_is t.held (passed _ _ q).0)
 statement_sound k (Schedules names) h place tests =
     let room = (passed _ _ (passed _ _ (passed _ _ tests).1).1).0 in
-    schedule_sound k names h (not_inside k.open_thread (passed _ _ place).0) (leb-true (length k.schedule + length names) most_scheduled room)
+    schedule_sound k names h (not_inside k.open_thread (passed _ _ place).0)
+    (leb-true (length k.schedule + length names) most_scheduled room)
 statement_sound k IsDone h place names = assumption h
 statement_sound k (Operates o) h place names = said_sound k o h k.open_thread refl names
 statement_sound k EndsTry h place names = endtry_line k h k.open_thread refl (passed _ _ place).0 names
@@ -328,13 +382,15 @@ pub line_sound : (k : Known) (line : List ℕ) → IsSound k → line_fault k li
 unfolding line_fault behind_line
 line_sound k line h e = meaning (has_meaning line) (stages_pass (byte_tests line) _ e).1
   where
-    says : (s : Option Statement) → statement_of line ≡ s → first_fault (statement_stages k s) ≡ None → IsSound (learned_from k s)
+    says : (s : Option Statement) → statement_of line ≡ s → first_fault (statement_stages k s) ≡ None
+        → IsSound (learned_from k s)
     says None f q = h
     says (Some s) f q =
         let p = stages_pass (place_tests k s) (name_tests k s ∷ []) q in
         statement_sound k s h p.0 (stages_pass (name_tests k s) [] p.1).0
 
-    meaning : (b : Bool) → first_fault (cond b (word_tests k line ∷ statement_stages k (statement_of line)) []) ≡ None → IsSound (cond b (learned_from k (statement_of line)) k)
+    meaning : (b : Bool) → first_fault (cond b (word_tests k line ∷ statement_stages k (statement_of line)) []) ≡ None
+        → IsSound (cond b (learned_from k (statement_of line)) k)
     meaning true q = says (statement_of line) refl (stages_pass (word_tests k line) _ q).1
     meaning false q = h
 
@@ -349,18 +405,21 @@ sound_proper k h = record {
   scheduled = h.scheduled;
   schedule = h.schedule;
   chan_locks = h.chan_locks;
-  fits = read_all (Fit k.locks k.chans) (λ (d : ThreadDecl). d.ops) [] k.threads h.fits (end_fits k.locks k.chans _ (begin_sound k.locks k.chans [] 0) refl refl);
+  fits = read_all (Fit k.locks k.chans) (λ (d : ThreadDecl). d.ops) [] k.threads h.fits
+      (end_fits k.locks k.chans _ (begin_sound k.locks k.chans [] 0) refl refl);
 }
 
 same_plan : (a b : Plan) → Reads a ≡ Reads b → a ≡ b
 same_plan a b e = cc
 
 -- a fault is no plan
-pub faulty-reads : (n : ℕ) (fault : Option ℕ) (r : Reading) (plan : Plan) → faulty_or n fault r ≡ Reads plan → (fault ≡ None) × (r ≡ Reads plan)
+pub faulty-reads : (n : ℕ) (fault : Option ℕ) (r : Reading) (plan : Plan) → faulty_or n fault r ≡ Reads plan
+    → (fault ≡ None) × (r ≡ Reads plan)
 faulty-reads n None r plan e = (refl, e)
 faulty-reads n (Some code) r plan e = absurd (cc)
 
-lines_proper : (n : ℕ) (k : Known) (lines : List (List ℕ)) (plan : Plan) → IsSound k → reading_from n k lines ≡ Reads plan → IsProper plan
+lines_proper : (n : ℕ) (k : Known) (lines : List (List ℕ)) (plan : Plan) → IsSound k
+    → reading_from n k lines ≡ Reads plan → IsProper plan
 unfolding reading_from
 lines_proper n k [] plan h e = go k.is_done e
   where

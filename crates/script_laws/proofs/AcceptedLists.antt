@@ -17,14 +17,16 @@ pub empty_is : {A : Type 0} (xs : List A) → is_empty xs ≡ true → xs ≡ []
 empty_is xs e = grind arith
 
 -- where no stage has a fault, the first has none, and no later one
-pub stages_pass : (stage : List Test) (stages : List (List Test)) → first_fault (stage ∷ stages) ≡ None → Passes stage × (first_fault stages ≡ None)
+pub stages_pass : (stage : List Test) (stages : List (List Test)) → first_fault (stage ∷ stages) ≡ None
+    → Passes stage × (first_fault stages ≡ None)
 stages_pass stage stages e = grind arith
 
 pub sum_push : {A : Type 0} (f : A → ℕ) (xs : List A) (x : A) → sum (map f (xs ++ x ∷ [])) ≡ sum (map f xs) + f x
 sum_push f xs x = rw map-append (omega (arith, sum_by-append (λ n. n) (map f xs) (f x ∷ [])))
 
 -- a fact of each element's part and of the default is one of what is read at any place
-pub read_all : {A B : Type 0} (P : B → Type 0) (f : A → B) (d : B) (xs : List A) → All (λ x. P (f x)) xs → P d → (i : ℕ) → P (unwrap_or (slice_get (map f xs) i) d)
+pub read_all : {A B : Type 0} (P : B → Type 0) (f : A → B) (d : B) (xs : List A) → All (λ x. P (f x)) xs → P d → (i : ℕ)
+    → P (unwrap_or (slice_get (map f xs) i) d)
 read_all P f d [] h p i = p
 read_all P f d (x ∷ xs) h p zero = All-head (λ y. P (f y)) x xs h
 read_all P f d (x ∷ xs) h p (suc i) = read_all P f d xs (All-tail (λ y. P (f y)) x xs h) p i
@@ -35,18 +37,21 @@ pub get_push : {A : Type 0} (xs : List A) (x : A) → slice_get (xs ++ x ∷ [])
 get_push [] x = refl
 get_push (y ∷ xs) x = get_push xs x
 
-pub get_push_other : {A : Type 0} (xs : List A) (x : A) (n : ℕ) → n ≢ length xs → slice_get (xs ++ x ∷ []) n ≡ slice_get xs n
+pub get_push_other : {A : Type 0} (xs : List A) (x : A) (n : ℕ) → n ≢ length xs
+    → slice_get (xs ++ x ∷ []) n ≡ slice_get xs n
 get_push_other [] x zero h = absurd (h refl)
 get_push_other [] x (suc n) h = refl
 get_push_other (y ∷ xs) x zero h = refl
 get_push_other (y ∷ xs) x (suc n) h = get_push_other xs x n (λ e. h (ap suc e))
 
-pub get_set : {A : Type 0} (xs : List A) (i : ℕ) (x y : A) → slice_get xs i ≡ Some y → slice_get (slice_set xs i x) i ≡ Some x
+pub get_set : {A : Type 0} (xs : List A) (i : ℕ) (x y : A) → slice_get xs i ≡ Some y
+    → slice_get (slice_set xs i x) i ≡ Some x
 get_set [] i x y e = absurd (none-some y e)
 get_set (z ∷ xs) zero x y e = refl
 get_set (z ∷ xs) (suc i) x y e = get_set xs i x y e
 
-pub get_set_other : {A : Type 0} (xs : List A) (i : ℕ) (x : A) (n : ℕ) → n ≢ i → slice_get (slice_set xs i x) n ≡ slice_get xs n
+pub get_set_other : {A : Type 0} (xs : List A) (i : ℕ) (x : A) (n : ℕ) → n ≢ i
+    → slice_get (slice_set xs i x) n ≡ slice_get xs n
 get_set_other [] i x n h = refl
 get_set_other (y ∷ xs) zero x zero h = absurd (h refl)
 get_set_other (y ∷ xs) zero x (suc n) h = refl
@@ -84,6 +89,7 @@ same_list (g ∷ gs) (h ∷ hs) e =
     let rest = same_list gs hs p.1 in
     cc (first, rest)
 
-pub held_through-push : (ops : List Op) (op : Op) (hs : List Held) → held_through (ops ++ op ∷ []) hs ≡ held_behind op (held_through ops hs)
+pub held_through-push : (ops : List Op) (op : Op) (hs : List Held)
+    → held_through (ops ++ op ∷ []) hs ≡ held_behind op (held_through ops hs)
 held_through-push [] op hs = refl
 held_through-push (o ∷ ops) op hs = held_through-push ops op (held_behind o hs)

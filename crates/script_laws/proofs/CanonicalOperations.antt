@@ -39,7 +39,8 @@ pub record IsFirst (word : List ℕ) : Type 0 where
   pub short : length word ≤ 20
 
 pub line_alone : (first : List ℕ) → IsFirst first → IsLine first []
-line_alone first h = record { bytes = h.bytes; meaning = h.meaning; words = tt; short = omega (arith, h.short, length-append first []) }
+line_alone first h =
+    record { bytes = h.bytes; meaning = h.meaning; words = tt; short = omega (arith, h.short, length-append first []) }
 
 pub line_one : (first a : List ℕ) → IsFirst first → IsWord a → IsLine first (a ∷ [])
 line_one first a h p = record {
@@ -54,7 +55,15 @@ line_two first a b h p q = record {
   bytes = h.bytes;
   meaning = h.meaning;
   words = (p, (q, tt));
-  short = omega (arith, h.short, p.short, q.short, length-append first (spaced (a ∷ b ∷ [])), length-append a (32 ∷ (b ++ [])), length-append b []);
+  short = omega (
+    arith,
+    h.short,
+    p.short,
+    q.short,
+    length-append first (spaced (a ∷ b ∷ [])),
+    length-append a (32 ∷ (b ++ [])),
+    length-append b [],
+  );
 }
 
 line_three : (first a b c : List ℕ) → IsFirst first → IsWord a → IsWord b → IsWord c → IsLine first (a ∷ b ∷ c ∷ [])
@@ -62,7 +71,17 @@ line_three first a b c h p q r = record {
   bytes = h.bytes;
   meaning = h.meaning;
   words = (p, (q, (r, tt)));
-  short = omega (arith, h.short, p.short, q.short, r.short, length-append first (spaced (a ∷ b ∷ c ∷ [])), length-append a (32 ∷ (b ++ 32 ∷ (c ++ []))), length-append b (32 ∷ (c ++ [])), length-append c []);
+  short = omega (
+    arith,
+    h.short,
+    p.short,
+    q.short,
+    r.short,
+    length-append first (spaced (a ∷ b ∷ c ∷ [])),
+    length-append a (32 ∷ (b ++ 32 ∷ (c ++ []))),
+    length-append b (32 ∷ (c ++ [])),
+    length-append c [],
+  );
 }
 
 -- 2. Words of locks and channels
@@ -87,15 +106,19 @@ record IsWordFor (word name : List ℕ) (o : Operation) : Type 0 where
   first : IsFirst word
   says : said_by (word ∷ name ∷ []) ≡ Some (Operates o)
 
-take_word : (kind : Kind) (mode : Mode) (name : List ℕ) → IsMode kind mode → IsWordFor (taking kind mode) name (say.Take kind mode name)
+take_word : (kind : Kind) (mode : Mode) (name : List ℕ) → IsMode kind mode
+    → IsWordFor (taking kind mode) name (say.Take kind mode name)
 take_word Mtx Excl name h = record { first = record { bytes = refl; meaning = refl; short = omega arith }; says = refl }
 take_word Mtx Shared name h = absurd h
 take_word Rw Excl name h = record { first = record { bytes = refl; meaning = refl; short = omega arith }; says = refl }
-take_word Rw Shared name h = record { first = record { bytes = refl; meaning = refl; short = omega arith }; says = refl }
+take_word Rw Shared name h =
+    record { first = record { bytes = refl; meaning = refl; short = omega arith }; says = refl }
 take_word Sx Excl name h = record { first = record { bytes = refl; meaning = refl; short = omega arith }; says = refl }
-take_word Sx Shared name h = record { first = record { bytes = refl; meaning = refl; short = omega arith }; says = refl }
+take_word Sx Shared name h =
+    record { first = record { bytes = refl; meaning = refl; short = omega arith }; says = refl }
 
-try_word : (kind : Kind) (mode : Mode) (name : List ℕ) → IsMode kind mode → IsWordFor (trying kind mode) name (say.Try kind mode name)
+try_word : (kind : Kind) (mode : Mode) (name : List ℕ) → IsMode kind mode
+    → IsWordFor (trying kind mode) name (say.Try kind mode name)
 try_word Mtx Excl name h = record { first = record { bytes = refl; meaning = refl; short = omega arith }; says = refl }
 try_word Mtx Shared name h = absurd h
 try_word Rw Excl name h = record { first = record { bytes = refl; meaning = refl; short = omega arith }; says = refl }
@@ -103,23 +126,32 @@ try_word Rw Shared name h = record { first = record { bytes = refl; meaning = re
 try_word Sx Excl name h = record { first = record { bytes = refl; meaning = refl; short = omega arith }; says = refl }
 try_word Sx Shared name h = record { first = record { bytes = refl; meaning = refl; short = omega arith }; says = refl }
 
-release_word : (kind : Kind) (mode : Mode) (name : List ℕ) → IsMode kind mode → IsWordFor (releasing kind mode) name (say.Release kind mode name)
-release_word Mtx Excl name h = record { first = record { bytes = refl; meaning = refl; short = omega arith }; says = refl }
+release_word : (kind : Kind) (mode : Mode) (name : List ℕ) → IsMode kind mode
+    → IsWordFor (releasing kind mode) name (say.Release kind mode name)
+release_word Mtx Excl name h =
+    record { first = record { bytes = refl; meaning = refl; short = omega arith }; says = refl }
 release_word Mtx Shared name h = absurd h
-release_word Rw Excl name h = record { first = record { bytes = refl; meaning = refl; short = omega arith }; says = refl }
-release_word Rw Shared name h = record { first = record { bytes = refl; meaning = refl; short = omega arith }; says = refl }
-release_word Sx Excl name h = record { first = record { bytes = refl; meaning = refl; short = omega arith }; says = refl }
-release_word Sx Shared name h = record { first = record { bytes = refl; meaning = refl; short = omega arith }; says = refl }
+release_word Rw Excl name h =
+    record { first = record { bytes = refl; meaning = refl; short = omega arith }; says = refl }
+release_word Rw Shared name h =
+    record { first = record { bytes = refl; meaning = refl; short = omega arith }; says = refl }
+release_word Sx Excl name h =
+    record { first = record { bytes = refl; meaning = refl; short = omega arith }; says = refl }
+release_word Sx Shared name h =
+    record { first = record { bytes = refl; meaning = refl; short = omega arith }; says = refl }
 
-wait_word : (on_cond : Bool) (name : List ℕ) → IsWordFor (if on_cond then codes "wait" else codes "msleep") name (say.Wait on_cond name)
+wait_word : (on_cond : Bool) (name : List ℕ)
+    → IsWordFor (if on_cond then codes "wait" else codes "msleep") name (say.Wait on_cond name)
 wait_word true name = record { first = record { bytes = refl; meaning = refl; short = omega arith }; says = refl }
 wait_word false name = record { first = record { bytes = refl; meaning = refl; short = omega arith }; says = refl }
 
-wake_one_word : (on_cond : Bool) (name : List ℕ) → IsWordFor (if on_cond then codes "signal" else codes "wakeup_one") name (say.WakeOne on_cond name)
+wake_one_word : (on_cond : Bool) (name : List ℕ)
+    → IsWordFor (if on_cond then codes "signal" else codes "wakeup_one") name (say.WakeOne on_cond name)
 wake_one_word true name = record { first = record { bytes = refl; meaning = refl; short = omega arith }; says = refl }
 wake_one_word false name = record { first = record { bytes = refl; meaning = refl; short = omega arith }; says = refl }
 
-wake_all_word : (on_cond : Bool) (name : List ℕ) → IsWordFor (if on_cond then codes "broadcast" else codes "wakeup") name (say.WakeAll on_cond name)
+wake_all_word : (on_cond : Bool) (name : List ℕ)
+    → IsWordFor (if on_cond then codes "broadcast" else codes "wakeup") name (say.WakeAll on_cond name)
 wake_all_word true name = record { first = record { bytes = refl; meaning = refl; short = omega arith }; says = refl }
 wake_all_word false name = record { first = record { bytes = refl; meaning = refl; short = omega arith }; says = refl }
 
@@ -165,11 +197,14 @@ behind t op = record t { ops = t.ops ++ op ∷ []; held = held_behind op t.held;
 
 -- names stand for the locks and channels that have them
 pub record Knows (locks : List LockDecl) (chans : List ChanDecl) (names : List (List ℕ × Declared)) : Type 0 where
-  pub lock : (l : LockNo) (n : List ℕ) → slice_get (map (λ d. d.name) locks) l.0 ≡ Some n → (is_name n ≡ true) × (stands_for names n ≡ Some (Lock l))
-  pub chan : (c : ChanNo) (n : List ℕ) → slice_get (map (λ d. d.name) chans) c.0 ≡ Some n → (is_name n ≡ true) × (stands_for names n ≡ Some (Chan c))
+  pub lock : (l : LockNo) (n : List ℕ) → slice_get (map (λ d. d.name) locks) l.0 ≡ Some n
+      → (is_name n ≡ true) × (stands_for names n ≡ Some (Lock l))
+  pub chan : (c : ChanNo) (n : List ℕ) → slice_get (map (λ d. d.name) chans) c.0 ≡ Some n
+      → (is_name n ≡ true) × (stands_for names n ≡ Some (Chan c))
 
 -- the plan, and what a text has made known in a thread
-module _ (locks : List LockDecl) (chans : List ChanDecl) (classes : List (List ℕ)) (declared : List ThreadDecl) (schedule : List ThreadNo) (names : List (List ℕ × Declared)) (threads : List ThreadDecl)
+module _ (locks : List LockDecl) (chans : List ChanDecl) (classes : List (List ℕ)) (declared : List ThreadDecl)
+    (schedule : List ThreadNo) (names : List (List ℕ × Declared)) (threads : List ThreadDecl)
     (knows : Knows locks chans names) where
   abbrev pub the_plan : Plan
   the_plan = record { classes = classes; locks = locks; chans = chans; threads = declared; schedule = schedule }
@@ -193,7 +228,8 @@ module _ (locks : List LockDecl) (chans : List ChanDecl) (classes : List (List �
 
     lock_known : (is_name its_name ≡ true) × (stands_for names its_name ≡ Some (Lock l))
     lock_known =
-        let g = get_within (map (λ (d : LockDecl). d.name) locks) l.0 (omega (arith, within, length-map locks (λ (d : LockDecl). d.name))) in
+        let g = get_within (map (λ (d : LockDecl). d.name) locks) l.0
+        (omega (arith, within, length-map locks (λ (d : LockDecl). d.name))) in
         rw g.1 (knows.lock l g.0 g.1)
 
     lock_is : (m : ℕ) (t : OpenThread) → lock_named (inside m t) its_name ≡ Some l
@@ -210,19 +246,23 @@ module _ (locks : List LockDecl) (chans : List ChanDecl) (classes : List (List �
 
     chan_known : (is_name chan_its_name ≡ true) × (stands_for names chan_its_name ≡ Some (Chan c))
     chan_known =
-        let g = get_within (map (λ (d : ChanDecl). d.name) chans) c.0 (omega (arith, within, length-map chans (λ (d : ChanDecl). d.name))) in
+        let g = get_within (map (λ (d : ChanDecl). d.name) chans) c.0
+        (omega (arith, within, length-map chans (λ (d : ChanDecl). d.name))) in
         rw g.1 (knows.chan c g.0 g.1)
 
     chan_is : (m : ℕ) (t : OpenThread) → chan_named (inside m t) chan_its_name ≡ Some c
     chan_is m t = rw (chan_known.0, chan_known.1) refl
 
-    sort_is : is_same_truth (is_cond the_plan c.0) (unwrap_or (slice_get (map (λ (d : ChanDecl). d.cond) chans) c.0) (is_cond the_plan c.0)) ≡ true
+    sort_is : is_same_truth (is_cond the_plan c.0)
+        (unwrap_or (slice_get (map (λ (d : ChanDecl). d.cond) chans) c.0) (is_cond the_plan c.0)) ≡ true
     sort_is =
-        let g = get_within (map (λ (d : ChanDecl). d.cond) chans) c.0 (omega (arith, within, length-map chans (λ (d : ChanDecl). d.cond))) in
+        let g = get_within (map (λ (d : ChanDecl). d.cond) chans) c.0
+        (omega (arith, within, length-map chans (λ (d : ChanDecl). d.cond))) in
         rw g.1 (same_truth g.0)
 
   -- a lock that may be held in a mode is declared, and its kind has the mode
-  may_mode : (l : LockNo) (mode : Mode) → may_be_held locks mode l ≡ true → (l.0 < length locks) × IsMode (lock_kind the_plan l.0) mode
+  may_mode : (l : LockNo) (mode : Mode) → may_be_held locks mode l ≡ true
+      → (l.0 < length locks) × IsMode (lock_kind the_plan l.0) mode
   may_mode l Excl e = (ltb-true l.0 (length locks) e, tt)
   may_mode l Shared e = go (slice_get locks l.0) refl e
     where
@@ -231,72 +271,103 @@ module _ (locks : List LockDecl) (chans : List ChanDecl) (classes : List (List �
       shared Rw e = tt
       shared Sx e = tt
 
-      go : (o : Option LockDecl) → slice_get locks l.0 ≡ o → (is_kind Rw (option_map (λ d. d.kind) o) || is_kind Sx (option_map (λ d. d.kind) o)) ≡ true
+      go : (o : Option LockDecl) → slice_get locks l.0 ≡ o
+          → (is_kind Rw (option_map (λ d. d.kind) o) || is_kind Sx (option_map (λ d. d.kind) o)) ≡ true
           → (l.0 < length locks) × IsMode (lock_kind the_plan l.0) Shared
       go None q e = absurd (false≢true e)
-      go (Some d) q e = (slice_get_within locks l.0 d q, rw (slice_get-map (λ (d : LockDecl). d.kind) locks l.0, q) (shared d.kind e))
+      go (Some d) q e =
+          (slice_get_within locks l.0 d q, rw (slice_get-map (λ (d : LockDecl). d.kind) locks l.0, q) (shared d.kind e))
 
-  hold_may : (held : List Held) (l : LockNo) (mode : Mode) → All (λ h. may_be_held locks h.mode h.l ≡ true) held → hold_in held l.0 ≡ Holds mode → may_be_held locks mode l ≡ true
+  hold_may : (held : List Held) (l : LockNo) (mode : Mode) → All (λ h. may_be_held locks h.mode h.l ≡ true) held
+      → hold_in held l.0 ≡ Holds mode → may_be_held locks mode l ≡ true
   hold_may [] l mode h e = absurd cc
-  hold_may (x ∷ held) l mode h e = go (x.l.0 == l.0) refl (hold_may held l mode (All-tail (λ h. may_be_held locks h.mode h.l ≡ true) x held h)) e
+  hold_may (x ∷ held) l mode h e =
+      go (x.l.0 == l.0) refl (hold_may held l mode (All-tail (λ h. may_be_held locks h.mode h.l ≡ true) x held h)) e
     where
-      go : (b : Bool) → (x.l.0 == l.0) ≡ b → (hold_in held l.0 ≡ Holds mode → may_be_held locks mode l ≡ true) → cond b (Holds x.mode) (hold_in held l.0) ≡ Holds mode → may_be_held locks mode l ≡ true
+      go : (b : Bool) → (x.l.0 == l.0) ≡ b → (hold_in held l.0 ≡ Holds mode → may_be_held locks mode l ≡ true)
+          → cond b (Holds x.mode) (hold_in held l.0) ≡ Holds mode → may_be_held locks mode l ≡ true
       go true q more e =
           let same : x.l.0 ≡ l.0 = eqb-true x.l.0 l.0 q in
           let mode_is : x.mode ≡ mode = cc e in
           let it : may_be_held locks x.mode x.l ≡ true = All-head (λ h. may_be_held locks h.mode h.l ≡ true) x held h in
-          subst (λ (m : Mode). may_be_held locks m l ≡ true) mode_is (subst (λ (i : ℕ). may_be_held locks x.mode (record { 0 = i }) ≡ true) same it)
+          subst (λ (m : Mode). may_be_held locks m l ≡ true) mode_is
+          (subst (λ (i : ℕ). may_be_held locks x.mode (record { 0 = i }) ≡ true) same it)
       go false q more e = more e
 
   -- a lock that a test finds held
-  found_held : (held : List Held) (l : LockNo) → not (is_unheld (hold_in held l.0)) ≡ true → (mode : Mode) × (hold_in held l.0 ≡ Holds mode)
+  found_held : (held : List Held) (l : LockNo) → not (is_unheld (hold_in held l.0)) ≡ true
+      → (mode : Mode) × (hold_in held l.0 ≡ Holds mode)
   found_held held l e = grind arith
 
   -- 5. Operations
 
   module _ (m : ℕ) (t : OpenThread) (few : m < most_operations) where
-    said_so : (o : Operation) (op : Op) → op_of (inside m t) o ≡ Some op → Passes (operation_words (inside m t) t o) → Passes (operation_tests locks chans op t.held) → Passes (tests_in_thread (inside m t) o t)
-    said_so o op e words fits = passes_both _ _ words (passes_more (has_room most_operations m) _ (lt-ltb m most_operations few) (rw e fits))
+    said_so : (o : Operation) (op : Op) → op_of (inside m t) o ≡ Some op → Passes (operation_words (inside m t) t o)
+        → Passes (operation_tests locks chans op t.held) → Passes (tests_in_thread (inside m t) o t)
+    said_so o op e words fits =
+        passes_both _ _ words (passes_more (has_room most_operations m) _ (lt-ltb m most_operations few) (rw e fits))
 
-    op_leads : (first : List ℕ) (others : List (List ℕ)) (o : Operation) (op : Op) → IsLine first others → said_by (first ∷ others) ≡ Some (Operates o) → op_of (inside m t) o ≡ Some op
-        → Passes (operation_words (inside m t) t o) → Passes (operation_tests locks chans op t.held) → Leads (inside m t) (line_of first others) (inside (suc m) (behind t op))
+    op_leads : (first : List ℕ) (others : List (List ℕ)) (o : Operation) (op : Op) → IsLine first others
+        → said_by (first ∷ others) ≡ Some (Operates o) → op_of (inside m t) o ≡ Some op
+        → Passes (operation_words (inside m t) t o) → Passes (operation_tests locks chans op t.held)
+        → Leads (inside m t) (line_of first others) (inside (suc m) (behind t op))
     op_leads first others o op line says e words fits =
         subst (λ (x : Option Op). Leads (inside m t) (line_of first others) (with_operation (inside m t) (Some t) x)) e
-        (line_leads (inside m t) first others (Operates o) line says refl (passes_more (test 15 true) [] refl passes_none) (said_so o op e words fits))
+        (line_leads (inside m t) first others (Operates o) line says refl
+        (passes_more (test 15 true) [] refl passes_none) (said_so o op e words fits))
 
     -- a word and the name of a lock or a channel
-    on_lock_leads : (word : List ℕ) (o : Operation) (op : Op) (l : LockNo) → l.0 < length locks → IsWordFor word (lock_name the_plan l.0) o → op_of (inside m t) o ≡ Some op
-        → Passes (operation_words (inside m t) t o) → Passes (operation_tests locks chans op t.held) → Leads (inside m t) (line_of word (lock_name the_plan l.0 ∷ [])) (inside (suc m) (behind t op))
-    on_lock_leads word o op l within its = op_leads word (lock_name the_plan l.0 ∷ []) o op (line_one word _ its.first (name_word _ (lock_known l within).0).0) its.says
+    on_lock_leads : (word : List ℕ) (o : Operation) (op : Op) (l : LockNo) → l.0 < length locks
+        → IsWordFor word (lock_name the_plan l.0) o → op_of (inside m t) o ≡ Some op
+        → Passes (operation_words (inside m t) t o) → Passes (operation_tests locks chans op t.held)
+        → Leads (inside m t) (line_of word (lock_name the_plan l.0 ∷ [])) (inside (suc m) (behind t op))
+    on_lock_leads word o op l within its = op_leads word (lock_name the_plan l.0 ∷ []) o op
+        (line_one word _ its.first (name_word _ (lock_known l within).0).0) its.says
 
-    on_chan_leads : (word : List ℕ) (o : Operation) (op : Op) (c : ChanNo) → c.0 < length chans → IsWordFor word (chan_name the_plan c.0) o → op_of (inside m t) o ≡ Some op
-        → Passes (operation_words (inside m t) t o) → Passes (operation_tests locks chans op t.held) → Leads (inside m t) (line_of word (chan_name the_plan c.0 ∷ [])) (inside (suc m) (behind t op))
-    on_chan_leads word o op c within its = op_leads word (chan_name the_plan c.0 ∷ []) o op (line_one word _ its.first (name_word _ (chan_known c within).0).0) its.says
+    on_chan_leads : (word : List ℕ) (o : Operation) (op : Op) (c : ChanNo) → c.0 < length chans
+        → IsWordFor word (chan_name the_plan c.0) o → op_of (inside m t) o ≡ Some op
+        → Passes (operation_words (inside m t) t o) → Passes (operation_tests locks chans op t.held)
+        → Leads (inside m t) (line_of word (chan_name the_plan c.0 ∷ [])) (inside (suc m) (behind t op))
+    on_chan_leads word o op c within its = op_leads word (chan_name the_plan c.0 ∷ []) o op
+        (line_one word _ its.first (name_word _ (chan_known c within).0).0) its.says
 
     -- the tests of words that name a lock or a channel
     lock_words : (l : LockNo) (within : l.0 < length locks) (more : List Test) → Passes more
         → Passes (spelled (lock_name the_plan l.0) ∷ names_lock (inside m t) (lock_name the_plan l.0) ∷ more)
-    lock_words l within more h = let n = lock_name the_plan l.0 in passes_more (spelled n) _ (lock_known l within).0 (passes_more (names_lock (inside m t) n) more (ap is_some (lock_is l within m t)) h)
+    lock_words l within more h =
+        let n = lock_name the_plan l.0 in
+        passes_more (spelled n) _ (lock_known l within).0
+        (passes_more (names_lock (inside m t) n) more (ap is_some (lock_is l within m t)) h)
 
     chan_words : (c : ChanNo) (within : c.0 < length chans) (more : List Test) → Passes more
         → Passes (spelled (chan_name the_plan c.0) ∷ names_chan (inside m t) (chan_name the_plan c.0) ∷ more)
-    chan_words c within more h = let n = chan_name the_plan c.0 in passes_more (spelled n) _ (chan_known c within).0 (passes_more (names_chan (inside m t) n) more (ap is_some (chan_is c within m t)) h)
+    chan_words c within more h =
+        let n = chan_name the_plan c.0 in
+        passes_more (spelled n) _ (chan_known c within).0
+        (passes_more (names_chan (inside m t) n) more (ap is_some (chan_is c within m t)) h)
 
-    gaining : (l : LockNo) (within : l.0 < length locks) → Passes (gaining_words (inside m t) (lock_kind the_plan l.0) (lock_name the_plan l.0))
-    gaining l within = lock_words l within _ (rw (lock_is l within m t) (passes_more (of_kind (inside m t) (lock_kind the_plan l.0) l) [] (kind_is l within) passes_none))
+    gaining : (l : LockNo) (within : l.0 < length locks)
+        → Passes (gaining_words (inside m t) (lock_kind the_plan l.0) (lock_name the_plan l.0))
+    gaining l within = lock_words l within _ (rw (lock_is l within m t)
+        (passes_more (of_kind (inside m t) (lock_kind the_plan l.0) l) [] (kind_is l within) passes_none))
 
-    sleeping : (c : ChanNo) (within : c.0 < length chans) → Passes (sleeping_words (inside m t) (is_cond the_plan c.0) (chan_name the_plan c.0))
-    sleeping c within = chan_words c within _ (rw (chan_is c within m t) (passes_more (of_sort (inside m t) (is_cond the_plan c.0) c) [] (sort_is c within) passes_none))
+    sleeping : (c : ChanNo) (within : c.0 < length chans)
+        → Passes (sleeping_words (inside m t) (is_cond the_plan c.0) (chan_name the_plan c.0))
+    sleeping c within = chan_words c within _ (rw (chan_is c within m t)
+        (passes_more (of_sort (inside m t) (is_cond the_plan c.0) c) [] (sort_is c within) passes_none))
 
     -- a number of a table
     number_word : (n : ℕ) → n ≤ greatest_number → IsWord (decimal n) × (number_of (decimal n) ≡ Some n)
-    number_word n h = let small : n < 2 ^ 64 = omega (arith, h) in (decimal_word n small, decimal_number n small greatest_number h)
+    number_word n h =
+        let small : n < 2 ^ 64 = omega (arith, h) in
+        (decimal_word n small, decimal_number n small greatest_number h)
 
     reads : (n : ℕ) (more : List Test) → n ≤ greatest_number → Passes more → Passes (reads_number (decimal n) ∷ more)
     reads n more h g = passes_more (reads_number (decimal n)) more (ap is_some (number_word n h).1) g
 
     -- a lock is released in the mode in which it is held
-    release_leads : (l : LockNo) (mode : Mode) → hold_in t.held l.0 ≡ Holds mode → All (λ h. may_be_held locks h.mode h.l ≡ true) t.held → Passes (operation_tests locks chans (Release l) t.held)
+    release_leads : (l : LockNo) (mode : Mode) → hold_in t.held l.0 ≡ Holds mode → All
+        (λ h. may_be_held locks h.mode h.l ≡ true) t.held → Passes (operation_tests locks chans (Release l) t.held)
         → Leads (inside m t) (operation_line the_plan t.held (Release l)) (inside (suc m) (behind t (Release l)))
     release_leads l mode found may fits =
         let can = may_mode l mode (hold_may t.held l mode may found) in
@@ -304,64 +375,92 @@ module _ (locks : List LockDecl) (chans : List ChanDecl) (classes : List (List �
         let name = lock_name the_plan l.0 in
         let other : not (is_other mode (hold_in t.held l.0)) ≡ true = rw found (same_mode mode) in
         let words : Passes (operation_words (inside m t) t (say.Release kind mode name)) =
-        lock_words l can.0 _ (rw (lock_is l can.0 m t) (passes_more (of_kind (inside m t) kind l) _ (kind_is l can.0) (passes_more (held_so t mode l) [] other passes_none))) in
-        subst (λ (h : Hold). Leads (inside m t) (line_of (releasing kind (held_mode h)) (name ∷ [])) (inside (suc m) (behind t (Release l)))) (sym found)
-        (on_lock_leads _ (say.Release kind mode name) (Release l) l can.0 (release_word kind mode name can.1) (ap (option_map (λ l. Release l)) (lock_is l can.0 m t)) words fits)
+        lock_words l can.0 _ (rw (lock_is l can.0 m t) (passes_more (of_kind (inside m t) kind l) _ (kind_is l can.0)
+        (passes_more (held_so t mode l) [] other passes_none))) in
+        subst (λ (h : Hold). Leads (inside m t) (line_of (releasing kind (held_mode h)) (name ∷ []))
+        (inside (suc m) (behind t (Release l)))) (sym found)
+        (on_lock_leads _ (say.Release kind mode name) (Release l) l can.0 (release_word kind mode name can.1)
+        (ap (option_map (λ l. Release l)) (lock_is l can.0 m t)) words fits)
 
     -- each operation's line
-    pub operation_leads : (op : Op) → All (λ h. may_be_held locks h.mode h.l ≡ true) t.held → IsReadable t op → Passes (operation_tests locks chans op t.held)
+    pub operation_leads : (op : Op) → All (λ h. may_be_held locks h.mode h.l ≡ true) t.held → IsReadable t op
+        → Passes (operation_tests locks chans op t.held)
         → Leads (inside m t) (operation_line the_plan t.held op) (inside (suc m) (behind t op))
     operation_leads (Take l mode) may r fits =
         let can = may_mode l mode (passed _ _ (passed _ _ fits).1).0 in
         let name = lock_name the_plan l.0 in
-        on_lock_leads _ (say.Take (lock_kind the_plan l.0) mode name) (Take l mode) l can.0 (take_word (lock_kind the_plan l.0) mode name can.1) (ap (option_map (λ l. Take l mode)) (lock_is l can.0 m t)) (gaining l can.0) fits
+        on_lock_leads _ (say.Take (lock_kind the_plan l.0) mode name) (Take l mode) l can.0
+        (take_word (lock_kind the_plan l.0) mode name can.1) (ap (option_map (λ l. Take l mode)) (lock_is l can.0 m t))
+        (gaining l can.0) fits
     operation_leads (Try l mode past) may r fits =
         let can = may_mode l mode (passed _ _ (passed _ _ fits).1).0 in
         let name = lock_name the_plan l.0 in
-        on_lock_leads _ (say.Try (lock_kind the_plan l.0) mode name) (Try l mode past) l can.0 (try_word (lock_kind the_plan l.0) mode name can.1) (ap (option_map (λ l. Try l mode 0)) (lock_is l can.0 m t) ∙ ap (λ (n : ℕ). Some (Try l mode n)) (sym r.0))
+        on_lock_leads _ (say.Try (lock_kind the_plan l.0) mode name) (Try l mode past) l can.0
+        (try_word (lock_kind the_plan l.0) mode name can.1)
+        (ap (option_map (λ l. Try l mode 0)) (lock_is l can.0 m t) ∙ ap (λ (n : ℕ). Some (Try l mode n)) (sym r.0))
         (passes_more (has_room most_open_tries (length t.blocks)) _ r.1 (gaining l can.0)) fits
     operation_leads EndTry may r fits = absurd r
-    operation_leads (Release l) may r fits = let found = found_held t.held l (passed _ _ fits).0 in release_leads l found.0 found.1 may fits
+    operation_leads (Release l) may r fits =
+        let found = found_held t.held l (passed _ _ fits).0 in
+        release_leads l found.0 found.1 may fits
     operation_leads (Set l key value) may r fits =
         let found = found_held t.held l (passed _ _ fits).0 in
         let within = (may_mode l found.0 (hold_may t.held l found.0 may found.1)).0 in
         let k = number_word key r.0 in
         let v = number_word value r.1 in
-        op_leads (codes "set") _ (say.Set (lock_name the_plan l.0) (decimal key) (decimal value)) (Set l key value) (line_three (codes "set") _ _ _ (record { bytes = refl; meaning = refl; short = omega arith }) (name_word _ (lock_known l within).0).0 k.0 v.0) refl
-        (rw (lock_is l within m t, k.1, v.1) refl) (lock_words l within _ (reads key _ r.0 (reads value [] r.1 passes_none))) fits
+        op_leads (codes "set") _ (say.Set (lock_name the_plan l.0) (decimal key) (decimal value)) (Set l key value)
+        (line_three (codes "set") _ _ _ (record { bytes = refl; meaning = refl; short = omega arith })
+        (name_word _ (lock_known l within).0).0 k.0 v.0) refl
+        (rw (lock_is l within m t, k.1, v.1) refl)
+        (lock_words l within _ (reads key _ r.0 (reads value [] r.1 passes_none))) fits
     operation_leads (Add l key amount) may r fits =
         let found = found_held t.held l (passed _ _ fits).0 in
         let within = (may_mode l found.0 (hold_may t.held l found.0 may found.1)).0 in
         let k = number_word key r.0 in
         let v = number_word amount r.1 in
-        op_leads (codes "add") _ (say.Add (lock_name the_plan l.0) (decimal key) (decimal amount)) (Add l key amount) (line_three (codes "add") _ _ _ (record { bytes = refl; meaning = refl; short = omega arith }) (name_word _ (lock_known l within).0).0 k.0 v.0) refl
-        (rw (lock_is l within m t, k.1, v.1) refl) (lock_words l within _ (reads key _ r.0 (reads amount [] r.1 passes_none))) fits
+        op_leads (codes "add") _ (say.Add (lock_name the_plan l.0) (decimal key) (decimal amount)) (Add l key amount)
+        (line_three (codes "add") _ _ _ (record { bytes = refl; meaning = refl; short = omega arith })
+        (name_word _ (lock_known l within).0).0 k.0 v.0) refl
+        (rw (lock_is l within m t, k.1, v.1) refl)
+        (lock_words l within _ (reads key _ r.0 (reads amount [] r.1 passes_none))) fits
     operation_leads (Get l key) may r fits =
         let found = found_held t.held l (passed _ _ fits).0 in
         let within = (may_mode l found.0 (hold_may t.held l found.0 may found.1)).0 in
         let k = number_word key r in
-        op_leads (codes "get") _ (say.Get (lock_name the_plan l.0) (decimal key)) (Get l key) (line_two (codes "get") _ _ (record { bytes = refl; meaning = refl; short = omega arith }) (name_word _ (lock_known l within).0).0 k.0) refl
+        op_leads (codes "get") _ (say.Get (lock_name the_plan l.0) (decimal key)) (Get l key) (line_two (codes "get") _ _
+        (record { bytes = refl; meaning = refl; short = omega arith }) (name_word _ (lock_known l within).0).0 k.0) refl
         (rw (lock_is l within m t, k.1) refl) (lock_words l within _ (reads key [] r passes_none)) fits
     operation_leads (Base prio) may r fits =
         let small : prio.0 < 2 ^ 64 = omega (arith, r) in
         let number = decimal_number prio.0 small greatest_priority r in
-        op_leads (codes "prio") _ (say.Prio (decimal prio.0)) (Base prio) (line_one (codes "prio") _ (record { bytes = refl; meaning = refl; short = omega arith }) (decimal_word prio.0 small)) refl
+        op_leads (codes "prio") _ (say.Prio (decimal prio.0)) (Base prio) (line_one (codes "prio") _
+        (record { bytes = refl; meaning = refl; short = omega arith }) (decimal_word prio.0 small)) refl
         (rw number refl) (passes_more (reads_priority (decimal prio.0)) [] (ap is_some number) passes_none) fits
-    operation_leads Show may r fits = op_leads (codes "show") [] say.Show Show (line_alone (codes "show") (record { bytes = refl; meaning = refl; short = omega arith })) refl refl passes_none fits
+    operation_leads Show may r fits = op_leads (codes "show") [] say.Show Show
+        (line_alone (codes "show") (record { bytes = refl; meaning = refl; short = omega arith })) refl refl passes_none fits
     operation_leads (Sleep c) may r fits =
         let within = ltb-true c.0 (length chans) (passed _ _ fits).0 in
-        on_chan_leads _ (say.Wait (is_cond the_plan c.0) (chan_name the_plan c.0)) (Sleep c) c within (wait_word (is_cond the_plan c.0) (chan_name the_plan c.0)) (ap (option_map (λ c. Sleep c)) (chan_is c within m t)) (sleeping c within) fits
+        on_chan_leads _ (say.Wait (is_cond the_plan c.0) (chan_name the_plan c.0)) (Sleep c) c within
+        (wait_word (is_cond the_plan c.0) (chan_name the_plan c.0))
+        (ap (option_map (λ c. Sleep c)) (chan_is c within m t)) (sleeping c within) fits
     operation_leads (WakeOne c) may r fits =
         let within = ltb-true c.0 (length chans) (passed _ _ fits).0 in
-        on_chan_leads _ (say.WakeOne (is_cond the_plan c.0) (chan_name the_plan c.0)) (WakeOne c) c within (wake_one_word (is_cond the_plan c.0) (chan_name the_plan c.0)) (ap (option_map (λ c. WakeOne c)) (chan_is c within m t)) (sleeping c within) fits
+        on_chan_leads _ (say.WakeOne (is_cond the_plan c.0) (chan_name the_plan c.0)) (WakeOne c) c within
+        (wake_one_word (is_cond the_plan c.0) (chan_name the_plan c.0))
+        (ap (option_map (λ c. WakeOne c)) (chan_is c within m t)) (sleeping c within) fits
     operation_leads (WakeAll c) may r fits =
         let within = ltb-true c.0 (length chans) (passed _ _ fits).0 in
-        on_chan_leads _ (say.WakeAll (is_cond the_plan c.0) (chan_name the_plan c.0)) (WakeAll c) c within (wake_all_word (is_cond the_plan c.0) (chan_name the_plan c.0)) (ap (option_map (λ c. WakeAll c)) (chan_is c within m t)) (sleeping c within) fits
+        on_chan_leads _ (say.WakeAll (is_cond the_plan c.0) (chan_name the_plan c.0)) (WakeAll c) c within
+        (wake_all_word (is_cond the_plan c.0) (chan_name the_plan c.0))
+        (ap (option_map (λ c. WakeAll c)) (chan_is c within m t)) (sleeping c within) fits
 
     -- an endtry's line, where the thread holds what it held before the innermost block's try
-    pub endtry_leads : (b : Block) (bs : List Block) → t.blocks ≡ b ∷ bs → pointwise is_same_held t.held b.before ≡ true → Leads (inside m t) (line_of (codes "endtry") []) (inside (suc m) (without_block t (b ∷ bs)))
+    pub endtry_leads : (b : Block) (bs : List Block) → t.blocks ≡ b ∷ bs → pointwise is_same_held t.held b.before ≡ true
+        → Leads (inside m t) (line_of (codes "endtry") []) (inside (suc m) (without_block t (b ∷ bs)))
     endtry_leads b bs e same =
         subst (λ (x : List Block). Leads (inside m t) (line_of (codes "endtry") []) (inside (suc m) (without_block t x))) e
-        (line_leads (inside m t) (codes "endtry") [] EndsTry (line_alone (codes "endtry") (record { bytes = refl; meaning = refl; short = omega arith })) refl refl
+        (line_leads (inside m t) (codes "endtry") [] EndsTry
+        (line_alone (codes "endtry") (record { bytes = refl; meaning = refl; short = omega arith })) refl refl
         (passes_more (test 15 (is_in_block (Some t))) [] (rw e refl) passes_none)
-        (rw e (passes_more (has_room most_operations m) _ (lt-ltb m most_operations few) (passes_more (test 14 (pointwise is_same_held t.held b.before)) [] same passes_none))))
+        (rw e (passes_more (has_room most_operations m) _ (lt-ltb m most_operations few)
+        (passes_more (test 14 (pointwise is_same_held t.held b.before)) [] same passes_none))))

@@ -10,7 +10,8 @@ use Rattle.script_laws.proofs.CanonicalWords.{IsLine, line_read, line_stands, li
 -- reading goes on behind the bytes with what is known there
 abbrev pub Leads : Known → List ℕ → Known → Type 0
 Leads k bytes after =
-    (n : ℕ) (rest : List ℕ) → (m : ℕ) × (reading_from n k (lines_of (bytes ++ rest)) ≡ reading_from m after (lines_of rest))
+    (n : ℕ) (rest : List ℕ)
+    → (m : ℕ) × (reading_from n k (lines_of (bytes ++ rest)) ≡ reading_from m after (lines_of rest))
 
 pub leads_nowhere : (k : Known) → Leads k [] k
 leads_nowhere k n rest = (n, refl)
@@ -21,21 +22,26 @@ leads_on k l m bs cs f g n rest =
     let then = g first.0 rest in
     (then.0, ap (λ (x : List ℕ). reading_from n k (lines_of x)) (append_assoc bs cs rest) ∙ first.1 ∙ then.1)
 
-passes_all : (k : Known) (line : List ℕ) (s : Statement) → length line ≤ 200 → list_all is_printable line ≡ true → has_meaning line ≡ true → statement_of line ≡ Some s → k.is_done ≡ false
+passes_all : (k : Known) (line : List ℕ) (s : Statement) → length line ≤ 200 → list_all is_printable line ≡ true
+    → has_meaning line ≡ true → statement_of line ≡ Some s → k.is_done ≡ false
     → Passes (place_tests k s) → Passes (name_tests k s) → line_fault k line ≡ None
 unfolding line_fault least_code
-passes_all k line s short stands means says undone place names = rw (le-leb (length line) 200 short, stands, means, says, undone, place, names) refl
+passes_all k line s short stands means says undone place names =
+    rw (le-leb (length line) 200 short, stands, means, says, undone, place, names) refl
 
-teaches : (k : Known) (line : List ℕ) (s : Statement) → has_meaning line ≡ true → statement_of line ≡ Some s → behind_line k line ≡ learned k s
+teaches : (k : Known) (line : List ℕ) (s : Statement) → has_meaning line ≡ true → statement_of line ≡ Some s
+    → behind_line k line ≡ learned k s
 unfolding behind_line
 teaches k line s means says = rw (means, says) refl
 
-read_on : (n : ℕ) (k : Known) (line : List ℕ) (lines : List (List ℕ)) (after : Known) → line_fault k line ≡ None → behind_line k line ≡ after → reading_from n k (line ∷ lines) ≡ reading_from (suc n) after lines
+read_on : (n : ℕ) (k : Known) (line : List ℕ) (lines : List (List ℕ)) (after : Known) → line_fault k line ≡ None
+    → behind_line k line ≡ after → reading_from n k (line ∷ lines) ≡ reading_from (suc n) after lines
 unfolding reading_from
 read_on n k line lines after none e = rw (none, e) refl
 
 -- a line of words that passes its tests
-pub line_leads : (k : Known) (first : List ℕ) (others : List (List ℕ)) (s : Statement) → IsLine first others → said_by (first ∷ others) ≡ Some s → k.is_done ≡ false → Passes (place_tests k s) → Passes (name_tests k s)
+pub line_leads : (k : Known) (first : List ℕ) (others : List (List ℕ)) (s : Statement) → IsLine first others
+    → said_by (first ∷ others) ≡ Some s → k.is_done ≡ false → Passes (place_tests k s) → Passes (name_tests k s)
     → Leads k (line_of first others) (learned k s)
 line_leads k first others s h says undone place names n rest =
     let line = first ++ spaced others in
@@ -43,5 +49,7 @@ line_leads k first others s h says undone place names n rest =
     let statement = line_says first others h s says in (
       suc n,
       ap (reading_from n k) (line_read first others h rest)
-          ∙ read_on n k line (lines_of rest) (learned k s) (passes_all k line s h.short (line_stands first others h) means statement undone place names) (teaches k line s means statement),
+          ∙ read_on n k line (lines_of rest) (learned k s)
+          (passes_all k line s h.short (line_stands first others h) means statement undone place names)
+          (teaches k line s means statement),
     )

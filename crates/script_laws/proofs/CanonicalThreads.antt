@@ -27,11 +27,13 @@ lines_elsewhere plan held (o ∷ ops) (suc at) l mode past next e =
     ap (λ (r : List ℕ). operation_line plan held o ++ r)
     (lines_elsewhere plan (held_behind o held) ops at l mode past next e)
 
-lines_push : (plan : Plan) (held : List Held) (ops : List Op) (op : Op) → operation_lines plan held (ops ++ op ∷ []) ≡ operation_lines plan held ops ++ operation_line plan (held_through ops held) op
+lines_push : (plan : Plan) (held : List Held) (ops : List Op) (op : Op) → operation_lines plan held (ops ++ op ∷ [])
+    ≡ operation_lines plan held ops ++ operation_line plan (held_through ops held) op
 lines_push plan held [] op = append-nil (operation_line plan held op)
 lines_push plan held (o ∷ ops) op =
     ap (λ (r : List ℕ). operation_line plan held o ++ r) (lines_push plan (held_behind o held) ops op)
-    ∙ sym (append_assoc (operation_line plan held o) (operation_lines plan (held_behind o held) ops) (operation_line plan (held_through ops (held_behind o held)) op))
+    ∙ sym (append_assoc (operation_line plan held o) (operation_lines plan (held_behind o held) ops)
+    (operation_line plan (held_through ops (held_behind o held)) op))
 
 -- 2. A thread that its lines lead to
 
@@ -42,19 +44,23 @@ begun t = record { name = t.name; base = t.base; ops = []; held = []; blocks = [
 pub record IsReplayed (locks : List LockDecl) (chans : List ChanDecl) (t : OpenThread) : Type 0 where
   pub base : t.base ≤ greatest_priority
   pub may : All (λ h. may_be_held locks h.mode h.l ≡ true) t.held
-  pub leads : (classes : List (List ℕ)) (declared : List ThreadDecl) (schedule : List ThreadNo) (names : List (List ℕ × Declared)) (threads : List ThreadDecl) (knows : Knows locks chans names) (m : ℕ)
+  pub leads : (classes : List (List ℕ)) (declared : List ThreadDecl) (schedule : List ThreadNo)
+      (names : List (List ℕ × Declared)) (threads : List ThreadDecl) (knows : Knows locks chans names) (m : ℕ)
       → m + length t.ops ≤ most_operations
-      → Leads (inside locks chans classes declared schedule names threads knows m (begun t)) (operation_lines (the_plan locks chans classes declared schedule names threads knows) [] t.ops)
+      → Leads (inside locks chans classes declared schedule names threads knows m (begun t))
+      (operation_lines (the_plan locks chans classes declared schedule names threads knows) [] t.ops)
       (inside locks chans classes declared schedule names threads knows (m + length t.ops) t)
 
-pub begin_replayed : (locks : List LockDecl) (chans : List ChanDecl) (name : List ℕ) (base : ℕ) → base ≤ greatest_priority → IsReplayed locks chans (record { name = name; base = base; ops = []; held = []; blocks = [] })
+pub begin_replayed : (locks : List LockDecl) (chans : List ChanDecl) (name : List ℕ) (base : ℕ) → base
+    ≤ greatest_priority → IsReplayed locks chans (record { name = name; base = base; ops = []; held = []; blocks = [] })
 begin_replayed locks chans name base small = record {
   base = small;
   may = All-nil _;
   leads = λ classes declared schedule names threads knows m few.
       let t : OpenThread = record { name = name; base = base; ops = []; held = []; blocks = [] } in
       let here : Known = inside locks chans classes declared schedule names threads knows m t in
-      subst (λ (n : ℕ). Leads here [] (inside locks chans classes declared schedule names threads knows n t)) {x = m} (omega arith) (leads_nowhere here);
+      subst (λ (n : ℕ). Leads here [] (inside locks chans classes declared schedule names threads knows n t)) {x = m}
+      (omega arith) (leads_nowhere here);
 }
 
 module _ (locks : List LockDecl) (chans : List ChanDecl) (t : OpenThread) (sound : IsSoundOpen locks chans t)
@@ -80,7 +86,8 @@ module _ (locks : List LockDecl) (chans : List ChanDecl) (t : OpenThread) (sound
   may_after (SleepsOn c) fits = h.may
   may_after (WakesOn c) fits = h.may
 
-  pub operation_replayed : (op : Op) → IsReadable t op → Passes (operation_tests locks chans op t.held) → IsReplayed locks chans (behind t op)
+  pub operation_replayed : (op : Op) → IsReadable t op → Passes (operation_tests locks chans op t.held)
+      → IsReplayed locks chans (behind t op)
   operation_replayed op r fits = record {
     base = h.base;
     may = may_after (of_locks op) fits;
@@ -88,19 +95,24 @@ module _ (locks : List LockDecl) (chans : List ChanDecl) (t : OpenThread) (sound
         let plan = the_plan locks chans classes declared schedule names threads knows in
         let at : ℕ → OpenThread → Known = inside locks chans classes declared schedule names threads knows in
         let size : length (t.ops ++ op ∷ []) ≡ length t.ops + 1 = length-append t.ops (op ∷ []) in
-        let lines : operation_lines plan [] t.ops ++ operation_line plan t.held op ≡ operation_lines plan [] (t.ops ++ op ∷ []) =
+        let lines : operation_lines plan [] t.ops ++ operation_line plan t.held op
+        ≡ operation_lines plan [] (t.ops ++ op ∷ []) =
         sym (lines_push plan [] t.ops op
         ∙ ap (λ (hs : List Held). operation_lines plan [] t.ops ++ operation_line plan hs op) sound.held) in
         let count : suc (m + length t.ops) ≡ m + length (t.ops ++ op ∷ []) = omega (arith, size) in
         let first = h.leads classes declared schedule names threads knows m (omega (arith, few, size)) in
-        let next = operation_leads locks chans classes declared schedule names threads knows (m + length t.ops) t (omega (arith, few, size)) op h.may r fits in
-        subst (λ (n : ℕ). Leads (at m (begun t)) (operation_lines plan [] (t.ops ++ op ∷ [])) (at n (behind t op))) count
+        let next = operation_leads locks chans classes declared schedule names threads knows (m + length t.ops) t
+        (omega (arith, few, size)) op h.may r fits in
+        subst
+        (λ (n : ℕ). Leads (at m (begun t)) (operation_lines plan [] (t.ops ++ op ∷ [])) (at n (behind t op))) count
         (subst (λ (bs : List ℕ). Leads (at m (begun t)) bs (at (suc (m + length t.ops)) (behind t op))) lines
-        (leads_on (at m (begun t)) (at (m + length t.ops) t) (at (suc (m + length t.ops)) (behind t op)) (operation_lines plan [] t.ops) (operation_line plan t.held op) first next));
+        (leads_on (at m (begun t)) (at (m + length t.ops) t) (at (suc (m + length t.ops)) (behind t op))
+        (operation_lines plan [] t.ops) (operation_line plan t.held op) first next));
   }
 
   -- a block is closed
-  module _ (b : Block) (bs : List Block) (inside_it : t.blocks ≡ b ∷ bs) (same : pointwise is_same_held t.held b.before ≡ true) where
+  module _ (b : Block) (bs : List Block) (inside_it : t.blocks ≡ b ∷ bs)
+      (same : pointwise is_same_held t.held b.before ≡ true) where
     abbrev led : Op
     led = Try b.lock b.mode (suc (length t.ops))
 
@@ -120,15 +132,19 @@ module _ (locks : List LockDecl) (chans : List ChanDecl) (t : OpenThread) (sound
           let plan = the_plan locks chans classes declared schedule names threads knows in
           let at : ℕ → OpenThread → Known = inside locks chans classes declared schedule names threads knows in
           let new : OpenThread = without_block t (b ∷ bs) in
-          let size : length (closed ++ EndTry ∷ []) ≡ length t.ops + 1 = length-append closed (EndTry ∷ []) ∙ ap (λ (n : ℕ). n + 1) (length-set t.ops b.opened_at led) in
-          let lines : operation_lines plan [] t.ops ++ line_of (codes "endtry") [] ≡ operation_lines plan [] (closed ++ EndTry ∷ []) =
+          let size : length (closed ++ EndTry ∷ []) ≡ length t.ops + 1 = length-append closed (EndTry ∷ [])
+          ∙ ap (λ (n : ℕ). n + 1) (length-set t.ops b.opened_at led) in
+          let lines : operation_lines plan [] t.ops ++ line_of (codes "endtry") []
+          ≡ operation_lines plan [] (closed ++ EndTry ∷ []) =
           sym (lines_push plan [] closed EndTry ∙ ap (λ (r : List ℕ). r ++ line_of (codes "endtry") []) (lines_closed plan)) in
           let count : suc (m + length t.ops) ≡ m + length (closed ++ EndTry ∷ []) = omega (arith, size) in
           let first = h.leads classes declared schedule names threads knows m (omega (arith, few, size)) in
-          let next = endtry_leads locks chans classes declared schedule names threads knows (m + length t.ops) t (omega (arith, few, size)) b bs inside_it same in
+          let next = endtry_leads locks chans classes declared schedule names threads knows (m + length t.ops) t
+          (omega (arith, few, size)) b bs inside_it same in
           subst (λ (n : ℕ). Leads (at m (begun t)) (operation_lines plan [] (closed ++ EndTry ∷ [])) (at n new)) count
           (subst (λ (x : List ℕ). Leads (at m (begun t)) x (at (suc (m + length t.ops)) new)) lines
-          (leads_on (at m (begun t)) (at (m + length t.ops) t) (at (suc (m + length t.ops)) new) (operation_lines plan [] t.ops) (line_of (codes "endtry") []) first next));
+          (leads_on (at m (begun t)) (at (m + length t.ops) t) (at (suc (m + length t.ops)) new)
+          (operation_lines plan [] t.ops) (line_of (codes "endtry") []) first next));
     }
 
 -- a thread that has ended

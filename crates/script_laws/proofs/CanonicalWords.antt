@@ -32,7 +32,8 @@ pub record IsLine (first : List ℕ) (others : List (List ℕ)) : Type 0 where
   pub words : AreWords others
   pub short : length (first ++ spaced others) ≤ 200
 
-weaker : (p q : ℕ → Bool) → ((b : ℕ) → p b ≡ true → q b ≡ true) → (bs : List ℕ) → list_all p bs ≡ true → list_all q bs ≡ true
+weaker : (p q : ℕ → Bool) → ((b : ℕ) → p b ≡ true → q b ≡ true) → (bs : List ℕ) → list_all p bs ≡ true
+    → list_all q bs ≡ true
 weaker p q h [] e = refl
 weaker p q h (b ∷ bs) e = let s = and_parts (p b) _ e in and_from (q b) _ (h b s.0) (weaker p q h bs s.1)
 
@@ -44,7 +45,8 @@ may_stand b e = let s = and_parts _ _ e in and_from _ _ (le-leb 32 b (omega (ari
 
 -- 2. Lines and their words
 
-line_cut : (line rest : List ℕ) → list_all is_printable line ≡ true → lines_of (line ++ 10 ∷ rest) ≡ line ∷ lines_of rest
+line_cut : (line rest : List ℕ) → list_all is_printable line ≡ true
+    → lines_of (line ++ 10 ∷ rest) ≡ line ∷ lines_of rest
 line_cut [] rest e = refl
 line_cut (b ∷ line) rest e =
     let s = and_parts (is_printable b) _ e in
@@ -52,7 +54,8 @@ line_cut (b ∷ line) rest e =
     let other : (b == 10) ≡ false = ne_eqb b 10 (λ q. omega (arith, q, leb-true 32 b t.0)) in
     rw (other, line_cut line rest s.1) refl
 
-word_cut : (word rest : List ℕ) → list_all is_word_byte word ≡ true → words_of (word ++ 32 ∷ rest) ≡ word ∷ words_of rest
+word_cut : (word rest : List ℕ) → list_all is_word_byte word ≡ true
+    → words_of (word ++ 32 ∷ rest) ≡ word ∷ words_of rest
 word_cut [] rest e = refl
 word_cut (b ∷ word) rest e =
     let s = and_parts (is_word_byte b) _ e in
@@ -64,29 +67,36 @@ word_last (b ∷ word) e =
     let s = and_parts (is_word_byte b) _ e in
     rw (not_byte 32 b (omega arith) s.0, word_last word s.1) refl
 
-words_are : (first : List ℕ) (others : List (List ℕ)) → list_all is_word_byte first ≡ true → AreWords others → words_of (first ++ spaced others) ≡ first ∷ others
+words_are : (first : List ℕ) (others : List (List ℕ)) → list_all is_word_byte first ≡ true → AreWords others
+    → words_of (first ++ spaced others) ≡ first ∷ others
 words_are first [] e h = ap words_of (append-nil first) ∙ word_last first e
-words_are first (w ∷ ws) e h = word_cut first (w ++ spaced ws) e ∙ ap (λ (l : List (List ℕ)). first ∷ l) (words_are w ws h.0.bytes h.1)
+words_are first (w ∷ ws) e h = word_cut first (w ++ spaced ws) e
+    ∙ ap (λ (l : List (List ℕ)). first ∷ l) (words_are w ws h.0.bytes h.1)
 
-all_stand : (first : List ℕ) (others : List (List ℕ)) → list_all is_word_byte first ≡ true → AreWords others → list_all is_printable (first ++ spaced others) ≡ true
-all_stand first others e h = list_all-append is_printable first (spaced others) ∙ and_from _ _ (weaker is_word_byte is_printable may_stand first e) (go others h)
+all_stand : (first : List ℕ) (others : List (List ℕ)) → list_all is_word_byte first ≡ true → AreWords others
+    → list_all is_printable (first ++ spaced others) ≡ true
+all_stand first others e h = list_all-append is_printable first (spaced others)
+    ∙ and_from _ _ (weaker is_word_byte is_printable may_stand first e) (go others h)
   where
     go : (ws : List (List ℕ)) → AreWords ws → list_all is_printable (spaced ws) ≡ true
     go [] h = refl
-    go (w ∷ ws) h = list_all-append is_printable w (spaced ws) ∙ and_from _ _ (weaker is_word_byte is_printable may_stand w h.0.bytes) (go ws h.1)
+    go (w ∷ ws) h = list_all-append is_printable w (spaced ws)
+        ∙ and_from _ _ (weaker is_word_byte is_printable may_stand w h.0.bytes) (go ws h.1)
 
 none_empty : (ws : List (List ℕ)) → AreWords ws → list_any is_empty ws ≡ false
 none_empty [] h = refl
 none_empty (w ∷ ws) h = rw (h.0.some, none_empty ws h.1) refl
 
-begins : (first more : List ℕ) → has_meaning first ≡ true → (has_meaning (first ++ more) ≡ true) × (is_empty first ≡ false)
+begins : (first more : List ℕ) → has_meaning first ≡ true
+    → (has_meaning (first ++ more) ≡ true) × (is_empty first ≡ false)
 begins first more e = grind arith
 
 -- what reading a line needs to know of it
 module _ (first : List ℕ) (others : List (List ℕ)) (h : IsLine first others) where
   pub line_read : (rest : List ℕ) → lines_of (line_of first others ++ rest) ≡ (first ++ spaced others) ∷ lines_of rest
   line_read rest =
-      let same : line_of first others ++ rest ≡ (first ++ spaced others) ++ 10 ∷ rest = append_assoc (first ++ spaced others) (10 ∷ []) rest in
+      let same : line_of first others ++ rest ≡ (first ++ spaced others) ++ 10
+      ∷ rest = append_assoc (first ++ spaced others) (10 ∷ []) rest in
       ap lines_of same ∙ line_cut (first ++ spaced others) rest (all_stand first others h.bytes h.words)
 
   pub line_stands : list_all is_printable (first ++ spaced others) ≡ true
@@ -116,10 +126,17 @@ name_word [] e = absurd (false≢true e)
 name_word (b ∷ bs) e =
     let s = and_parts _ _ e in
     let t = and_parts _ _ s.0 in
-    let few : length (b ∷ bs) ≤ 16 = name_length (b ∷ bs) e in
-    (record { some = refl; bytes = and_from _ _ (letter_byte b t.1) (weaker is_name_byte is_word_byte name_byte bs s.1); short = omega (arith, few) }, few)
+    let few : length (b ∷ bs) ≤ 16 = name_length (b ∷ bs) e in (
+      record {
+        some = refl;
+        bytes = and_from _ _ (letter_byte b t.1) (weaker is_name_byte is_word_byte name_byte bs s.1);
+        short = omega (arith, few);
+      },
+      few,
+    )
 
-digit : (b : ℕ) → digit_value b < 10 → (is_digit b ≡ true) × (is_word_byte b ≡ true) × (digit_value b ≡ b - 48) × (48 ≤ b)
+digit : (b : ℕ) → digit_value b < 10
+    → (is_digit b ≡ true) × (is_word_byte b ≡ true) × (digit_value b ≡ b - 48) × (48 ≤ b)
 digit b h =
     let d = digit_from_value b h in
     let v = digit_value_digit b d in
@@ -132,7 +149,8 @@ all_digits (b ∷ bs) h =
     let r = all_digits bs h.1 in
     (and_from _ _ d.0 r.0, and_from _ _ d.1 r.1)
 
-same_value : (n : ℕ) (ds : List ℕ) → parse.AllDigits 10 ds → fold (λ n b. 10 * n + (b - 48)) n ds ≡ parse.digits_value_after 10 n ds
+same_value : (n : ℕ) (ds : List ℕ) → parse.AllDigits 10 ds
+    → fold (λ n b. 10 * n + (b - 48)) n ds ≡ parse.digits_value_after 10 n ds
 same_value n [] h = refl
 same_value n (b ∷ bs) h =
     let d = digit b h.0 in
@@ -167,5 +185,6 @@ module _ (n : ℕ) (small : n < 2 ^ 64) where
   -- the number that a decimal number spells
   pub decimal_number : (bound : ℕ) → n ≤ bound → number_up_to bound (decimal n) ≡ Some n
   decimal_number bound within =
-      let value : digits_value (decimal n) ≡ n = same_value 0 (decimal n) is_digits ∙ (decimal_is_IsNumeral n small).1 in
+      let value : digits_value (decimal n) ≡ n = same_value 0 (decimal n) is_digits
+      ∙ (decimal_is_IsNumeral n small).1 in
       rw (numeral n (decimal n) refl small is_digits, value, le-leb n bound within) refl

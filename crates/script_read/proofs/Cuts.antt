@@ -16,7 +16,8 @@ use Rattle.script_read.specs.Reading.{Lacks}
 pub lacks-first : (byte b : ℕ) (bs : List ℕ) → Lacks byte (b ∷ bs) → ((b == byte) ≡ false) × Lacks byte bs
 lacks-first byte b bs h = by (b == byte) refl h
   where
-    by : (t : Bool) → (b == byte) ≡ t → (not t && list_all (λ x. not (x == byte)) bs) ≡ true → ((b == byte) ≡ false) × Lacks byte bs
+    by : (t : Bool) → (b == byte) ≡ t → (not t && list_all (λ x. not (x == byte)) bs) ≡ true
+        → ((b == byte) ≡ false) × Lacks byte bs
     by true e h = absurd (false≢true h)
     by false e h = (e, h)
 
@@ -25,7 +26,8 @@ all_before : (p : ℕ → Bool) (bs : List ℕ) → list_all p (take (prefix_len
 all_before p [] = refl
 all_before p (b ∷ bs) = by (p b) refl (all_before p bs)
   where
-    by : (t : Bool) → p b ≡ t → list_all p (take (prefix_len p bs) bs) ≡ true → list_all p (take (cond t (1 + prefix_len p bs) 0) (b ∷ bs)) ≡ true
+    by : (t : Bool) → p b ≡ t → list_all p (take (prefix_len p bs) bs) ≡ true
+        → list_all p (take (cond t (1 + prefix_len p bs) 0) (b ∷ bs)) ≡ true
     by true e h = rw (one-add, e) h
     by false e h = refl
 
@@ -48,7 +50,8 @@ pub cut_at : (byte : ℕ) (bs : List ℕ) (i : ℕ) → position (λ b. b == byt
 cut_at byte bs i h =
     let p = position-Some (λ b. b == byte) bs i byte h in
     let here : get_or bs i byte ≡ byte = eqb-true _ _ p.1 in
-    let rest : take (length bs - (i + 1)) (drop (i + 1) bs) ≡ drop (i + 1) bs = take_all _ _ (simp length-drop (omega arith)) in
+    let rest : take (length bs - (i + 1)) (drop (i + 1) bs)
+    ≡ drop (i + 1) bs = take_all _ _ (simp length-drop (omega arith)) in
     let more : drop i bs ≡ byte ∷ drop (i + 1) bs = rw (add-one, drop-cons bs i byte p.0, here) refl in
     sym (take-append-drop i bs) ∙ ap (λ (r : List ℕ). take i bs ++ r) (more ∙ ap (λ (r : List ℕ). byte ∷ r) (sym rest))
 
@@ -59,7 +62,8 @@ if_none (Some x) P p = tt
 
 -- 1. Lines
 
-lines-step : (b : ℕ) (bs line : List ℕ) (more : List (List ℕ)) → (b == 10) ≡ false → lines_of bs ≡ line ∷ more → lines_of (b ∷ bs) ≡ (b ∷ line) ∷ more
+lines-step : (b : ℕ) (bs line : List ℕ) (more : List (List ℕ)) → (b == 10) ≡ false → lines_of bs ≡ line ∷ more
+    → lines_of (b ∷ bs) ≡ (b ∷ line) ∷ more
 lines-step b bs line more h e = rw (h, e) refl
 
 -- a line that ends
@@ -112,7 +116,8 @@ printable-before bs i h =
 
 -- 2. Words
 
-words-step : (b : ℕ) (bs word : List ℕ) (more : List (List ℕ)) → (b == 32) ≡ false → words_of bs ≡ word ∷ more → words_of (b ∷ bs) ≡ (b ∷ word) ∷ more
+words-step : (b : ℕ) (bs word : List ℕ) (more : List (List ℕ)) → (b == 32) ≡ false → words_of bs ≡ word ∷ more
+    → words_of (b ∷ bs) ≡ (b ∷ word) ∷ more
 words-step b bs word more h e = rw (h, e) refl
 
 -- a word with a space behind it
@@ -142,7 +147,8 @@ words_are : (bs : List ℕ) → (w : List ℕ) × (ws : List (List ℕ)) × (wor
 words_are [] = ([], [], refl)
 words_are (b ∷ bs) = by (b == 32) (words_of bs)
   where
-    by : (t : Bool) (parts : List (List ℕ)) → (w : List ℕ) × (ws : List (List ℕ)) × ((if t then [] ∷ parts else onto_first b parts) ≡ w ∷ ws)
+    by : (t : Bool) (parts : List (List ℕ))
+        → (w : List ℕ) × (ws : List (List ℕ)) × ((if t then [] ∷ parts else onto_first b parts) ≡ w ∷ ws)
     by true parts = ([], parts, refl)
     by false [] = (b ∷ [], [], refl)
     by false (part ∷ parts) = (b ∷ part, parts, refl)

@@ -21,10 +21,12 @@ grows_behind n (b ∷ front) back = grows_behind (10 * n + (b - 48)) front back
 
 -- the first digits spell no more than all of them
 pub value-take : (word : List ℕ) (i : ℕ) → digits_value (take i word) ≤ digits_value word
-value-take word i = subst (λ (w : List ℕ). digits_value (take i word) ≤ digits_value w) (take-append-drop i word) (grows_behind 0 (take i word) (drop i word))
+value-take word i = subst (λ (w : List ℕ). digits_value (take i word) ≤ digits_value w) (take-append-drop i word)
+    (grows_behind 0 (take i word) (drop i word))
 
 -- and one digit more
-pub value-next : (word : List ℕ) (i : ℕ) → i < length word → digits_value (take (i + 1) word) ≡ 10 * digits_value (take i word) + (get_or word i 0 - 48)
+pub value-next : (word : List ℕ) (i : ℕ) → i < length word
+    → digits_value (take (i + 1) word) ≡ 10 * digits_value (take i word) + (get_or word i 0 - 48)
 value-next word i h = fold_more _ 0 word i 0 h
 
 -- a word that spells too large a number has none
@@ -38,19 +40,22 @@ too_large word h =
     by false = refl
 
 -- one digit is a numeral
-pub short_numeral : (word : List ℕ) → (length word == 0) ≡ false → length word ≤ 1 → list_all is_digit word ≡ true → is_numeral word ≡ true
+pub short_numeral : (word : List ℕ) → (length word == 0) ≡ false → length word ≤ 1 → list_all is_digit word ≡ true
+    → is_numeral word ≡ true
 short_numeral [] n s h = absurd (true≢false n)
 short_numeral (b ∷ []) n s h = grind arith
 short_numeral (b ∷ c ∷ bs) n s h = absurd (omega arith)
 
 -- more digits are one where the first isn't 0
-pub long_numeral : (word : List ℕ) → 1 < length word → (get_or word 0 0 == 48) ≡ false → list_all is_digit word ≡ true → is_numeral word ≡ true
+pub long_numeral : (word : List ℕ) → 1 < length word → (get_or word 0 0 == 48) ≡ false → list_all is_digit word ≡ true
+    → is_numeral word ≡ true
 long_numeral [] l f h = absurd (omega arith)
 long_numeral (b ∷ []) l f h = absurd (omega arith)
 long_numeral (b ∷ c ∷ bs) l f h = rw (f, h) refl
 
 -- a numeral below 2 ^ 64 spells its number
-pub spells : (word : List ℕ) (n : ℕ) → is_numeral word ≡ true → n ≡ digits_value word → n < 2 ^ 64 → Some n ≡ number_of word
+pub spells : (word : List ℕ) (n : ℕ) → is_numeral word ≡ true → n ≡ digits_value word → n < 2 ^ 64
+    → Some n ≡ number_of word
 spells word n k e small =
     let within : nat_le (digits_value word) (2 ^ 64 - 1) ≡ true = grind (arith, nat_tests) in
     rw (k, within, e) refl

@@ -21,15 +21,18 @@ module _ (k : Known) (line : List ℕ) where
   nothing_learned m = rw m refl
 
   -- with one
-  pub words_fault : (code : ℕ) → least_code (byte_tests line) ≡ None → has_meaning line ≡ true → least_code (word_tests k line) ≡ Some code → line_fault k line ≡ Some code
+  pub words_fault : (code : ℕ) → least_code (byte_tests line) ≡ None → has_meaning line ≡ true
+      → least_code (word_tests k line) ≡ Some code → line_fault k line ≡ Some code
   unfolding line_fault
   words_fault code e m w = rw (e, m, w) refl
 
-  pub later_fault : (s : Statement) → least_code (byte_tests line) ≡ None → has_meaning line ≡ true → least_code (word_tests k line) ≡ None → statement_of line ≡ Some s
+  pub later_fault : (s : Statement) → least_code (byte_tests line) ≡ None → has_meaning line ≡ true
+      → least_code (word_tests k line) ≡ None → statement_of line ≡ Some s
       → line_fault k line ≡ first_fault (statement_stages k (Some s))
   unfolding line_fault
   later_fault s e m w i = rw (e, m, w, i) refl
 
-  pub learned_behind : (s : Statement) → has_meaning line ≡ true → statement_of line ≡ Some s → behind_line k line ≡ learned k s
+  pub learned_behind : (s : Statement) → has_meaning line ≡ true → statement_of line ≡ Some s
+      → behind_line k line ≡ learned k s
   unfolding behind_line
   learned_behind s m i = rw (m, i) refl

@@ -19,5 +19,6 @@ pub none_open : (bs : List Block) → is_empty (map block_of (reverse bs)) ≡ (
 none_open bs = none_there (map block_of (reverse bs)) ∙ ap (λ n. n == 0) (as_many bs)
 
 -- the last one is the innermost
-pub innermost : (bs : List Block) (b : Block) → map block_of (reverse (bs ++ b ∷ [])) ≡ block_of b ∷ map block_of (reverse bs)
+pub innermost : (bs : List Block) (b : Block)
+    → map block_of (reverse (bs ++ b ∷ [])) ≡ block_of b ∷ map block_of (reverse bs)
 innermost bs b = ap (map block_of) (reverse-append bs (b ∷ []))

@@ -33,9 +33,11 @@ module _ (test : ℕ → Bool) (bytes : List ℕ) (i n r : ℕ) (z : List ℕ) (
   pub run_in : agree_below stops (λ x. not (test x)) 256 ≡ true → IsRunIn test bytes i n r
   run_in all = record {
     few = run_in_chunk_le stops bytes i n r 0 room counted;
-    pass = λ k from to. not-false _ (sym (agree_below_at stops (λ x. not (test x)) 256 (get_or bytes k 0) all (fits k).fits)
+    pass = λ k from to. not-false _
+        (sym (agree_below_at stops (λ x. not (test x)) 256 (get_or bytes k 0) all (fits k).fits)
         ∙ run_in_chunk_fails stops bytes i n r 0 room counted k from to);
-    stops = λ short. not-true _ (sym (agree_below_at stops (λ x. not (test x)) 256 (get_or bytes (i + r) 0) all (fits (i + r)).fits)
+    stops = λ short. not-true _
+        (sym (agree_below_at stops (λ x. not (test x)) 256 (get_or bytes (i + r) 0) all (fits (i + r)).fits)
         ∙ run_in_chunk_stops stops bytes i n r 0 room counted short);
   }
 
@@ -53,7 +55,8 @@ none_at p bytes before =
     rw (at, le-ltb (length bytes) (length bytes) (omega arith)) refl
 
 -- and the same behind bytes that don't
-module _ (p : ℕ → Bool) (bytes : List ℕ) (n : ℕ) (le : n ≤ length bytes) (before : (k : ℕ) → k < n → p (get_or bytes k 0) ≡ false) where
+module _ (p : ℕ → Bool) (bytes : List ℕ) (n : ℕ) (le : n ≤ length bytes)
+    (before : (k : ℕ) → k < n → p (get_or bytes k 0) ≡ false) where
   behind : (j : ℕ) → ((k : ℕ) → k < j → p (get_or (drop n bytes) k 0) ≡ false) → (k : ℕ) → k < n + j
       → p (get_or bytes k 0) ≡ false
   behind j rest k lt = elim (cases_lt k n) [

@@ -22,26 +22,34 @@ pub same_reading : (n : ℕ) (k : Known) (lines : List (List ℕ)) → reading_f
 unfolding reading_from
 same_reading n k [] = ap (λ (m : ℕ). if k.is_done then Reads (plan_of k) else Faulty m 17) (told_again n)
 same_reading n k (line ∷ lines) =
-    let next : reading_from (suc (told n)) (behind_line k line) lines ≡ reading_from (suc n) (behind_line k line) lines =
+    let next : reading_from (suc (told n)) (behind_line k line) lines
+    ≡ reading_from (suc n) (behind_line k line) lines =
     sym (same_reading (suc (told n)) (behind_line k line) lines)
     ∙ ap (λ (m : ℕ). reading_from m (behind_line k line) lines) (told_next n)
     ∙ same_reading (suc n) (behind_line k line) lines in
-    ap (λ (r : Reading). faulty_or (told n) (line_fault k line) r) next ∙ same_fault n (line_fault k line) (reading_from (suc n) (behind_line k line) lines)
+    ap (λ (r : Reading). faulty_or (told n) (line_fault k line) r) next
+    ∙ same_fault n (line_fault k line) (reading_from (suc n) (behind_line k line) lines)
 
 -- behind a line without a fault, as the numbers go on
-pub next_reading : (n m : ℕ) (k new : Known) (line : List ℕ) (lines all : List (List ℕ)) → all ≡ line ∷ lines → line_fault k line ≡ None → behind_line k line ≡ new → m ≡ told (suc n)
+pub next_reading : (n m : ℕ) (k new : Known) (line : List ℕ) (lines all : List (List ℕ)) → all ≡ line ∷ lines
+    → line_fault k line ≡ None → behind_line k line ≡ new → m ≡ told (suc n)
     → reading_from m new lines ≡ reading_from n k all
 unfolding reading_from
 next_reading n m k new line lines all e none same next =
     ap (λ (i : ℕ). reading_from i new lines) next ∙ same_reading (suc n) new lines ∙ rw (e, none, same) refl
 
 -- and where it has one
-pub faulty_reading : (n : ℕ) (k : Known) (line : List ℕ) (lines all : List (List ℕ)) (code : ℕ) → all ≡ line ∷ lines → line_fault k line ≡ Some code → n ≤ greatest_line → reading_from n k all ≡ Faulty n code
+pub faulty_reading : (n : ℕ) (k : Known) (line : List ℕ) (lines all : List (List ℕ)) (code : ℕ) → all ≡ line ∷ lines
+    → line_fault k line ≡ Some code → n ≤ greatest_line → reading_from n k all ≡ Faulty n code
 unfolding reading_from
-faulty_reading n k line lines all code e fault small = let t : told n ≡ n = omega (arith, small) in rw (e, fault, t) refl
+faulty_reading n k line lines all code e fault small =
+    let t : told n ≡ n = omega (arith, small) in
+    rw (e, fault, t) refl
 
 -- why a line wasn't read is told with its number
-pub error_tells : (n : ℕ) (k : Known) (line : List ℕ) (lines all : List (List ℕ)) (e : LineError) (r : Reading) → all ≡ line ∷ lines → n ≤ greatest_line → FailsBy (line_fault k line) e
+pub error_tells : (n : ℕ) (k : Known) (line : List ℕ) (lines all : List (List ℕ)) (e : LineError) (r : Reading)
+    → all ≡ line ∷ lines → n ≤ greatest_line → FailsBy (line_fault k line) e
     → reading_from n k all ≡ r → Tells r (Err (told_at n e))
-error_tells n k line lines all (why.Fault code) r e small fault same = sym same ∙ faulty_reading n k line lines all code.0 e fault small
+error_tells n k line lines all (why.Fault code) r e small fault same = sym same
+    ∙ faulty_reading n k line lines all code.0 e fault small
 error_tells n k line lines all (why.Memory m) r e small fault same = tt

@@ -15,27 +15,35 @@ use Rattle.turnstile_core.specs.Seen.{Place}
 
 -- the item behind a list,
 slice_get-pushed : {A : Type 0} (xs : List A) (x : A) → slice_get (xs ++ x ∷ []) (length xs) ≡ Some x
-slice_get-pushed xs x = slice_get-get_or (xs ++ x ∷ []) (length xs) x (omega (arith, length_push xs x)) ∙ ap Some (get_or_push xs x x (length xs) refl)
+slice_get-pushed xs x = slice_get-get_or (xs ++ x ∷ []) (length xs) x (omega (arith, length_push xs x))
+    ∙ ap Some (get_or_push xs x x (length xs) refl)
 
 -- and those in front of it
-slice_get-in_front : {A : Type 0} (xs : List A) (x : A) (i : ℕ) → i < length xs → slice_get (xs ++ x ∷ []) i ≡ slice_get xs i
+slice_get-in_front : {A : Type 0} (xs : List A) (x : A) (i : ℕ) → i < length xs
+    → slice_get (xs ++ x ∷ []) i ≡ slice_get xs i
 slice_get-in_front xs x i l =
-    slice_get-get_or (xs ++ x ∷ []) i x (omega (arith, length_push xs x)) ∙ ap Some (get_or_append_left xs (x ∷ []) x i l) ∙ sym (slice_get-get_or xs i x l)
+    slice_get-get_or (xs ++ x ∷ []) i x (omega (arith, length_push xs x))
+    ∙ ap Some (get_or_append_left xs (x ∷ []) x i l) ∙ sym (slice_get-get_or xs i x l)
 
 -- each thread is new
 abbrev pub EachIsNew : List ThreadDecl → List Thread → Type 0
-EachIsNew decls ths = (t : ℕ) (th : Thread) (d : ThreadDecl) → slice_get ths t ≡ Some th → slice_get decls t ≡ Some d → IsNew t d.base.0 th
+EachIsNew decls ths = (t : ℕ) (th : Thread) (d : ThreadDecl) → slice_get ths t ≡ Some th → slice_get decls t ≡ Some d
+    → IsNew t d.base.0 th
 
 -- one thread more
-pub new_pushed : (decls : List ThreadDecl) (ths : List Thread) (n : ℕ) (th : Thread) (d : ThreadDecl) → length ths ≡ n → slice_get decls n ≡ Some d → IsNew n d.base.0 th
+pub new_pushed : (decls : List ThreadDecl) (ths : List Thread) (n : ℕ) (th : Thread) (d : ThreadDecl) → length ths ≡ n
+    → slice_get decls n ≡ Some d → IsNew n d.base.0 th
     → EachIsNew decls ths → EachIsNew decls (ths ++ th ∷ [])
 new_pushed decls ths n th d long at new each t u e is_u is_e =
     elim (cases_eq t n) [
       | inl i ↦
-          let same_thread : th ≡ u = same_Some th u (sym (slice_get-pushed ths th) ∙ ap (slice_get (ths ++ th ∷ [])) (long ∙ sym i) ∙ is_u) in
+          let same_thread : th ≡ u = same_Some th u
+          (sym (slice_get-pushed ths th) ∙ ap (slice_get (ths ++ th ∷ [])) (long ∙ sym i) ∙ is_u) in
           let same_decl : d ≡ e = same_Some d e (sym at ∙ ap (slice_get decls) (sym i) ∙ is_e) in
           rw (i, ← same_thread, ← same_decl) new
-      | inr ne ↦ each t u e (sym (slice_get-in_front ths th t (omega (arith, length_push ths th, slice_get_within (ths ++ th ∷ []) t u is_u))) ∙ is_u) is_e
+      | inr ne ↦ each t u e (sym
+          (slice_get-in_front ths th t (omega (arith, length_push ths th, slice_get_within (ths ++ th ∷ []) t u is_u)))
+          ∙ is_u) is_e
     ]
 
 -- 2. The machine
@@ -45,13 +53,16 @@ no_kind : (c : Config) (q : QueueName) (marked : Marked) → places_of marked �
 no_kind c q e none = grind arith
 
 -- what a new thread shows
-shown : (plan : Plan) (t : ℕ) (th : Thread) (d : ThreadDecl) → slice_get plan.threads t ≡ Some d → IsNew t d.base.0 th → RepresentsThread th (config_of plan) (start_state (config_of plan)) t
+shown : (plan : Plan) (t : ℕ) (th : Thread) (d : ThreadDecl) → slice_get plan.threads t ≡ Some d → IsNew t d.base.0 th
+    → RepresentsThread th (config_of plan) (start_state (config_of plan)) t
 unfolding start_state
 shown plan t th d at new =
-    let base : d.base.0 ≡ declared_base plan t = sym (ap (λ o. unwrap_or o 0) (slice_get-map (λ (e : ThreadDecl). e.base.0) plan.threads t ∙ ap (option_map (λ (e : ThreadDecl). e.base.0)) at)) in
+    let base : d.base.0 ≡ declared_base plan t = sym (ap (λ o. unwrap_or o 0) (slice_get-map
+    (λ (e : ThreadDecl). e.base.0) plan.threads t ∙ ap (option_map (λ (e : ThreadDecl). e.base.0)) at)) in
     record {
       columns = λ i. record {
-        its_record = (ap columns_of new.its_record ∙ (λ j. record (columns_of (made t d.base.0)) { base = base j; effective = base j })) i;
+        its_record = (ap columns_of new.its_record
+            ∙ (λ j. record (columns_of (made t d.base.0)) { base = base j; effective = base j })) i;
         wait = wait_of (new.running i);
         walk = walk_of (new.no_walk i);
         held = hold_in (new.holds_none i);
@@ -62,11 +73,16 @@ shown plan t th d at new =
       };
       one_loan_each = λ l. omega (arith, ap (λ (r : Record). loans_for l r.loans) new.its_record);
       held = record { once = λ l. omega (arith, ap (λ hs. holds_of l hs) new.holds_none); room = new.held_room };
-      marked = record { filled = rw new.unmarked (All-nil (λ (p : Place). IsSome p.object)); kind = no_kind (config_of plan) th.marked_from th.marked new.unmarked; by_signal = λ some. absurd (some new.unmarked) };
+      marked = record {
+        filled = rw new.unmarked (All-nil (λ (p : Place). IsSome p.object));
+        kind = no_kind (config_of plan) th.marked_from th.marked new.unmarked;
+        by_signal = λ some. absurd (some new.unmarked);
+      };
     }
 
 -- the declaration of a thread
-decl_of : (decls : List ThreadDecl) (ths : List Thread) (t : ℕ) → AreNew decls ths → t < length ths → (d : ThreadDecl) × (slice_get decls t ≡ Some d)
+decl_of : (decls : List ThreadDecl) (ths : List Thread) (t : ℕ) → AreNew decls ths → t < length ths
+    → (d : ThreadDecl) × (slice_get decls t ≡ Some d)
 decl_of decls ths t new l =
     elim ((slice_get_cases decls t).1) [
       | inl h ↦ (h.0, h.2)
@@ -92,7 +108,8 @@ module _ (plan : Plan) (m : Machine) (p : IsProper plan) (b : IsBegun plan m) wh
   words : RepresentsWords m.words.items c (λ l. free_word)
   words = record {
     locks = ap (λ (ws : List ℕ). length ws) b.free ∙ length-replicate (length plan.locks) 0;
-    word = λ l i. ap (λ (ws : List ℕ). word_of (get_or ws l 0)) b.free ∙ ap word_of (get_or-replicate (length plan.locks) l 0 0 i);
+    word = λ l i. ap (λ (ws : List ℕ). word_of (get_or ws l 0)) b.free
+        ∙ ap word_of (get_or-replicate (length plan.locks) l 0 0 i);
   }
 
   threads : RepresentsThreads m.threads.items c (start_state c)
@@ -108,8 +125,10 @@ module _ (plan : Plan) (m : Machine) (p : IsProper plan) (b : IsBegun plan m) wh
   its_class l i =
       elim ((slice_get_cases plan.locks l).1) [
         | inl h ↦
-            let is : lock_class plan l ≡ h.0.class.0 = ap (λ o. unwrap_or o 0) (slice_get-map (λ (d : LockDecl). d.class.0) plan.locks l ∙ ap (option_map (λ (d : LockDecl). d.class.0)) h.2) in
-            rw is (subst (λ (d : LockDecl). d.class.0 < length plan.classes) h.3 (All-get_or (λ (d : LockDecl). d.class.0 < length plan.classes) plan.locks l h.0 h.1 p.lock_classes))
+            let is : lock_class plan l ≡ h.0.class.0 = ap (λ o. unwrap_or o 0) (slice_get-map
+            (λ (d : LockDecl). d.class.0) plan.locks l ∙ ap (option_map (λ (d : LockDecl). d.class.0)) h.2) in
+            rw is (subst (λ (d : LockDecl). d.class.0 < length plan.classes) h.3
+            (All-get_or (λ (d : LockDecl). d.class.0 < length plan.classes) plan.locks l h.0 h.1 p.lock_classes))
         | inr h ↦ absurd (omega (arith, h.0, i))
       ]
 
@@ -123,7 +142,10 @@ module _ (plan : Plan) (m : Machine) (p : IsProper plan) (b : IsBegun plan m) wh
     threads = threads;
     history = b.no_entry;
     tables = b.no_key;
-    orders = record { classes = λ l i. subst (λ (g : Graph). lock_class plan l < g.classes) (sym b.no_order) (its_class l i); edges = λ x y. rw b.no_order refl };
+    orders = record {
+      classes = λ l i. subst (λ (g : Graph). lock_class plan l < g.classes) (sym b.no_order) (its_class l i);
+      edges = λ x y. rw b.no_order refl;
+    };
   }
 
   its_aside : (t : ℕ) → t < length plan.threads → IsSomeAnd (progress m t) (IsAsFar plan (start_run c) t)

@@ -45,11 +45,17 @@ module _ (c : Config) (s : State) (t : ℕ) where
   others : (e : Event) → OthersStay s (after_stamp c s t e) t
   unfolding after_stamp
   others (Base p) u ne = λ i. record (thread_in s u) {
-    its_record = record (record_in s u) { base = put_other s.base t p.0 u (λ e. ne (sym e)) i; effective = put_other s.effective t (effective_of c (s.loan t) p.0) u (λ e. ne (sym e)) i };
+    its_record = record (record_in s u) {
+      base = put_other s.base t p.0 u (λ e. ne (sym e)) i;
+      effective = put_other s.effective t (effective_of c (s.loan t) p.0) u (λ e. ne (sym e)) i;
+    };
     chan = waits_on (put_other s.log t (entry_of s t (Base p) ∷ s.log t) u (λ e. ne (sym e)) i);
     cut = has_reversal (put_other s.log t (entry_of s t (Base p) ∷ s.log t) u (λ e. ne (sym e)) i);
   }
-  others e u ne = λ i. record (thread_in s u) { chan = waits_on (put_other s.log t (entry_of s t e ∷ s.log t) u (λ e. ne (sym e)) i); cut = has_reversal (put_other s.log t (entry_of s t e ∷ s.log t) u (λ e. ne (sym e)) i) }
+  others e u ne = λ i. record (thread_in s u) {
+    chan = waits_on (put_other s.log t (entry_of s t e ∷ s.log t) u (λ e. ne (sym e)) i);
+    cut = has_reversal (put_other s.log t (entry_of s t e ∷ s.log t) u (λ e. ne (sym e)) i);
+  }
 
   -- the record behind an event shows the columns behind it
   record_noted : (e : Event) (b r : Record) → Lawful c s → RepresentsRecord b (record_in s t)
@@ -58,21 +64,37 @@ module _ (c : Config) (s : State) (t : ℕ) where
   record_noted (Base p) b r lawful old is =
       let rec = with_other_base c p.0 (none_beyond c s t lawful) old in
       record {
-        columns = ap columns_of is ∙ rec.columns ∙ sym (λ j. record (record_in s t) { base = put_same s.base t p.0 j; effective = put_same s.effective t (effective_of c (s.loan t) p.0) j });
+        columns = ap columns_of is ∙ rec.columns ∙ sym (λ j. record (record_in s t) {
+          base = put_same s.base t p.0 j;
+          effective = put_same s.effective t (effective_of c (s.loan t) p.0) j;
+        });
         one_loan_each = λ l. subst (λ (v : Record). loans_for l v.loans ≤ 1) (sym is) (old.one_loan_each l);
       }
   record_noted e b r lawful old is = subst (λ (v : Record). RepresentsRecord v (record_in s t)) (sym is) old
 
   -- of the other columns only those of the channel and of its being cut change
-  columns_noted : (e : Event) → thread_in (after_stamp c s t e) t ≡ record (thread_in s t) { its_record = record_in (after_stamp c s t e) t; chan = fell_asleep (of_sleep e); cut = is_reversal e || was_cut s t }
+  columns_noted : (e : Event) → thread_in (after_stamp c s t e) t ≡ record (thread_in s t) {
+    its_record = record_in (after_stamp c s t e) t;
+    chan = fell_asleep (of_sleep e);
+    cut = is_reversal e || was_cut s t;
+  }
   unfolding after_stamp
-  columns_noted e = λ i. record (thread_in s t) { its_record = record_in (after_stamp c s t e) t; chan = waits_on (put_same s.log t (entry_of s t e ∷ s.log t) i); cut = has_reversal (put_same s.log t (entry_of s t e ∷ s.log t) i) }
+  columns_noted e = λ i. record (thread_in s t) {
+    its_record = record_in (after_stamp c s t e) t;
+    chan = waits_on (put_same s.log t (entry_of s t e ∷ s.log t) i);
+    cut = has_reversal (put_same s.log t (entry_of s t e ∷ s.log t) i);
+  }
 
-  thread_noted : (e : Event) (old new : List Thread) (h : IsNoted e t old new) → Lawful c s → RepresentsThread h.before c s t → RepresentsThread h.behind c (after_stamp c s t e) t
+  thread_noted : (e : Event) (old new : List Thread) (h : IsNoted e t old new) → Lawful c s
+      → RepresentsThread h.before c s t → RepresentsThread h.behind c (after_stamp c s t e) t
   thread_noted e old new h lawful shows =
       let rec = record_noted e h.before.record.value h.behind.record.value lawful (record_of shows) h.its_record in
       record {
-        columns = (λ i. record ((ap thread_of h.others ∙ (λ j. record (shows.columns j) { its_record = columns_of h.behind.record.value; chan = option_map (λ (d : ChanNo). d.0) h.behind.waits_on; cut = h.behind.cut })) i) {
+        columns = (λ i. record ((ap thread_of h.others ∙ (λ j. record (shows.columns j) {
+          its_record = columns_of h.behind.record.value;
+          chan = option_map (λ (d : ChanNo). d.0) h.behind.waits_on;
+          cut = h.behind.cut;
+        })) i) {
           its_record = rec.columns i;
           chan = h.waits_on i;
           cut = (h.its_cut ∙ ap (λ b. is_reversal e || b) (ap (λ x. x.cut) shows.columns)) i;
@@ -82,27 +104,35 @@ module _ (c : Config) (s : State) (t : ℕ) where
         marked = rw h.others shows.marked;
       }
 
-  noted_all : (e : Event) (old new : List Thread) → IsNoted e t old new → t < c.threads → Lawful c s → RepresentsThreads old c s → RepresentsThreads new c (after_stamp c s t e)
+  noted_all : (e : Event) (old new : List Thread) → IsNoted e t old new → t < c.threads → Lawful c s
+      → RepresentsThreads old c s → RepresentsThreads new c (after_stamp c s t e)
   noted_all e old new h lt lawful shows =
       subst (λ (ths : List Thread). RepresentsThreads ths c (after_stamp c s t e)) (sym h.is)
-      (thread_changed (after_stamp c s t e) h.behind shows lt (thread_noted e old new h lawful (shows.thread t h.before h.was)) (others e))
+      (thread_changed (after_stamp c s t e) h.behind shows lt
+      (thread_noted e old new h lawful (shows.thread t h.before h.was)) (others e))
 
 -- what no column tells of a thread stays
-pub asides_kept : (e : Event) (t : ℕ) (old new : List Thread) → IsNoted e t old new → (u : ℕ) → option_map progress_of (slice_get new u) ≡ option_map progress_of (slice_get old u)
-asides_kept e t old new h u = ap (λ (ths : List Thread). option_map progress_of (slice_get ths u)) h.is ∙ aside_stays _ _ _ h.was (ap progress_of h.others) u
+pub asides_kept : (e : Event) (t : ℕ) (old new : List Thread) → IsNoted e t old new → (u : ℕ)
+    → option_map progress_of (slice_get new u) ≡ option_map progress_of (slice_get old u)
+asides_kept e t old new h u = ap (λ (ths : List Thread). option_map progress_of (slice_get ths u)) h.is
+    ∙ aside_stays _ _ _ h.was (ap progress_of h.others) u
 
 -- 2. The history
 
-history_seen : (log : List Entry) (s : State) (t : ThreadNo) (e : Event) (ticket : ℕ) → log ≡ reverse s.history → ticket ≡ length log → NextIsNew s.next s.history
+history_seen : (log : List Entry) (s : State) (t : ThreadNo) (e : Event) (ticket : ℕ) → log ≡ reverse s.history
+    → ticket ≡ length log → NextIsNew s.next s.history
     → log ++ (record { ticket = ticket; thread = t; event = e }) ∷ [] ≡ reverse (entry_of s t.0 e ∷ s.history)
 unfolding NextIsNew
 history_seen log s t e ticket shows is new =
     let next : ticket ≡ s.next = is ∙ ap length shows ∙ length-reverse s.history ∙ sym new in
-    ap (λ (k : ℕ). log ++ (record { ticket = k; thread = t; event = e }) ∷ []) next ∙ ap (λ es. es ++ entry_of s t.0 e ∷ []) shows ∙ sym (reverse-append (entry_of s t.0 e ∷ []) s.history)
+    ap (λ (k : ℕ). log ++ (record { ticket = k; thread = t; event = e }) ∷ []) next
+    ∙ ap (λ es. es ++ entry_of s t.0 e ∷ []) shows ∙ sym (reverse-append (entry_of s t.0 e ∷ []) s.history)
 
-pub stamped : (m n : Machine) (c : Config) (s : State) (t : ThreadNo) (e : Event) (ticket : ℕ) → n ≡ record m { threads = n.threads; log = n.log; tables = n.tables }
+pub stamped : (m n : Machine) (c : Config) (s : State) (t : ThreadNo) (e : Event) (ticket : ℕ)
+    → n ≡ record m { threads = n.threads; log = n.log; tables = n.tables }
     → IsNoted e t.0 m.threads.items n.threads.items → n.tables.present ≡ edited e m.tables.present
-    → n.log.entries ≡ m.log.entries ++ (record { ticket = ticket; thread = t; event = e }) ∷ [] → ticket ≡ length m.log.entries
+    → n.log.entries ≡ m.log.entries ++ (record { ticket = ticket; thread = t; event = e }) ∷ []
+    → ticket ≡ length m.log.entries
     → Represents c m s → Lawful c s → MayStamp c s t.0 e → Represents c n (after_stamp c s t.0 e)
 unfolding after_stamp tables_of
 stamped m n c s t e ticket same threads tables log is h lawful g = record {

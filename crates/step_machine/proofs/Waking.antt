@@ -9,7 +9,8 @@ use Rattle.lock_objects.specs.declared.wait.Wait.TheVariants as wait
 use Rattle.step_machine.proofs.Kit.{thread_changed, shown_by}
 
 -- where it was woken from a channel it has the lock of its wait to gain
-wants_behind : (c : Config) (w : Wait) (q : QueueName) (cause : Cause) (back : Bool) (wanted : Option ℕ) → wait_of w ≡ Woken q cause → (is_back w || is_some wanted) ≡ is_some (wanted_after c q cause back wanted)
+wants_behind : (c : Config) (w : Wait) (q : QueueName) (cause : Cause) (back : Bool) (wanted : Option ℕ)
+    → wait_of w ≡ Woken q cause → (is_back w || is_some wanted) ≡ is_some (wanted_after c q cause back wanted)
 wants_behind c wait.Running q cause back wanted e = absurd cc
 wants_behind c wait.Queued q cause back wanted e = absurd cc
 wants_behind c (wait.Woken f) q cause back wanted e =
@@ -25,7 +26,8 @@ wants_behind c (wait.Woken f) q cause back wanted e =
 abbrev pub running : Thread → Thread
 running th = record th { wait = wait.Running; wants = is_back th.wait || th.wants }
 
-pub resumed : {m : Machine} {c : Config} {s : State} {t : ℕ} {q : QueueName} {cause : Cause} (th : Thread) → Represents c m s → MayResume c s t q cause → slice_get m.threads.items t ≡ Some th
+pub resumed : {m : Machine} {c : Config} {s : State} {t : ℕ} {q : QueueName} {cause : Cause} (th : Thread)
+    → Represents c m s → MayResume c s t q cause → slice_get m.threads.items t ≡ Some th
     → Represents c (record m { threads = with_item m.threads t (running th) }) (after_resume c s t q cause)
 unfolding after_resume
 resumed {m = m} {c = c} {s = s} {t = t} {q = q} {cause = cause} th h g at =
@@ -36,11 +38,17 @@ resumed {m = m} {c = c} {s = s} {t = t} {q = q} {cause = cause} th h g at =
       columns = λ i. record (old.columns i) {
         wait = sym (put_same s.wait t Running) i;
         wants = (ap (λ b. is_back th.wait || b) (ap (λ x. x.wants) old.columns)
-            ∙ wants_behind c th.wait q cause (is_taking_back (s.log t)) (s.wanted t) (ap (λ x. x.wait) old.columns ∙ g.woken)
-            ∙ sym (ap is_some (put_same s.wanted t (wanted_after c q cause (is_taking_back (s.log t)) (s.wanted t))))) i;
+            ∙ wants_behind c th.wait q cause (is_taking_back (s.log t)) (s.wanted t)
+            (ap (λ x. x.wait) old.columns ∙ g.woken)
+            ∙ sym (ap is_some (put_same s.wanted t (wanted_after c q cause (is_taking_back (s.log t)) (s.wanted t)))))
+            i;
       };
       one_loan_each = old.one_loan_each;
       held = old.held;
       marked = old.marked;
     })
-    (λ u d i. record (thread_in s u) { wait = put_other s.wait t Running u (λ e. d (sym e)) i; wants = is_some (put_other s.wanted t (wanted_after c q cause (is_taking_back (s.log t)) (s.wanted t)) u (λ e. d (sym e)) i) }))
+    (λ u d i. record (thread_in s u) {
+      wait = put_other s.wait t Running u (λ e. d (sym e)) i;
+      wants = is_some
+          (put_other s.wanted t (wanted_after c q cause (is_taking_back (s.log t)) (s.wanted t)) u (λ e. d (sym e)) i);
+    }))

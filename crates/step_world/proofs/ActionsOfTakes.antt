@@ -45,9 +45,11 @@ in_order f hs =
     go (x ∷ xs) = ap (λ ys. f x.l.0 ∷ ys) (go xs)
 
 -- what is true of each lock of a list is true of its items
-each_lock : (n : ℕ) (f : ℕ → ℕ) (hs : List Held) → ((l : ℕ) (mode : Mode) → hold_in hs l ≡ Holds mode → f l < n) → All (λ k. k < n) (map (λ h. f h.l.0) hs)
+each_lock : (n : ℕ) (f : ℕ → ℕ) (hs : List Held) → ((l : ℕ) (mode : Mode) → hold_in hs l ≡ Holds mode → f l < n)
+    → All (λ k. k < n) (map (λ h. f h.l.0) hs)
 each_lock n f [] a = All-nil (λ k. k < n)
-each_lock n f (h ∷ hs) a = All-cons (λ k. k < n) (f h.l.0) (map (λ x. f x.l.0) hs) (a h.l.0 h.mode first) (each_lock n f hs rest)
+each_lock n f (h ∷ hs) a =
+    All-cons (λ k. k < n) (f h.l.0) (map (λ x. f x.l.0) hs) (a h.l.0 h.mode first) (each_lock n f hs rest)
   where
     first : hold_in (h ∷ hs) h.l.0 ≡ Holds h.mode
     first = rw (eq-eqb h.l.0 h.l.0 refl)
@@ -59,15 +61,18 @@ each_lock n f (h ∷ hs) a = All-cons (λ k. k < n) (f h.l.0) (map (λ x. f x.l.
     ]
 
 -- so of the classes that were written
-pub each_class : (n : ℕ) (cs : List ClassNo) (ks : List ℕ) → numbers_of cs ≡ ks → All (λ k. k < n) ks → All (λ c. c.0 < n) cs
+pub each_class : (n : ℕ) (cs : List ClassNo) (ks : List ℕ) → numbers_of cs ≡ ks → All (λ k. k < n) ks
+    → All (λ c. c.0 < n) cs
 each_class n [] ks e a = All-nil (λ (c : ClassNo). c.0 < n)
 each_class n (c ∷ cs) [] e a = absurd cc
 each_class n (c ∷ cs) (k ∷ ks) e a =
     let first : k ≡ c.0 = cc in
     let rest : numbers_of cs ≡ ks = cc in
-    All-cons (λ (c : ClassNo). c.0 < n) c cs (subst (λ j. j < n) first (All-head (λ j. j < n) k ks a)) (each_class n cs ks rest (All-tail (λ j. j < n) k ks a))
+    All-cons (λ (c : ClassNo). c.0 < n) c cs (subst (λ j. j < n) first (All-head (λ j. j < n) k ks a))
+    (each_class n cs ks rest (All-tail (λ j. j < n) k ks a))
 
-module _ {plan : Plan} {m : Machine} {t : ℕ} {r : Run} (p : IsProper plan) (lt : t < length plan.threads) (h : IsRunOf plan m r) where
+module _ {plan : Plan} {m : Machine} {t : ℕ} {r : Run} (p : IsProper plan) (lt : t < length plan.threads)
+    (h : IsRunOf plan m r) where
   abbrev c : Config
   c = config_of plan
 
@@ -82,13 +87,16 @@ module _ {plan : Plan} {m : Machine} {t : ℕ} {r : Run} (p : IsProper plan) (lt
     its_classes = map (λ h. lock_class plan h.l.0) th.held.items
 
     pub classes_are : its_classes ≡ classes_held c s t
-    classes_are = sym (ap (λ (hs : List HeldLock). reverse (map (λ h. c.class h.lock) hs)) (h.on_track.listed t ∙ ap gained_order (sym held_is)) ∙ in_order c.class th.held.items)
+    classes_are = sym (ap (λ (hs : List HeldLock). reverse (map (λ h. c.class h.lock) hs))
+        (h.on_track.listed t ∙ ap gained_order (sym held_is)) ∙ in_order c.class th.held.items)
 
     pub classes_within : All (λ k. k < m.orders.classes) its_classes
     classes_within = each_lock m.orders.classes c.class th.held.items
-        (λ l mode e. h.shows.shows.orders.classes l (are_locks plan m r t th p h lt is l mode (subst (λ (hs : List Held). hold_in hs l ≡ Holds mode) held_is e)))
+        (λ l mode e. h.shows.shows.orders.classes l
+        (are_locks plan m r t th p h lt is l mode (subst (λ (hs : List Held). hold_in hs l ≡ Holds mode) held_is e)))
 
-    module _ (l : LockNo) (cs : List ClassNo) (class : ClassNo) (written : numbers_of cs ≡ its_classes) (its : class.0 ≡ lock_class plan l.0) where
+    module _ (l : LockNo) (cs : List ClassNo) (class : ClassNo) (written : numbers_of cs ≡ its_classes)
+        (its : class.0 ≡ lock_class plan l.0) where
       pub are_classes : AreClasses c cs class s t l.0
       are_classes = record { held_are = written ∙ classes_are; class_is = its }
 
@@ -96,14 +104,19 @@ module _ {plan : Plan} {m : Machine} {t : ℕ} {r : Run} (p : IsProper plan) (lt
       within = each_class m.orders.classes cs its_classes written classes_within
 
       -- by the graph the lock is admitted,
-      pub admitted_so : IsAdmitted m.orders.edges (numbers_of cs) class.0 → IsAdmitted s.edges (classes_held c s t) (c.class l.0)
+      pub admitted_so : IsAdmitted m.orders.edges (numbers_of cs) class.0
+          → IsAdmitted s.edges (classes_held c s t) (c.class l.0)
       admitted_so a = same_admitted m.orders.edges s.edges h.shows.shows.orders.edges (classes_held c s t) (c.class l.0)
-          (subst (λ k. IsAdmitted m.orders.edges (classes_held c s t) k) its (subst (λ ks. IsAdmitted m.orders.edges ks class.0) (written ∙ classes_are) a))
+          (subst (λ k. IsAdmitted m.orders.edges (classes_held c s t) k) its
+          (subst (λ ks. IsAdmitted m.orders.edges ks class.0) (written ∙ classes_are) a))
 
       -- or refused
-      pub refused_so : (k : ℕ) → IsFirstToForbid m.orders.edges (numbers_of cs) class.0 k → first_against plan r t l ≡ Some k
-      refused_so k f = found_first s.edges (c.class l.0) (classes_held c s t) k (same_first m.orders.edges s.edges h.shows.shows.orders.edges (classes_held c s t) (c.class l.0) k
-          (subst (λ j. IsFirstToForbid m.orders.edges (classes_held c s t) j k) its (subst (λ ks. IsFirstToForbid m.orders.edges ks class.0 k) (written ∙ classes_are) f)))
+      pub refused_so : (k : ℕ) → IsFirstToForbid m.orders.edges (numbers_of cs) class.0 k
+          → first_against plan r t l ≡ Some k
+      refused_so k f = found_first s.edges (c.class l.0) (classes_held c s t) k
+          (same_first m.orders.edges s.edges h.shows.shows.orders.edges (classes_held c s t) (c.class l.0) k
+          (subst (λ j. IsFirstToForbid m.orders.edges (classes_held c s t) j k) its
+          (subst (λ ks. IsFirstToForbid m.orders.edges ks class.0 k) (written ∙ classes_are) f)))
 
     -- where the thread has a lock to gain, it takes that; else it begins to take it
     module _ {l : LockNo} {mode : Mode} (at : IsAtOperation plan r t (Some (Take l mode))) where
@@ -134,7 +147,9 @@ module _ {plan : Plan} {m : Machine} {t : ℕ} {r : Run} (p : IsProper plan) (lt
         rw (held_is is, up.uncut, up.no_wait) (held_few plan p t (r.next_op t))
 
     lock_within : l.0 < length plan.locks
-    lock_within = let f = fit plan r t p (Take l mode) b.at.next in (gain_passes plan l mode false _ _ f.passes f.behind).lock
+    lock_within =
+        let f = fit plan r t p (Take l mode) b.at.next in
+        (gain_passes plan l mode false _ _ f.passes f.behind).lock
 
     pub class_within : {class : ClassNo} → class.0 ≡ lock_class plan l.0 → class.0 < m.orders.classes
     class_within its = rw its (h.shows.shows.orders.classes l.0 lock_within)
@@ -149,7 +164,8 @@ module _ {plan : Plan} {m : Machine} {t : ℕ} {r : Run} (p : IsProper plan) (lt
     none_against a = found_none s.edges (c.class l.0) (classes_held c s t) a
 
     -- then the machine represents the run behind the admission
-    pub admission : {n : Machine} → admits_it → Represents c n (after c s (Admits t l.0)) → KeepsProgress m n → KeepsBooks m n → IsAdmission plan r t l n
+    pub admission : {n : Machine} → admits_it → Represents c n (after c s (Admits t l.0)) → KeepsProgress m n
+        → KeepsBooks m n → IsAdmission plan r t l n
     unfolding after_admit
     admission {n} a shows kept books = record {
       none_against = none_against a;
@@ -157,7 +173,9 @@ module _ {plan : Plan} {m : Machine} {t : ℕ} {r : Run} (p : IsProper plan) (lt
         shows = record {
           shows = shows;
           progress = λ u lu. subst (λ o. IsSomeAnd o (IsAsFar plan (admitted plan r t l) u)) (sym (kept u))
-              (so_is (progress m u) (λ x. still_as_far (record { next_op = refl; held = refl; listed = refl; log = refl })) (h.shows.progress u lu));
+              (so_is (progress m u)
+              (λ x. still_as_far (record { next_op = refl; held = refl; listed = refl; log = refl }))
+              (h.shows.progress u lu));
           room = same_room m n plan (of_books books) h.shows.room;
           keys = same_keys m n plan (of_books books) h.shows.keys;
         };
@@ -172,7 +190,8 @@ is_did (Did kind) = true
 is_did Idle = false
 is_did Ended = false
 
-module _ {plan : Plan} {t : ℕ} {r : Run} {l : LockNo} {mode : Mode} (p : IsProper plan) (lt : t < length plan.threads) (b : BeginsTake plan r t l mode) where
+module _ {plan : Plan} {t : ℕ} {r : Run} {l : LockNo} {mode : Mode} (p : IsProper plan) (lt : t < length plan.threads)
+    (b : BeginsTake plan r t l mode) where
   abbrev k : Config
   k = config_of plan
 
@@ -187,7 +206,8 @@ module _ {plan : Plan} {t : ℕ} {r : Run} {l : LockNo} {mode : Mode} (p : IsPro
 
   -- its turn is a take's,
   turn_then : turn_of plan then t ≡ takes k then t l mode noted
-  turn_then = makes_operation plan then t (Take l mode) (at_take plan r t l mode b.at) ∙ rw (admitted_wants plan r t l) refl
+  turn_then = makes_operation plan then t (Take l mode) (at_take plan r t l mode b.at)
+      ∙ rw (admitted_wants plan r t l) refl
 
   -- which does something
   moving : is_did (takes k then t l mode noted).answer ≡ true
@@ -197,7 +217,8 @@ module _ {plan : Plan} {t : ℕ} {r : Run} {l : LockNo} {mode : Mode} (p : IsPro
       gain = ends then t kinds.Gain (Gains t l.0 mode false ∷ Stamps t noted ∷ [])
 
       claim : Action
-      claim = ends then t kinds.Claim (Claims t l.0 (unwrap_or (then.state.head (lock_queue l.0)) t) false ∷ Stamps t noted ∷ [])
+      claim = ends then t kinds.Claim
+          (Claims t l.0 (unwrap_or (then.state.head (lock_queue l.0)) t) false ∷ Stamps t noted ∷ [])
 
       go : (a b : Bool) → is_did (cond a (cond b gain claim) (blocks k then t l mode)).answer ≡ true
       go true true = refl
@@ -212,11 +233,13 @@ module _ {plan : Plan} {t : ℕ} {r : Run} {l : LockNo} {mode : Mode} (p : IsPro
         | inr x ↦ let z = sym did ∙ ap is_did x in cc
       ]
 
-  pub moves : {m : Machine} (result : Made) (old new : Machine) → IsMade plan then t m result → KeepsWhereIdle (answer_of result) old new
+  pub moves : {m : Machine} (result : Made) (old new : Machine) → IsMade plan then t m result
+      → KeepsWhereIdle (answer_of result) old new
   moves result old new g i = absurd (not_idle (answer_of result) (sym (ap (λ (x : Action). x.answer) g.action)) i)
 
   -- and with the admission before its steps that of the first run
-  module _ {m : Machine} (result : Made) (none : first_against plan r t l ≡ None) (g : IsMade plan then t m result) where
+  module _ {m : Machine} (result : Made) (none : first_against plan r t l ≡ None)
+      (g : IsMade plan then t m result) where
     action_is : turn_of plan r t ≡ action_of result (r.next_op t) (Admits t l.0 ∷ g.steps)
     unfolding after_admit
     action_is = makes_operation plan r t (Take l mode) b.at ∙ rw (b.wants, none) refl
@@ -242,7 +265,9 @@ module _ {plan : Plan} {t : ℕ} {r : Run} {l : LockNo} {mode : Mode} (p : IsPro
 
 -- 4. Or the lock is refused
 
-module _ {plan : Plan} {m : Machine} {t : ℕ} {r : Run} {l : LockNo} {mode : Mode} (p : IsProper plan) (lt : t < length plan.threads) (h : IsRunOf plan m r) (b : BeginsTake plan r t l mode) (class : ClassNo) (against : first_against plan r t l ≡ Some class.0) where
+module _ {plan : Plan} {m : Machine} {t : ℕ} {r : Run} {l : LockNo} {mode : Mode} (p : IsProper plan)
+    (lt : t < length plan.threads) (h : IsRunOf plan m r) (b : BeginsTake plan r t l mode) (class : ClassNo)
+    (against : first_against plan r t l ≡ Some class.0) where
   pub refused_action : Begins plan r t m (does kinds.Note (refuses t l class))
   refused_action = begins p lt h (makes_operation plan r t (Take l mode) b.at ∙ rw (b.wants, against) refl)
 
@@ -254,7 +279,8 @@ module _ {plan : Plan} {m : Machine} {t : ℕ} {r : Run} {l : LockNo} {mode : Mo
       let x = refused_action in
       let up = is_awake plan r t h.on_track (Take l mode) b.at refl in
       let behind : State = after_refuse r.state t l.0 class.0 in
-      made (Does (Did kinds.Note)) x now (behind_cut (cut_behind (config_of plan) behind t (event.Reversed l class)) (waits_behind (config_of plan) behind t (event.Reversed l class)) x.as_far.next_op
+      made (Does (Did kinds.Note)) x now (behind_cut (cut_behind (config_of plan) behind t (event.Reversed l class))
+      (waits_behind (config_of plan) behind t (event.Reversed l class)) x.as_far.next_op
       (x.as_far.held ∙ rw (up.uncut, up.no_wait) refl ∙ sym (orders.has_all plan r t l mode p h.on_track lt b)))
 
   -- by a machine that is the same
@@ -266,7 +292,8 @@ module _ {plan : Plan} {m : Machine} {t : ℕ} {r : Run} {l : LockNo} {mode : Mo
     pub room_for_refusal : 1 ≤ old.log.spare
     room_for_refusal = subst (λ (x : Machine). 1 ≤ x.log.spare) (sym same) (has_room p lt h b.at)
 
-    pub refused : {n : Machine} → MakesAllWhere (λ d. Unit {0}) old n (refuses t l class) → KeepsProgress old n → SameRoom old n → IsMade plan r t n (Does (Did kinds.Note))
+    pub refused : {n : Machine} → MakesAllWhere (λ d. Unit {0}) old n (refuses t l class) → KeepsProgress old n
+        → SameRoom old n → IsMade plan r t n (Does (Did kinds.Note))
     refused {n} makes kept room =
         refused_then (made_all refused_action.turning tt
         (subst (λ (x : Machine). MakesAllWhere (λ d. Unit {0}) x n (refuses t l class)) same makes)

@@ -33,7 +33,8 @@ some_is f e = grind arith
 none_is : {A : Type 0} (o : Option A) → is_some o ≡ false → o ≡ None
 none_is f e = grind arith
 
-module _ {plan : Plan} {m : Machine} {r : Run} {th : Thread} (t : ℕ) (h : IsRunOf plan m r) (is : slice_get m.threads.items t ≡ Some th) where
+module _ {plan : Plan} {m : Machine} {r : Run} {th : Thread} (t : ℕ) (h : IsRunOf plan m r)
+    (is : slice_get m.threads.items t ≡ Some th) where
   chan_read : option_map (λ (d : ChanNo). d.0) th.waits_on ≡ waits_on (r.state.log t)
   chan_read = ap (λ x. x.chan) (h.shows.shows.threads.thread t th is).columns
 
@@ -56,14 +57,18 @@ module _ {plan : Plan} {m : Machine} {r : Run} {th : Thread} (t : ℕ) (h : IsRu
 
   -- or of one, as long as it is held
   pub owes_its : {d : ChanNo} {l : LockNo} → th.waits_on ≡ Some d → l.0 ≡ (config_of plan).chan_lock d.0
-      → option_map (λ (x : LockNo). x.0) (then_some (not (is_unheld (hold_in th.held.items l.0))) l) ≡ owed_release (config_of plan) r.state t
-  owes_its {d} {l} e same = rw (sym chan_read ∙ ap (option_map (λ (d : ChanNo). d.0)) e, ← same, hold_read l.0) (go (r.state.held t l.0))
+      → option_map (λ (x : LockNo). x.0) (then_some (not (is_unheld (hold_in th.held.items l.0))) l)
+      ≡ owed_release (config_of plan) r.state t
+  owes_its {d} {l} e same =
+      rw (sym chan_read ∙ ap (option_map (λ (d : ChanNo). d.0)) e, ← same, hold_read l.0) (go (r.state.held t l.0))
     where
-      go : (x : Hold) → option_map (λ (y : LockNo). y.0) (then_some (not (is_unheld x)) l) ≡ cond (is_unheld x) None (Some l.0)
+      go : (x : Hold)
+          → option_map (λ (y : LockNo). y.0) (then_some (not (is_unheld x)) l) ≡ cond (is_unheld x) None (Some l.0)
       go NotHeld = refl
       go (Holds mode) = refl
 
-module _ {plan : Plan} {m : Machine} {t : ℕ} {r : Run} (p : IsProper plan) (lt : t < length plan.threads) (h : IsRunOf plan m r) where
+module _ {plan : Plan} {m : Machine} {t : ℕ} {r : Run} (p : IsProper plan) (lt : t < length plan.threads)
+    (h : IsRunOf plan m r) where
   abbrev c : Config
   c = config_of plan
 
@@ -95,7 +100,8 @@ module _ {plan : Plan} {m : Machine} {t : ℕ} {r : Run} (p : IsProper plan) (lt
     n = after c s its_back.1
 
     released : n.held t l ≡ NotHeld
-    released = ap (λ (f : ℕ → ℕ → Hold). f t l) (back_puts c s t l mode) ∙ put_at_own s.held t l NotHeld l ∙ rw (eq-eqb l l refl) refl
+    released = ap (λ (f : ℕ → ℕ → Hold). f t l) (back_puts c s t l mode) ∙ put_at_own s.held t l NotHeld l
+        ∙ rw (eq-eqb l l refl) refl
 
     waits_still : lock_of_wait c n t ≡ Some l
     waits_still = ap (λ es. option_map c.chan_lock (waits_on es)) (back_keeps_log c s t l mode) ∙ waits
@@ -111,13 +117,15 @@ module _ {plan : Plan} {m : Machine} {t : ℕ} {r : Run} (p : IsProper plan) (lt
     uncut_still = ap has_reversal (back_keeps_log c s t l mode) ∙ uncut
 
     -- its wait's lock is the one that it has released last
-    gone_back : (a : Progress) → IsAsFar plan r t a → IsBehind plan r (run_after plan r t (does its_back.0 (its_back.1 ∷ []))) t (with_released l a)
+    gone_back : (a : Progress) → IsAsFar plan r t a
+        → IsBehind plan r (run_after plan r t (does its_back.0 (its_back.1 ∷ []))) t (with_released l a)
     gone_back a far = record {
       next_op = far.next_op;
       as_far = record {
         next_op = refl;
         held = ap (without_lock l) held ∙ rw (uncut_still, waits_still, released) refl;
-        left = λ j w e. subst (λ i. hold_in (before plan r t) i ≡ Holds (with_released l a).left) (same_Some l j (sym waits_still ∙ w)) left_so;
+        left = λ j w e. subst (λ i. hold_in (before plan r t) i ≡ Holds (with_released l a).left)
+            (same_Some l j (sym waits_still ∙ w)) left_so;
       };
     }
       where
@@ -128,9 +136,11 @@ module _ {plan : Plan} {m : Machine} {t : ℕ} {r : Run} (p : IsProper plan) (lt
         held_so = sym (releases.holds_before plan r t p h.on_track lt l d.unmarked owed l) ∙ holds
 
         left_so : hold_in (before plan r t) l ≡ Holds (with_released l a).left
-        left_so = held_so ∙ ap (λ x. Holds (mode_left_by x a.left)) (sym (ap (λ (hs : List Held). hold_in hs l) held ∙ held_so))
+        left_so = held_so
+            ∙ ap (λ x. Holds (mode_left_by x a.left)) (sym (ap (λ (hs : List Held). hold_in hs l) held ∙ held_so))
 
-    pub gave_up : {x : Machine} {kind : StepKind} → GivesBack plan m x t l kind → ChangesProgress m x t (with_released l) → KeepsBooks m x → IsTurn plan r t x (Did kind)
+    pub gave_up : {x : Machine} {kind : StepKind} → GivesBack plan m x t l kind
+        → ChangesProgress m x t (with_released l) → KeepsBooks m x → IsTurn plan r t x (Did kind)
     gave_up {x} gave moves books =
         let b = gives_up_action in
         subst (λ (y : StepKind). IsTurn plan r t x (Did y)) (sym (kind_is l mode b.turning gave))
@@ -150,15 +160,20 @@ module _ {plan : Plan} {m : Machine} {t : ℕ} {r : Run} (p : IsProper plan) (lt
       left_is on =
           let wait : lock_of_wait c s t ≡ Some (c.chan_lock d.0) = ap (option_map c.chan_lock) on in
           let own = that_is (progress m t) (h.shows.progress t lt) in
-          let far : IsAsFar plan r t (progress_of th) = subst (IsAsFar plan r t) (same_Some own.0 (progress_of th) (sym own.1 ∙ ap (option_map progress_of) is)) own.2 in
-          let unheld = given_up (s.held t) (c.chan_lock d.0) (ap (to_release (s.held t)) (sym wait) ∙ at.free.released) in
+          let far : IsAsFar plan r t (progress_of th) = subst (IsAsFar plan r t)
+          (same_Some own.0 (progress_of th) (sym own.1 ∙ ap (option_map progress_of) is)) own.2 in
+          let unheld = given_up (s.held t) (c.chan_lock d.0)
+          (ap (to_release (s.held t)) (sym wait) ∙ at.free.released) in
           sym (ap mode_held (h.on_track.left t (c.chan_lock d.0) wait ∙ far.left (c.chan_lock d.0) wait unheld))
 
-      pub takes_back : {l : LockNo} → is_some th.waits_on ≡ true → l.0 ≡ c.chan_lock d.0 → IsTake plan r t l th.left (event.Woke d)
+      pub takes_back : {l : LockNo} → is_some th.waits_on ≡ true → l.0 ≡ c.chan_lock d.0
+          → IsTake plan r t l th.left (event.Woke d)
       takes_back {l} w same =
           let on = its_chan (some_is th.waits_on w).1 in
-          let it : IsTake plan r t (lock_with plan d) (mode_left plan r t d) (event.Woke d) = is_take p lt h (back d d.0 on) at in
-          subst (λ x. IsTake plan r t l x (event.Woke d)) (sym (left_is on)) (subst (λ (i : ℕ). IsTake plan r t (record { 0 = i }) (mode_left plan r t d) (event.Woke d)) (sym same) it)
+          let it : IsTake plan r t (lock_with plan d) (mode_left plan r t d) (event.Woke d) = is_take p lt h
+          (back d d.0 on) at in
+          subst (λ x. IsTake plan r t l x (event.Woke d)) (sym (left_is on))
+          (subst (λ (i : ℕ). IsTake plan r t (record { 0 = i }) (mode_left plan r t d) (event.Woke d)) (sym same) it)
 
       -- 4. A wait's first turn
 
@@ -194,17 +209,20 @@ module _ {plan : Plan} {m : Machine} {t : ℕ} {r : Run} (p : IsProper plan) (lt
         holds_its : s.held t (c.chan_lock d.0) ≢ NotHeld
         holds_its = sleeps.holds_it plan r t p h.on_track lt d at up
 
-        gone_to_sleep : (a : Progress) → IsAsFar plan r t a → IsBehind plan r (run_after plan r t (does kinds.Add sleeping)) t a
+        gone_to_sleep : (a : Progress) → IsAsFar plan r t a
+            → IsBehind plan r (run_after plan r t (does kinds.Add sleeping)) t a
         gone_to_sleep a far = record {
           next_op = far.next_op;
           as_far = record {
             next_op = refl;
             held =
                 let before_is : a.held ≡ before plan r t = far.held ∙ rw (at.uncut, up) refl in
-                let then : held_now plan (run_after plan r t (does kinds.Add sleeping)) t ≡ before plan r t = rw (uncut_then, log_then, held_then, its_mode (s.held t (c.chan_lock d.0)) holds_its) refl in
+                let then : held_now plan (run_after plan r t (does kinds.Add sleeping)) t ≡ before plan r t =
+                rw (uncut_then, log_then, held_then, its_mode (s.held t (c.chan_lock d.0)) holds_its) refl in
                 before_is ∙ sym then;
             left = λ l w e.
-                let same : c.chan_lock d.0 ≡ l = same_Some (c.chan_lock d.0) l (sym (ap (option_map c.chan_lock) log_then) ∙ w) in
+                let same : c.chan_lock d.0
+                ≡ l = same_Some (c.chan_lock d.0) l (sym (ap (option_map c.chan_lock) log_then) ∙ w) in
                 absurd (holds_its (ap (s.held t) same ∙ sym (ap (λ f. f l) held_then) ∙ e));
           };
         }
@@ -225,8 +243,10 @@ module _ {plan : Plan} {m : Machine} {t : ℕ} {r : Run} (p : IsProper plan) (lt
   room_for_wake d true at = has_room p lt h at
   room_for_wake d false at = has_room p lt h at
 
-  module _ (d : ChanNo) (all : Bool) {noted : Event} (woken : ℕ) (w : IsWake plan r t d all) (e : noted ≡ noting d all woken)
-      (bits : woken ≡ bits_of_threads (map (λ (x : Waiter). x.thread) (taken_off all (s.lists (chan_queue d.0)).exclusive))) where
+  module _ (d : ChanNo) (all : Bool) {noted : Event} (woken : ℕ) (w : IsWake plan r t d all)
+      (e : noted ≡ noting d all woken)
+      (bits : woken
+      ≡ bits_of_threads (map (λ (x : Waiter). x.thread) (taken_off all (s.lists (chan_queue d.0)).exclusive))) where
     abbrev waking : List Step
     waking = Wakes t d.0 all ∷ Stamps t noted ∷ []
 
@@ -235,7 +255,9 @@ module _ {plan : Plan} {m : Machine} {t : ℕ} {r : Run} (p : IsProper plan) (lt
         (go all w ∙ ap (λ x. ends r t kinds.Wake (Wakes t d.0 all ∷ Stamps t x ∷ []))
         (ap (noting d all) (sym bits) ∙ sym e))
       where
-        go : (b : Bool) → IsWake plan r t d b → turn_of plan r t ≡ ends r t kinds.Wake (Wakes t d.0 b ∷ Stamps t (noting d b (bits_of_threads (map (λ (x : Waiter). x.thread) (taken_off b (s.lists (chan_queue d.0)).exclusive)))) ∷ [])
+        go : (b : Bool) → IsWake plan r t d b
+            → turn_of plan r t ≡ ends r t kinds.Wake (Wakes t d.0 b ∷ Stamps t (noting d b
+            (bits_of_threads (map (λ (x : Waiter). x.thread) (taken_off b (s.lists (chan_queue d.0)).exclusive)))) ∷ [])
         go true at = makes_operation plan r t (WakeAll d) at
         go false at = makes_operation plan r t (WakeOne d) at
 
@@ -244,13 +266,17 @@ module _ {plan : Plan} {m : Machine} {t : ℕ} {r : Run} (p : IsProper plan) (lt
     leaves = go all w
       where
         go : (b : Bool) → IsWake plan r t d b → (s.wait t ≡ Running) × IsAwake s t × (before plan r t ≡ behind plan r t)
-        go true at = (at.running, is_awake plan r t h.on_track (WakeAll d) at refl, (fit plan r t p (WakeAll d) at.next).behind)
-        go false at = (at.running, is_awake plan r t h.on_track (WakeOne d) at refl, (fit plan r t p (WakeOne d) at.next).behind)
+        go true at =
+            (at.running, is_awake plan r t h.on_track (WakeAll d) at refl, (fit plan r t p (WakeAll d) at.next).behind)
+        go false at =
+            (at.running, is_awake plan r t h.on_track (WakeOne d) at refl, (fit plan r t p (WakeOne d) at.next).behind)
 
     pub woke : {x : Machine} → IsTurning plan r t x (after_all c s waking) wakes_action.at []
         → IsMade plan r t x (Ends kinds.Wake)
     unfolding after_wake
     woke now =
         let b = wakes_action in
-        let up = awake_behind c (after_wake s t d.0 all) t noted b.turning.may.1.0 leaves.0 (h.on_track.unnoted t) leaves.1.uncut in
-        made_behind (Ends kinds.Wake) (suc (r.next_op t)) refl b now up b.as_far.next_op (b.as_far.held ∙ rw (leaves.1.uncut, leaves.1.no_wait) refl ∙ leaves.2)
+        let up = awake_behind c (after_wake s t d.0 all) t noted b.turning.may.1.0 leaves.0
+        (h.on_track.unnoted t) leaves.1.uncut in
+        made_behind (Ends kinds.Wake) (suc (r.next_op t)) refl b now up b.as_far.next_op
+        (b.as_far.held ∙ rw (leaves.1.uncut, leaves.1.no_wait) refl ∙ leaves.2)

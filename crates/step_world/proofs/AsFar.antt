@@ -40,12 +40,28 @@ module _ {plan : Plan} {r n : Run} {t : ℕ} {a : Progress} where
   behind_still e h = let f = still_as_far e h in record { next_op = h.next_op; as_far = assumption f }
 
   -- one that has made it, and waits for nothing,
-  pub behind_made : IsAwake n.state t → a.next_op ≡ r.next_op t → a.held ≡ held_at plan t (n.next_op t) → IsBehind plan r n t a
-  behind_made up next held = record { next_op = next; as_far = record { next_op = refl; held = rw (up.uncut, up.no_wait) held; left = λ l e. absurd (let z : None ≡ Some l = rw up.no_wait at e in cc) } }
+  pub behind_made : IsAwake n.state t → a.next_op ≡ r.next_op t → a.held ≡ held_at plan t (n.next_op t)
+      → IsBehind plan r n t a
+  behind_made up next held = record {
+    next_op = next;
+    as_far = record {
+      next_op = refl;
+      held = rw (up.uncut, up.no_wait) held;
+      left = λ l e. absurd (let z : None ≡ Some l = rw up.no_wait at e in cc);
+    };
+  }
 
   -- and one that was cut
-  pub behind_cut : was_cut n.state t ≡ true → waits_on (n.state.log t) ≡ None → a.next_op ≡ r.next_op t → a.held ≡ take (length (n.state.held_locks t)) (held_at plan t (n.next_op t)) → IsBehind plan r n t a
-  behind_cut cut none next held = record { next_op = next; as_far = record { next_op = refl; held = rw cut held; left = λ l e. absurd (let z : None ≡ Some l = rw none at e in cc) } }
+  pub behind_cut : was_cut n.state t ≡ true → waits_on (n.state.log t) ≡ None → a.next_op ≡ r.next_op t
+      → a.held ≡ take (length (n.state.held_locks t)) (held_at plan t (n.next_op t)) → IsBehind plan r n t a
+  behind_cut cut none next held = record {
+    next_op = next;
+    as_far = record {
+      next_op = refl;
+      held = rw cut held;
+      left = λ l e. absurd (let z : None ≡ Some l = rw none at e in cc);
+    };
+  }
 
 -- of the other threads nothing changes that says it
 pub others_still : (plan : Plan) (r : Run) (t u : ℕ) → u ≢ t → SameFar r (run_behind plan r t) u
@@ -59,24 +75,34 @@ others_still plan r t u n =
 -- 3. Entries
 
 -- on which channel a thread waits behind its entry
-pub waits_behind : (c : Config) (s : State) (t : ℕ) (e : Event) → waits_on ((after c s (Stamps t e)).log t) ≡ fell_asleep (of_sleep e)
+pub waits_behind : (c : Config) (s : State) (t : ℕ) (e : Event)
+    → waits_on ((after c s (Stamps t e)).log t) ≡ fell_asleep (of_sleep e)
 unfolding after_stamp
-waits_behind c s t e = let at : (after_stamp c s t e).log t ≡ _ = put_same s.log t (entry_of s t e ∷ s.log t) in rw at refl
+waits_behind c s t e =
+    let at : (after_stamp c s t e).log t ≡ _ = put_same s.log t (entry_of s t e ∷ s.log t) in
+    rw at refl
 
 -- and whether it was cut
-pub cut_behind : (c : Config) (s : State) (t : ℕ) (e : Event) → was_cut (after c s (Stamps t e)) t ≡ (is_reversal e || was_cut s t)
+pub cut_behind : (c : Config) (s : State) (t : ℕ) (e : Event)
+    → was_cut (after c s (Stamps t e)) t ≡ (is_reversal e || was_cut s t)
 unfolding after_stamp
 cut_behind c s t e = ap has_reversal (put_same s.log t (entry_of s t e ∷ s.log t))
 
 -- a running thread's entry is not that it goes to sleep
-pub runs_on : (c : Config) (s : State) (t : ℕ) (e : Event) → MayStamp c s t e → s.wait t ≡ Running → fell_asleep (of_sleep e) ≡ None
+pub runs_on : (c : Config) (s : State) (t : ℕ) (e : Event) → MayStamp c s t e → s.wait t ≡ Running
+    → fell_asleep (of_sleep e) ≡ None
 runs_on c s t other g w = grind arith
 
 -- and where it has nothing to note it isn't the refusal of a take
-none_refused : (c : Config) (s : State) (t : ℕ) (e : Event) → MayStamp c s t e → s.noted t ≡ None → is_reversal e ≡ false
+none_refused : (c : Config) (s : State) (t : ℕ) (e : Event) → MayStamp c s t e → s.noted t ≡ None
+    → is_reversal e ≡ false
 none_refused c s t other g none = grind arith
 
 -- so it is awake
-pub awake_behind : (c : Config) (s : State) (t : ℕ) (e : Event) → MayStamp c s t e → s.wait t ≡ Running → s.noted t ≡ None → was_cut s t ≡ false → IsAwake (after c s (Stamps t e)) t
+pub awake_behind : (c : Config) (s : State) (t : ℕ) (e : Event) → MayStamp c s t e → s.wait t ≡ Running
+    → s.noted t ≡ None → was_cut s t ≡ false → IsAwake (after c s (Stamps t e)) t
 awake_behind c s t e g runs none uncut =
-    record { no_wait = waits_behind c s t e ∙ runs_on c s t e g runs; uncut = cut_behind c s t e ∙ rw (none_refused c s t e g none, uncut) refl }
+    record {
+      no_wait = waits_behind c s t e ∙ runs_on c s t e g runs;
+      uncut = cut_behind c s t e ∙ rw (none_refused c s t e g none, uncut) refl;
+    }

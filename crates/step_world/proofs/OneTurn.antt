@@ -161,17 +161,20 @@ pub turned : {old new : World} {t : ℕ} {answer : Turn} {idle after : Bool} {co
     → coming ≡ t ∷ rest → IsTurned old new t answer → after ≡ (idle && is_idle answer)
     → IsCourse (record { world = new; coming = rest; idle = after }) (with_turn old.plan k.run k.coming k.idle)
 turned {old} {new} {t} {answer} {idle} {after} {coming} {rest} {k} h first w idles =
-    subst (λ (ts : List ℕ). IsCourse (record { world = new; coming = rest; idle = after }) (with_turn old.plan k.run ts k.idle)) (sym (h.coming ∙ first)) (record {
+    subst (λ (ts : List ℕ). IsCourse (record { world = new; coming = rest; idle = after })
+    (with_turn old.plan k.run ts k.idle)) (sym (h.coming ∙ first)) (record {
       shows = w.turn k.run h.shows;
       coming = refl;
-      idle = sym (idles ∙ ap (λ (b : Bool). b && is_idle answer) (sym h.idle) ∙ ap (λ (a : Turn). k.idle && is_idle a) (w.answer_is k.run h.shows));
+      idle = sym (idles ∙ ap (λ (b : Bool). b && is_idle answer) (sym h.idle)
+          ∙ ap (λ (a : Turn). k.idle && is_idle a) (w.answer_is k.run h.shows));
     })
 
 -- and that is what the definition says of the turn
 pub told : {old new : World} {t : ℕ} {answer : Turn} {idle : Bool} {coming rest : List ℕ} {k : run.Course}
     → IsCourse (record { world = old; coming = coming; idle = idle }) k
     → coming ≡ t ∷ rest → IsTurned old new t answer → Some (t, answer) ≡ first_turn old.plan k.run k.coming
-told {old} {t = t} {answer = answer} {k = k} h first w = ap (λ (a : Turn). Some (t, a)) (w.answer_is k.run h.shows) ∙ ap (first_turn old.plan k.run) (sym (h.coming ∙ first))
+told {old} {t = t} {answer = answer} {k = k} h first w = ap (λ (a : Turn). Some (t, a)) (w.answer_is k.run h.shows)
+    ∙ ap (first_turn old.plan k.run) (sym (h.coming ∙ first))
 
 -- the same of whole courses: one who was taken off those who come has had its turn,
 pub course_turned : {old first behind new : Course} {t : ℕ} {answer : Turn} {k : run.Course} → first.world ≡ old.world

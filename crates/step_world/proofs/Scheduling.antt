@@ -182,11 +182,13 @@ pub none_comes : (ts : List ℕ) → is_empty ts ≡ true → ts ≡ []
 none_comes f e = grind arith
 
 -- then the first of a round has its turn,
-pub round_begins : (plan : Plan) (k : run.Course) → k.coming ≡ [] → with_turn plan k.run (round_of plan k.run) true ≡ after_turn plan k k.coming
+pub round_begins : (plan : Plan) (k : run.Course) → k.coming ≡ []
+    → with_turn plan k.run (round_of plan k.run) true ≡ after_turn plan k k.coming
 round_begins plan k e = ap (after_turn plan k) (sym e)
 
 -- where not all have ended, somebody comes
-pub somebody_comes : (plan : Plan) (k : run.Course) → is_over plan k ≡ false → is_empty (k.coming ++ round_of plan k.run) ≡ false
+pub somebody_comes : (plan : Plan) (k : run.Course) → is_over plan k ≡ false
+    → is_empty (k.coming ++ round_of plan k.run) ≡ false
 somebody_comes plan k e = go k.coming (round_of_none plan k.run ∙ (or_parts (all_ended plan k.run) (is_stuck k) e).0)
   where
     go : (ts : List ℕ) → is_empty (round_of plan k.run) ≡ false → is_empty (ts ++ round_of plan k.run) ≡ false
@@ -200,17 +202,20 @@ pub record IsReady (plan : Plan) (course : Course) (k : run.Course) : Type 0 whe
   pub from : run.Course
   pub is_course : IsCourse course from
   pub makes : with_turn course.world.plan from.run from.coming from.idle ≡ after_turn plan k k.coming
-  pub first : first_turn course.world.plan from.run from.coming ≡ first_turn plan k.run (k.coming ++ round_of plan k.run)
+  pub first : first_turn course.world.plan from.run from.coming
+      ≡ first_turn plan k.run (k.coming ++ round_of plan k.run)
   pub some : is_empty from.coming ≡ false
 
 module _ (plan : Plan) (course : Course) (k : run.Course) (same : course.world.plan ≡ plan) where
   -- where nobody comes any more, a round begins
-  pub round_ready : IsCourse course (record k { coming = round_of plan k.run; idle = true }) → k.coming ≡ [] → is_over plan k ≡ false → IsReady plan course k
+  pub round_ready : IsCourse course (record k { coming = round_of plan k.run; idle = true }) → k.coming ≡ []
+      → is_over plan k ≡ false → IsReady plan course k
   round_ready h none going = record {
     from = record k { coming = round_of plan k.run; idle = true };
     is_course = h;
     makes = ap (λ (p : Plan). with_turn p k.run (round_of plan k.run) true) same ∙ round_begins plan k none;
-    first = ap (λ (p : Plan). first_turn p k.run (round_of plan k.run)) same ∙ ap (λ (ts : List ℕ). first_turn plan k.run (ts ++ round_of plan k.run)) (sym none);
+    first = ap (λ (p : Plan). first_turn p k.run (round_of plan k.run)) same
+        ∙ ap (λ (ts : List ℕ). first_turn plan k.run (ts ++ round_of plan k.run)) (sym none);
     some = rw none at (somebody_comes plan k going);
   }
 
@@ -218,7 +223,8 @@ module _ (plan : Plan) (course : Course) (k : run.Course) (same : course.world.p
   still_ready h some = grind arith
 
 -- somebody who comes has a turn
-pub one_made : (plan : Plan) (r : Run) (ts : List ℕ) (made : Option (ThreadNo × Turn)) → is_empty ts ≡ false → turn_seen made ≡ first_turn plan r ts → is_none made ≡ false
+pub one_made : (plan : Plan) (r : Run) (ts : List ℕ) (made : Option (ThreadNo × Turn)) → is_empty ts ≡ false
+    → turn_seen made ≡ first_turn plan r ts → is_none made ≡ false
 one_made plan r f made some e = grind arith
 
 -- 6. Turns of those who sleep

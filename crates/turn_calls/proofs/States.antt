@@ -29,9 +29,11 @@ module _ (plan : Plan) (r : Run) (t : ℕ) where
   -- 1. The state, by whether it has ended, by what it owes and by its wait word
 
   pub of_ended : has_ended plan r t ≡ true → Ended ≡ state_of plan r t
-  of_ended e = sym (ap (λ (b : Bool). if b then Ended else state_by (owes (config_of plan) r.state t) (r.state.wait t)) e)
+  of_ended e =
+      sym (ap (λ (b : Bool). if b then Ended else state_by (owes (config_of plan) r.state t) (r.state.wait t)) e)
 
-  pub of_going : (b : Bool) (w : Wait) → has_ended plan r t ≡ false → b ≡ owes (config_of plan) r.state t → w ≡ r.state.wait t → state_by b w ≡ state_of plan r t
+  pub of_going : (b : Bool) (w : Wait) → has_ended plan r t ≡ false → b ≡ owes (config_of plan) r.state t
+      → w ≡ r.state.wait t → state_by b w ≡ state_of plan r t
   of_going b w e i j =
       ap (λ (x : Bool). state_by x w) i
       ∙ ap (λ (x : Wait). state_by (owes (config_of plan) r.state t) x) j
@@ -39,7 +41,8 @@ module _ (plan : Plan) (r : Run) (t : ℕ) where
 
   -- 2. Where it owes nothing
 
-  nothing_owed : (w : Walk) (ms : List Mark) (o : Option ℕ) → (is_walking w || not (is_empty ms) || is_some o) ≡ false → (w ≡ NoWalk) × (ms ≡ []) × (o ≡ None)
+  nothing_owed : (w : Walk) (ms : List Mark) (o : Option ℕ) → (is_walking w || not (is_empty ms) || is_some o) ≡ false
+      → (w ≡ NoWalk) × (ms ≡ []) × (o ≡ None)
   nothing_owed NoWalk [] None e = (refl, refl, refl)
   nothing_owed NoWalk [] (Some l) e = absurd cc
   nothing_owed NoWalk (m ∷ ms) o e = absurd cc
@@ -56,7 +59,8 @@ module _ (plan : Plan) (r : Run) (t : ℕ) where
 
   -- 3. A thread is idle exactly where it sleeps
 
-  idle_by : (ended o : Bool) (w : Wait) → (if ended then Ended else state_by o w) ≡ Idle → (ended ≡ false) × (o ≡ false) × (w ≡ wait.Queued)
+  idle_by : (ended o : Bool) (w : Wait) → (if ended then Ended else state_by o w) ≡ Idle
+      → (ended ≡ false) × (o ≡ false) × (w ≡ wait.Queued)
   idle_by true o w e = absurd cc
   idle_by false o wait.Running e = absurd cc
   idle_by false true wait.Queued e = absurd cc
@@ -80,7 +84,8 @@ module _ (plan : Plan) (r : Run) (t : ℕ) where
   pub at_end : state_of plan r t ≡ Ended ↔ has_ended plan r t ≡ true
   at_end = (go (has_ended plan r t), λ e. sym (of_ended e))
     where
-      go : (b : Bool) → (if b then Ended else state_by (owes (config_of plan) r.state t) (r.state.wait t)) ≡ Ended → b ≡ true
+      go : (b : Bool) → (if b then Ended else state_by (owes (config_of plan) r.state t) (r.state.wait t)) ≡ Ended
+          → b ≡ true
       go true e = refl
       go false e = absurd (over_by (owes (config_of plan) r.state t) (r.state.wait t) e)
 
@@ -102,13 +107,16 @@ module _ (plan : Plan) (r : Run) (t : ℕ) where
     goes : (state_of plan r t ≡ Ended → ⊥) → (state_of plan r t ≡ Idle → ⊥) → goes_on plan r t ≡ true
     goes not_over not_idle = by (has_ended plan r t) refl (is_idle (turn_of plan r t).answer) refl
       where
-        by : (a : Bool) → has_ended plan r t ≡ a → (b : Bool) → is_idle (turn_of plan r t).answer ≡ b → (not a && not b) ≡ true
+        by : (a : Bool) → has_ended plan r t ≡ a → (b : Bool) → is_idle (turn_of plan r t).answer ≡ b
+            → (not a && not b) ≡ true
         by true e b i = absurd (not_over (at_end.1 e))
-        by false e true i = absurd (not_idle (idle_sleeps.1 ((idle_exactly plan r t p k).0 (idle_is (turn_of plan r t).answer i))))
+        by false e true i =
+            absurd (not_idle (idle_sleeps.1 ((idle_exactly plan r t p k).0 (idle_is (turn_of plan r t).answer i))))
         by false e false i = refl
 
     pub goes_by : (s : ThreadState) → s ≡ state_of plan r t → acts s ≡ goes_on plan r t
-    goes_by Running i = sym (goes (λ e. let z : Running ≡ Ended = i ∙ e in cc) (λ e. let z : Running ≡ Idle = i ∙ e in cc))
+    goes_by Running i =
+        sym (goes (λ e. let z : Running ≡ Ended = i ∙ e in cc) (λ e. let z : Running ≡ Idle = i ∙ e in cc))
     goes_by Queued i = sym (goes (λ e. let z : Queued ≡ Ended = i ∙ e in cc) (λ e. let z : Queued ≡ Idle = i ∙ e in cc))
     goes_by Idle i = sym (stays_idle (sym i))
     goes_by Woken i = sym (goes (λ e. let z : Woken ≡ Ended = i ∙ e in cc) (λ e. let z : Woken ≡ Idle = i ∙ e in cc))

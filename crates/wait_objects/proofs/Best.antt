@@ -13,7 +13,8 @@ first_is_best w [] a = refl
 first_is_best w (v ∷ vs) a =
     ap (λ o. Some (better w o)) (first_is_best v vs a.1) ∙ ap (λ b. Some (cond b v w)) (le-ltb v.kept w.kept a.0)
 
-pub best_first : (ranked : Bool) (w : Waiting) (ws us : List Waiting) → us ≡ w ∷ ws → ranked ≡ true → InOrder ranked us → Some w ≡ best_of us
+pub best_first : (ranked : Bool) (w : Waiting) (ws us : List Waiting) → us ≡ w ∷ ws → ranked ≡ true → InOrder ranked us
+    → Some w ≡ best_of us
 best_first true w ws us e r o = rw e (sym (first_is_best w ws (rw e at o)))
 best_first false w ws us e r o = absurd cc
 
@@ -23,7 +24,8 @@ best_is_front (w ∷ ws) a = ap one_or_none (first_is_best w ws a)
 
 pub rest_is_behind : (ws : List Waiting) → Ascends ws → left_on false ws ≡ drop 1 ws
 rest_is_behind [] a = refl
-rest_is_behind (w ∷ ws) a = ap (λ o. without_best o (w ∷ ws)) (first_is_best w ws a) ∙ rw (eq-eqb w.thread w.thread refl) refl
+rest_is_behind (w ∷ ws) a = ap (λ o. without_best o (w ∷ ws)) (first_is_best w ws a)
+    ∙ rw (eq-eqb w.thread w.thread refl) refl
 
 pub some_best : (ws : List Waiting) → ws ≢ [] → taken_off false ws ≢ []
 some_best [] ne = ne
@@ -61,7 +63,8 @@ without_absent t (w ∷ ws) none =
     ] none
 
 -- the entry of the best's thread is the best, where each thread stands once
-pub best_entry : (ws : List Waiting) → ((t : ℕ) → times_waiting t ws ≤ 1) → IfSome (best_of ws) (λ b. (1 ≤ times_waiting b.thread ws) × (entry_of b.thread ws ≡ Some b))
+pub best_entry : (ws : List Waiting) → ((t : ℕ) → times_waiting t ws ≤ 1)
+    → IfSome (best_of ws) (λ b. (1 ≤ times_waiting b.thread ws) × (entry_of b.thread ws ≡ Some b))
 best_entry [] once = tt
 best_entry (v ∷ vs) once = go (best_of vs) (best_entry vs (λ t. let l = once t in omega arith))
   where
@@ -73,13 +76,19 @@ best_entry (v ∷ vs) once = go (best_of vs) (best_entry vs (λ t. let l = once 
 
     behind : (b : Waiting) → (1 ≤ times_waiting b.thread vs) × (entry_of b.thread vs ≡ Some b) → Has b
     behind b h = elim (cases_eq b.thread v.thread) [
-      | inl e ↦ let same : one (eqb b.thread v.thread) ≡ 1 = ap one (eq-eqb b.thread v.thread e) in let l = once b.thread in let k = h.0 in absurd (omega arith)
+      | inl e ↦ let same : one (eqb b.thread v.thread) ≡ 1 = ap one (eq-eqb b.thread v.thread e) in
+          let l = once b.thread in
+          let k = h.0 in
+          absurd (omega arith)
       | inr e ↦ let k = h.0 in (omega arith, rw (ne_eqb b.thread v.thread e) h.1)
     ]
 
-    go : (o : Option Waiting) → IfSome o (λ b. (1 ≤ times_waiting b.thread vs) × (entry_of b.thread vs ≡ Some b)) → Has (better v o)
+    go : (o : Option Waiting) → IfSome o (λ b. (1 ≤ times_waiting b.thread vs) × (entry_of b.thread vs ≡ Some b))
+        → Has (better v o)
     go None h = here
     go (Some b) h = elim (nat_lt b.kept v.kept) as (λ x. Has (cond x b v)) [ true ↦ behind b h | false ↦ here ]
 
-pub best_taken : (ws : List Waiting) (b : Waiting) → ((t : ℕ) → times_waiting t ws ≤ 1) → Some b ≡ best_of ws → entry_of b.thread ws ≡ best_of ws
-best_taken ws b once e = (subst (λ o. IfSome o (λ v. (1 ≤ times_waiting v.thread ws) × (entry_of v.thread ws ≡ Some v))) (sym e) (best_entry ws once)).1 ∙ e
+pub best_taken : (ws : List Waiting) (b : Waiting) → ((t : ℕ) → times_waiting t ws ≤ 1) → Some b ≡ best_of ws
+    → entry_of b.thread ws ≡ best_of ws
+best_taken ws b once e = (subst (λ o. IfSome o (λ v. (1 ≤ times_waiting v.thread ws) × (entry_of v.thread ws ≡ Some v)))
+    (sym e) (best_entry ws once)).1 ∙ e

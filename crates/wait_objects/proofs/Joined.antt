@@ -16,7 +16,8 @@ added-nobody : (r : Bool) (w : Waiting) → added r w [] ≡ w ∷ []
 added-nobody true w = refl
 added-nobody false w = refl
 
-times-added : (t : ℕ) (r : Bool) (w : Waiting) (ws : List Waiting) → times_waiting t (added r w ws) ≡ one (eqb t w.thread) + times_waiting t ws
+times-added : (t : ℕ) (r : Bool) (w : Waiting) (ws : List Waiting)
+    → times_waiting t (added r w ws) ≡ one (eqb t w.thread) + times_waiting t ws
 times-added t true w ws = times_waiting-insert t w ws
 times-added t false w ws = times_waiting-last t w ws
 
@@ -28,7 +29,8 @@ length-added false w ws = length-last w ws
 abbrev pub more : Bool → Waiting → Side → Lists → Lists
 more r w side q = with_list side (added r w (list_of side q)) q
 
-stands-more : (t : ℕ) (r : Bool) (w : Waiting) (side : Side) (q : Lists) → stands t (more r w side q) ≡ one (eqb t w.thread) + stands t q
+stands-more : (t : ℕ) (r : Bool) (w : Waiting) (side : Side) (q : Lists)
+    → stands t (more r w side q) ≡ one (eqb t w.thread) + stands t q
 stands-more t r w X q = omega (arith, times-added t r w q.exclusive)
 stands-more t r w S q = omega (arith, times-added t r w q.shared)
 
@@ -37,7 +39,8 @@ waiting-more r w X q = omega (arith, length-added r w q.exclusive)
 waiting-more r w S q = omega (arith, length-added r w q.shared)
 
 -- who comes where it isn't yet stands there once
-comes_once : (r : Bool) (w : Waiting) (side : Side) (q : Lists) → stands w.thread q ≡ 0 → ((t : ℕ) → stands t q ≤ 1) → (t : ℕ) → stands t (more r w side q) ≤ 1
+comes_once : (r : Bool) (w : Waiting) (side : Side) (q : Lists) → stands w.thread q ≡ 0 → ((t : ℕ) → stands t q ≤ 1)
+    → (t : ℕ) → stands t (more r w side q) ≤ 1
 comes_once r w side q none once t =
     let all = stands-more t r w side q in
     elim (cases_eq t w.thread) [
@@ -60,19 +63,26 @@ nobody_on X q none = (nobody_in q.exclusive q.shared none).0
 nobody_on S q none = (nobody_in q.exclusive q.shared none).1
 
 -- the node w with the priority k: by way of a reference, x and then y
-pub waiting_kept : (w x y : Node) (k : ℕ) → x ≡ w → y ≡ record x { place = record x.place { kept = k } } → waiting_at y.place ≡ record { thread = w.place.thread; kept = k }
+pub waiting_kept : (w x y : Node) (k : ℕ) → x ≡ w → y ≡ record x { place = record x.place { kept = k } }
+    → waiting_at y.place ≡ record { thread = w.place.thread; kept = k }
 waiting_kept w x y k e f = rw (f, e) refl
 
 -- a first waiter
-pub started : {E : Type 0} (r : Bool) (side : Side) (w v : Waiting) (a : InObject E) (q : Lists) → all_waiters (seen_contents a) ≡ [] → v ≡ w → q ≡ more r v side a.lists
+pub started : {E : Type 0} (r : Bool) (side : Side) (w v : Waiting) (a : InObject E) (q : Lists)
+    → all_waiters (seen_contents a) ≡ [] → v ≡ w → q ≡ more r v side a.lists
     → seen_contents (record a { lists = q }) ≡ with_waiters side (w ∷ []) (seen_contents a)
-started r side w v a q none same e = ap (λ z. with_lists z (seen_contents a)) (e ∙ ap (λ ws. with_list side ws a.lists) (ap (added r v) (nobody_on side a.lists none) ∙ added-nobody r v ∙ ap (λ u. u ∷ []) same))
+started r side w v a q none same e = ap (λ z. with_lists z (seen_contents a)) (e ∙ ap (λ ws. with_list side ws a.lists)
+    (ap (added r v) (nobody_on side a.lists none) ∙ added-nobody r v ∙ ap (λ u. u ∷ []) same))
 
 -- a waiter more, whose object is o
-pub joins : {E : Type 0} (kind : Ghosts E) (side : Side) (v : Waiting) (o : Contents E) (a : InObject E) (q : Lists) (fs : List (Contents E)) → all_waiters (seen_contents a) ≢ [] → waits v.thread (seen_contents a) ≡ false
-    → q ≡ more kind.RANKED v side a.lists → fs ≡ o ∷ a.free → o ≡ idle_contents kind.home o.number → IsSound kind a → IsSound kind (record a { lists = q; free = fs })
+pub joins : {E : Type 0} (kind : Ghosts E) (side : Side) (v : Waiting) (o : Contents E) (a : InObject E) (q : Lists)
+    (fs : List (Contents E)) → all_waiters (seen_contents a) ≢ [] → waits v.thread (seen_contents a) ≡ false
+    → q ≡ more kind.RANKED v side a.lists → fs ≡ o ∷ a.free → o ≡ idle_contents kind.home o.number → IsSound kind a
+    → IsSound kind (record a { lists = q; free = fs })
 joins kind side v o a q fs some absent e f idle s = record {
-  once = subst (λ z. (t : ℕ) → stands t z ≤ 1) (sym e) (comes_once kind.RANKED v side a.lists (omega (arith, ltb-false 0 (stands v.thread a.lists) absent)) s.once);
-  one_free_less = rw (e, f) (let was = s.one_free_less in let one = waiting-more kind.RANKED v side a.lists in let l = somebody a.lists.exclusive a.lists.shared some in omega arith);
+  once = subst (λ z. (t : ℕ) → stands t z ≤ 1) (sym e)
+      (comes_once kind.RANKED v side a.lists (omega (arith, ltb-false 0 (stands v.thread a.lists) absent)) s.once);
+  one_free_less = rw (e, f) (let was = s.one_free_less in let one = waiting-more kind.RANKED v side a.lists in
+      let l = somebody a.lists.exclusive a.lists.shared some in omega arith);
   free_idle = subst (AllIdle kind.home) (sym f) (idle, s.free_idle);
 }

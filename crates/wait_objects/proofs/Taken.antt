@@ -18,7 +18,8 @@ use Rattle.wait_objects.specs.Seen.{Place, Node, Contents, IsEmpty}
 use Rattle.wait_objects.specs.Linked.{linked_places}
 use Rattle.wait_objects.specs.Inside.{waiting as waiting_at, seen_contents, AllIdle, IsSound}
 
-times-picked : (t : ℕ) (which : Which) (ws : List Waiting) → times_waiting t (picked which ws) + times_waiting t (unpicked which ws) ≡ times_waiting t ws
+times-picked : (t : ℕ) (which : Which) (ws : List Waiting)
+    → times_waiting t (picked which ws) + times_waiting t (unpicked which ws) ≡ times_waiting t ws
 times-picked t Best ws = times-taken t false ws
 times-picked t All ws = times-taken t true ws
 times-picked t (Thread u) ws = times-entry t u.0 ws
@@ -32,16 +33,19 @@ length-picked (Thread u) ws = length-entry u.0 ws
 abbrev pub less : Which → Side → Lists → Lists
 less which side q = with_list side (unpicked which (list_of side q)) q
 
-pub stays_once : (which : Which) (side : Side) (q : Lists) → ((t : ℕ) → stands t q ≤ 1) → (t : ℕ) → stands t (less which side q) ≤ 1
+pub stays_once : (which : Which) (side : Side) (q : Lists) → ((t : ℕ) → stands t q ≤ 1) → (t : ℕ)
+    → stands t (less which side q) ≤ 1
 stays_once which X q once t = let k = times-picked t which q.exclusive in let l = once t in omega arith
 stays_once which S q once t = let k = times-picked t which q.shared in let l = once t in omega arith
 
-pub waiting-less : (which : Which) (side : Side) (q : Lists) → length (picked which (list_of side q)) + waiting (less which side q) ≡ waiting q
+pub waiting-less : (which : Which) (side : Side) (q : Lists)
+    → length (picked which (list_of side q)) + waiting (less which side q) ≡ waiting q
 waiting-less which X q = let k = length-picked which q.exclusive in omega arith
 waiting-less which S q = let k = length-picked which q.shared in omega arith
 
 -- at most one node, in no list
-pub one_taken : {Z : Type 0} (o : Option (Box Node Z)) → IfSome o (λ b. IsEmpty b.value) → map waiting_at (linked_places o) ≡ one_or_none (option_map (λ b. waiting_at b.value.place) o)
+pub one_taken : {Z : Type 0} (o : Option (Box Node Z)) → IfSome o (λ b. IsEmpty b.value)
+    → map waiting_at (linked_places o) ≡ one_or_none (option_map (λ b. waiting_at b.value.place) o)
 one_taken None e = refl
 one_taken (Some b) e = rw e.alone refl
 
@@ -57,7 +61,8 @@ others_hold (w ∷ v ∷ ws) [] h = absurd (omega arith)
 others_hold (w ∷ v ∷ ws) (n ∷ []) h = (refl, others_hold (v ∷ ws) [] (omega arith))
 others_hold (w ∷ v ∷ ws) (n ∷ m ∷ ns) h = (refl, others_hold (v ∷ ws) (m ∷ ns) (omega arith))
 
-last_has_none : (w : Waiting) (ws : List Waiting) (ns : List ℕ) → length ns ≡ length ws → LastHasNone (places (w ∷ ws) ns)
+last_has_none : (w : Waiting) (ws : List Waiting) (ns : List ℕ) → length ns ≡ length ws
+    → LastHasNone (places (w ∷ ws) ns)
 last_has_none w [] [] h = refl
 last_has_none w [] (n ∷ ns) h = absurd (omega arith)
 last_has_none w (v ∷ ws) [] h = absurd (omega arith)
@@ -83,10 +88,14 @@ some_places (w ∷ ws) [] ne = λ e. cc
 some_places (w ∷ ws) (n ∷ ns) ne = λ e. cc
 
 -- the last of those who go has none exactly where nobody stays
-last_is : (ws : List Waiting) (ns : List ℕ) (q : Lists) → length ns ≡ (length ws + waiting q) - 1 → LastHasNone (places ws ns) ↔ (places ws ns ≢ []) × (q.exclusive ++ q.shared ≡ [])
+last_is : (ws : List Waiting) (ns : List ℕ) (q : Lists) → length ns ≡ (length ws + waiting q) - 1
+    → LastHasNone (places ws ns) ↔ (places ws ns ≢ []) × (q.exclusive ++ q.shared ≡ [])
 last_is [] ns q few = (λ h. absurd h, λ h. h.0 refl)
 last_is (w ∷ ws) ns q few = (
-  λ h. (some_places (w ∷ ws) ns (λ e. cc), nobody q.exclusive q.shared (let l = none_is_last (w ∷ ws) ns h in omega arith)),
+  λ h. (
+    some_places (w ∷ ws) ns (λ e. cc),
+    nobody q.exclusive q.shared (let l = none_is_last (w ∷ ws) ns h in omega arith),
+  ),
   λ h. last_has_none w ws ns (let none = ap length h.1 in let both = length-append q.exclusive q.shared in omega arith),
 )
 
@@ -97,7 +106,9 @@ rest_idle home zero cs h = h
 rest_idle home (suc n) [] h = tt
 rest_idle home (suc n) (c ∷ cs) h = rest_idle home n cs h.1
 
-module _ {E : Type 0} (kind : Ghosts E) (which : Which) (side : Side) (a : InObject E) (nodes : List Place) (q : Lists) (fs : List (Contents E)) (e : map waiting_at nodes ≡ picked which (list_of side a.lists)) (f : q ≡ less which side a.lists) (g : fs ≡ drop (length nodes) a.free) where
+module _ {E : Type 0} (kind : Ghosts E) (which : Which) (side : Side) (a : InObject E) (nodes : List Place) (q : Lists)
+    (fs : List (Contents E)) (e : map waiting_at nodes ≡ picked which (list_of side a.lists))
+    (f : q ≡ less which side a.lists) (g : fs ≡ drop (length nodes) a.free) where
   many : length nodes ≡ length (picked which (list_of side a.lists))
   many = sym (length-map nodes waiting_at) ∙ ap length e
 
@@ -107,18 +118,25 @@ module _ {E : Type 0} (kind : Ghosts E) (which : Which) (side : Side) (a : InObj
   pub goes : IsSound kind a → IsSound kind (record a { lists = q; free = fs })
   goes s = record {
     once = subst (λ z. (t : ℕ) → stands t z ≤ 1) (sym f) (stays_once which side a.lists s.once);
-    one_free_less = rw g (let fewer = length-drop (length nodes) a.free in let was = s.one_free_less in let m = many in let n = all in omega arith);
+    one_free_less = rw g (let fewer = length-drop (length nodes) a.free in let was = s.one_free_less in let m = many in
+        let n = all in omega arith);
     free_idle = subst (AllIdle kind.home) (sym g) (rest_idle kind.home (length nodes) a.free s.free_idle);
   }
 
   pub contents_left : seen_contents (record a { lists = q; free = fs }) ≡ left which side (seen_contents a)
-  contents_left = rw (f, g, many, drop-map (λ (c : Contents E). c.number) (length (picked which (list_of side a.lists))) a.free) refl
+  contents_left =
+      rw (f, g, many, drop-map (λ (c : Contents E). c.number) (length (picked which (list_of side a.lists))) a.free)
+      refl
 
-  free_less : IsSound kind a → length (map (λ (c : Contents E). c.number) a.free) ≡ (length (picked which (list_of side a.lists)) + waiting q) - 1
+  free_less : IsSound kind a → length (map (λ (c : Contents E). c.number) a.free)
+      ≡ (length (picked which (list_of side a.lists)) + waiting q) - 1
   free_less s = length-map a.free (λ c. c.number) ∙ s.one_free_less ∙ ap (λ n. n - 1) (sym all)
 
   pub others_taken : IsSound kind a → AllButLastHold (woken which side (seen_contents a))
-  others_taken s = others_hold (picked which (list_of side a.lists)) (map (λ (c : Contents E). c.number) a.free) (let few = free_less s in omega arith)
+  others_taken s = others_hold (picked which (list_of side a.lists)) (map (λ (c : Contents E). c.number) a.free)
+      (let few = free_less s in omega arith)
 
-  pub last_taken : IsSound kind a → LastHasNone (woken which side (seen_contents a)) ↔ (woken which side (seen_contents a) ≢ []) × (q.exclusive ++ q.shared ≡ [])
-  last_taken s = last_is (picked which (list_of side a.lists)) (map (λ (c : Contents E). c.number) a.free) q (free_less s)
+  pub last_taken : IsSound kind a → LastHasNone (woken which side (seen_contents a))
+      ↔ (woken which side (seen_contents a) ≢ []) × (q.exclusive ++ q.shared ≡ [])
+  last_taken s =
+      last_is (picked which (list_of side a.lists)) (map (λ (c : Contents E). c.number) a.free) q (free_less s)

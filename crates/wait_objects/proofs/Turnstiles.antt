@@ -8,9 +8,11 @@ use Rattle.wait_objects.specs.Turnstiles.Changes.{waiters, left_by}
 use Rattle.wait_objects.specs.Changes.{left}
 use Rattle.wait_objects.proofs.Best.{rest_is_behind}
 
-one_free : {A : Type 0} (ws : List Waiting) (xs : List A) → ws ≢ [] → Ascends ws → drop (length (taken_off false ws)) xs ≡ drop 1 xs
+one_free : {A : Type 0} (ws : List Waiting) (xs : List A) → ws ≢ [] → Ascends ws
+    → drop (length (taken_off false ws)) xs ≡ drop 1 xs
 one_free [] xs ne a = absurd (ne refl)
 one_free (w ∷ ws) xs ne a = refl
 
-pub first_left : (side : Side) (c : Contents) → waiters side c ≢ [] → Ascends (waiters side c) → left Best side c ≡ left_by 1 side c
+pub first_left : (side : Side) (c : Contents) → waiters side c ≢ [] → Ascends (waiters side c)
+    → left Best side c ≡ left_by 1 side c
 first_left side c ne a = rw (one_free (waiters side c) c.free ne a, rest_is_behind (waiters side c) a) refl

@@ -9,7 +9,8 @@ use Rattle.wait_objects.specs.declared.object.Object.TheInside.{Inside as InObje
 use Rattle.wait_objects.specs.Changes.{InOrder, IsWellFormed}
 use Rattle.wait_objects.specs.Inside.{seen_contents, IsSound}
 
-pub well_formed : {E : Type 0} (kind : Ghosts E) (a : InObject E) → IsSound kind a → ((side : Side) → InOrder kind.RANKED (list_of side a.lists)) → IsWellFormed kind.RANKED (seen_contents a)
+pub well_formed : {E : Type 0} (kind : Ghosts E) (a : InObject E) → IsSound kind a
+    → ((side : Side) → InOrder kind.RANKED (list_of side a.lists)) → IsWellFormed kind.RANKED (seen_contents a)
 well_formed kind a s order = record {
   exclusive_ascends = order X;
   shared_ascends = order S;

@@ -49,5 +49,6 @@ module _ (c : Config) (s : State) (h : Ordered c s) where
       ]
 
 -- so each effective priority is the best behind its thread
-pub best : (c : Config) (s : State) (t : ℕ) → Lawful c s → Ordered c s → NobodyWalks c s → t < c.threads → s.effective t ≡ best_behind c s t
+pub best : (c : Config) (s : State) (t : ℕ) → Lawful c s → Ordered c s → NobodyWalks c s → t < c.threads
+    → s.effective t ≡ best_behind c s t
 best c s t l h still lt = derived.effective c s t l still (no_cycle c s h) lt

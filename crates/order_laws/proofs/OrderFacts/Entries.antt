@@ -13,11 +13,14 @@ module _ (c : Config) (s : State) (t : ℕ) (f : Lawful c s) (h : Ordered c s) w
   unfolding SectionsAreHeld
   open_held k m e = f.books.sections_are_held t k m e
 
-  last_leads : (l : ℕ) → IsGainedLast s t l false → open_in c s.history t l ≡ NotHeld → LeadTo c s.edges (open_in c s.history t) l
+  last_leads : (l : ℕ) → IsGainedLast s t l false → open_in c s.history t l ≡ NotHeld
+      → LeadTo c s.edges (open_in c s.history t) l
   unfolding HoldsAreOrdered HeldAreListed
   last_leads l g closed k m e =
-      let o : AreOrdered c s.edges (record { lock = l; by_try = false } ∷ g.others) = subst (AreOrdered c s.edges) g.last (h.holds_are_ordered t) in
-      let i : is_listed k (record { lock = l; by_try = false } ∷ g.others) ≡ true = ap (is_listed k) (sym g.last) ∙ f.words.held_are_listed t k ∙ listed_held (s.held t k) m (open_held k m e) in
+      let o : AreOrdered c s.edges (record { lock = l; by_try = false } ∷ g.others) = subst
+      (AreOrdered c s.edges) g.last (h.holds_are_ordered t) in
+      let i : is_listed k (record { lock = l; by_try = false } ∷ g.others) ≡ true = ap (is_listed k) (sym g.last)
+      ∙ f.words.held_are_listed t k ∙ listed_held (s.held t k) m (open_held k m e) in
       let ne : k ≡ l → ⊥ = λ y. let z : NotHeld ≡ Holds m = sym closed ∙ ap (open_in c s.history t) (sym y) ∙ e in cc in
       each_at c s.edges g.others (c.class l) k (o.0 refl) (let z = rw (ne_eqb k l ne) at i in z)
 
@@ -28,7 +31,8 @@ module _ (c : Config) (s : State) (t : ℕ) (f : Lawful c s) (h : Ordered c s) w
   take_is other g = tt
 
 -- a note that is no halt of a take
-pub noted : (c : Config) (s : State) (t : ℕ) (o : Option Note) → ((k : ℕ) → o ≡ Some (SleepHalted (lock_queue k)) → ⊥) → Ordered c s
+pub noted : (c : Config) (s : State) (t : ℕ) (o : Option Note) → ((k : ℕ) → o ≡ Some (SleepHalted (lock_queue k)) → ⊥)
+    → Ordered c s
     → HaltsAreOrdered c (put s.noted t o) s.held s.edges
 unfolding HaltsAreOrdered
 noted c s t o n h u k e = elim (cases_eq t u) [
@@ -36,7 +40,8 @@ noted c s t o n h u k e = elim (cases_eq t u) [
   | inr x ↦ h.halts_are_ordered u k (sym (put_other s.noted t o u x) ∙ e)
 ]
 
-pub stamps : (c : Config) (s : State) (t : ℕ) (e : Event) → MayStamp c s t e → Lawful c s → Ordered c s → Ordered c (after_stamp c s t e)
+pub stamps : (c : Config) (s : State) (t : ℕ) (e : Event) → MayStamp c s t e → Lawful c s → Ordered c s
+    → Ordered c (after_stamp c s t e)
 unfolding after_stamp TakesAreInGraph
 stamps c s t e g f h =
     let x : TakesAreInGraph c s.edges (entry_of s t e ∷ s.history) = (take_is c s t f h e g, h.takes_are_in_graph) in

@@ -8,7 +8,8 @@ use Names.{put_same, put_other, put_at_other}
 use Rattle.std.proofs.Common.{◌≡◌, ◌∷◌, ◌∙◌}
 use Rattle.order_laws.proofs.OrderFacts.Lists.{is_held, each_from}
 
-module _ (c : Config) (s : State) (t l : ℕ) (mode : Mode) (by_try : Bool) (a : IsActing s t) (k : GainsInOrder s t l by_try) (f : Lawful c s) (h : Ordered c s) where
+module _ (c : Config) (s : State) (t l : ℕ) (mode : Mode) (by_try : Bool) (a : IsActing s t)
+    (k : GainsInOrder s t l by_try) (f : Lawful c s) (h : Ordered c s) where
   abbrev held : ℕ → ℕ → Hold
   held = put_at s.held t l (Holds mode)
 
@@ -79,12 +80,30 @@ module _ (c : Config) (s : State) (t l : ℕ) (mode : Mode) (by_try : Bool) (a :
     | inr x ↦ h.halts_are_ordered u i e j m (its u j m x g)
   ]
 
-pub gains : (c : Config) (s : State) (t l : ℕ) (mode : Mode) (by_try : Bool) → IsActing s t → GainsInOrder s t l by_try → Lawful c s → Ordered c s → Ordered c (after_gain s t l mode by_try)
+pub gains : (c : Config) (s : State) (t l : ℕ) (mode : Mode) (by_try : Bool) → IsActing s t → GainsInOrder s t l by_try
+    → Lawful c s → Ordered c s → Ordered c (after_gain s t l mode by_try)
 unfolding after_gain
 gains c s t l mode by_try a k f h =
-    assumption (h, wants c s t l mode by_try a k f h, holds c s t l mode by_try a k f h, sleepers c s t l mode by_try a k f h, woken c s t l mode by_try a k f h, aborted c s t l mode by_try a k f h, halts c s t l mode by_try a k f h)
+    assumption (
+      h,
+      wants c s t l mode by_try a k f h,
+      holds c s t l mode by_try a k f h,
+      sleepers c s t l mode by_try a k f h,
+      woken c s t l mode by_try a k f h,
+      aborted c s t l mode by_try a k f h,
+      halts c s t l mode by_try a k f h,
+    )
 
-pub claims : (c : Config) (s : State) (t l x : ℕ) (by_try : Bool) → IsActing s t → GainsInOrder s t l by_try → Lawful c s → Ordered c s → Ordered c (after_claim c s t l x by_try)
+pub claims : (c : Config) (s : State) (t l x : ℕ) (by_try : Bool) → IsActing s t → GainsInOrder s t l by_try
+    → Lawful c s → Ordered c s → Ordered c (after_claim c s t l x by_try)
 unfolding after_claim
 claims c s t l x by_try a k f h =
-    assumption (h, wants c s t l Excl by_try a k f h, holds c s t l Excl by_try a k f h, sleepers c s t l Excl by_try a k f h, woken c s t l Excl by_try a k f h, aborted c s t l Excl by_try a k f h, halts c s t l Excl by_try a k f h)
+    assumption (
+      h,
+      wants c s t l Excl by_try a k f h,
+      holds c s t l Excl by_try a k f h,
+      sleepers c s t l Excl by_try a k f h,
+      woken c s t l Excl by_try a k f h,
+      aborted c s t l Excl by_try a k f h,
+      halts c s t l Excl by_try a k f h,
+    )

@@ -16,7 +16,8 @@ listed_held x mode e = ap (λ y. not (is_unheld y)) e
 -- 2. Edges from each lock of a list
 
 module _ (c : Config) (es : List (ℕ × ℕ)) where
-  pub each_from : (hs : List HeldLock) (w : ℕ) → ((k : ℕ) → is_listed k hs ≡ true → IsEdge es (c.class k) w) → EachLeads c es hs w
+  pub each_from : (hs : List HeldLock) (w : ℕ) → ((k : ℕ) → is_listed k hs ≡ true → IsEdge es (c.class k) w)
+      → EachLeads c es hs w
   each_from [] w f = tt
   each_from (h ∷ hs) w f = (
     f h.lock (rw (eq-eqb h.lock h.lock refl) refl),
@@ -32,18 +33,20 @@ module _ (c : Config) (es : List (ℕ × ℕ)) where
 
   each_without : (l : ℕ) (hs : List HeldLock) (w : ℕ) → EachLeads c es hs w → EachLeads c es (without_held l hs) w
   each_without l [] w f = tt
-  each_without l (h ∷ hs) w f = elim (eqb l h.lock) as (λ b. EachLeads c es (cond b (without_held l hs) (h ∷ without_held l hs)) w) [
-    | true ↦ each_without l hs w f.1
-    | false ↦ (f.0, each_without l hs w f.1)
-  ]
+  each_without l (h ∷ hs) w f =
+      elim (eqb l h.lock) as (λ b. EachLeads c es (cond b (without_held l hs) (h ∷ without_held l hs)) w) [
+        | true ↦ each_without l hs w f.1
+        | false ↦ (f.0, each_without l hs w f.1)
+      ]
 
   -- one lock less
   pub ordered_without : (l : ℕ) (hs : List HeldLock) → AreOrdered c es hs → AreOrdered c es (without_held l hs)
   ordered_without l [] f = tt
-  ordered_without l (h ∷ hs) f = elim (eqb l h.lock) as (λ b. AreOrdered c es (cond b (without_held l hs) (h ∷ without_held l hs))) [
-    | true ↦ ordered_without l hs f.1
-    | false ↦ ((λ i. each_without l hs (c.class h.lock) (f.0 i)), ordered_without l hs f.1)
-  ]
+  ordered_without l (h ∷ hs) f =
+      elim (eqb l h.lock) as (λ b. AreOrdered c es (cond b (without_held l hs) (h ∷ without_held l hs))) [
+        | true ↦ ordered_without l hs f.1
+        | false ↦ ((λ i. each_without l hs (c.class h.lock) (f.0 i)), ordered_without l hs f.1)
+      ]
 
 -- 3. Edges more
 
@@ -73,7 +76,8 @@ among_reverse a (x ∷ xs) i = subst (IsAmong a) (sym (reverse-append (x ∷ [])
   | inr y ↦ among_front a (reverse xs) (x ∷ []) (among_reverse a xs y)
 ])
 
-among_classes : (c : Config) (hs : List HeldLock) (k : ℕ) → is_listed k hs ≡ true → IsAmong (c.class k) (map (λ h. c.class h.lock) hs)
+among_classes : (c : Config) (hs : List HeldLock) (k : ℕ) → is_listed k hs ≡ true
+    → IsAmong (c.class k) (map (λ h. c.class h.lock) hs)
 among_classes c [] k e = absurd cc
 among_classes c (h ∷ hs) k e = elim (cases_eq k h.lock) [
   | inl x ↦ inl (ap c.class (sym x))
@@ -84,4 +88,5 @@ among_classes c (h ∷ hs) k e = elim (cases_eq k h.lock) [
 pub held_lead : (c : Config) (es : List (ℕ × ℕ)) (hs : List HeldLock) (w k : ℕ) → is_listed k hs ≡ true
     → IsEdge (edges_behind es (held_classes c hs) w) (c.class k) w
 held_lead c es hs w k e =
-    new_stands es (held_classes c hs) w (c.class k) (among_reverse (c.class k) (map (λ h. c.class h.lock) hs) (among_classes c hs k e))
+    new_stands es (held_classes c hs) w (c.class k)
+    (among_reverse (c.class k) (map (λ h. c.class h.lock) hs) (among_classes c hs k e))

@@ -13,7 +13,8 @@ AreOrdered-prop : (c : Config) (es : List (ℕ × ℕ)) (hs : List HeldLock) →
 AreOrdered-prop c es [] = hlevel
 AreOrdered-prop c es (h ∷ hs) = hlevel (props, EachLeads-prop, AreOrdered-prop c es hs)
 
-TakeIsInGraph-prop : (c : Config) (es : List (ℕ × ℕ)) (e : Event) (history : List Entry) (t : ℕ) → IsProp (TakeIsInGraph c es e history t)
+TakeIsInGraph-prop : (c : Config) (es : List (ℕ × ℕ)) (e : Event) (history : List Entry) (t : ℕ)
+    → IsProp (TakeIsInGraph c es e history t)
 TakeIsInGraph-prop c es (Locked l m) history t = hlevel props
 TakeIsInGraph-prop c es (HaltedLock l) history t = hlevel props
 TakeIsInGraph-prop c es other history t = hlevel

@@ -16,7 +16,8 @@ module _ (c : Config) (s : State) (t l : ℕ) (h : Ordered c s) where
   was_held : (u k : ℕ) (m : Mode) → left u k ≡ Holds m → s.held u k ≡ Holds m
   was_held u k m e = elim (cases_eq t u) [
     | inl x ↦ elim (cases_eq l k) [
-      | inl y ↦ absurd (let z : NotHeld ≡ Holds m = sym (put_at_same s.held t l NotHeld) ∙ (λ i. left (x i) (y i)) ∙ e in cc)
+      | inl y ↦
+          absurd (let z : NotHeld ≡ Holds m = sym (put_at_same s.held t l NotHeld) ∙ (λ i. left (x i) (y i)) ∙ e in cc)
       | inr y ↦ sym (put_at_beside s.held t l NotHeld u k y) ∙ e
     ]
     | inr x ↦ sym (put_at_other s.held t l NotHeld u k x) ∙ e
@@ -29,7 +30,8 @@ module _ (c : Config) (s : State) (t l : ℕ) (h : Ordered c s) where
   holds : HoldsAreOrdered c others s.edges
   unfolding HoldsAreOrdered
   holds u = elim (cases_eq t u) [
-    | inl x ↦ rw (← x, put_same s.held_locks t (without_held l (s.held_locks t))) (ordered_without c s.edges l (s.held_locks t) (h.holds_are_ordered t))
+    | inl x ↦ rw (← x, put_same s.held_locks t (without_held l (s.held_locks t)))
+        (ordered_without c s.edges l (s.held_locks t) (h.holds_are_ordered t))
     | inr x ↦ rw (put_other s.held_locks t (without_held l (s.held_locks t)) u x) (h.holds_are_ordered u)
   ]
 

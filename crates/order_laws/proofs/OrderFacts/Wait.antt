@@ -35,7 +35,8 @@ module _ (c : Config) (s : State) (t l : ℕ) (e : s.wanted t ≡ Some l) (h : O
   enter_sleepers : SleepersAreOrdered c standing s.held s.edges
   unfolding SleepersAreOrdered
   enter_sleepers u d f = elim (cases_eq t u) [
-    | inl x ↦ absurd (let z : Some (lock_queue l) ≡ Some (chan_queue d) = sym (put_same s.blocked_on t (Some (lock_queue l))) ∙ ap standing x ∙ f in cc)
+    | inl x ↦ absurd (let z : Some (lock_queue l)
+        ≡ Some (chan_queue d) = sym (put_same s.blocked_on t (Some (lock_queue l))) ∙ ap standing x ∙ f in cc)
     | inr x ↦ h.sleepers_are_ordered u d (sym (put_other s.blocked_on t (Some (lock_queue l)) u x) ∙ f)
   ]
 
@@ -52,7 +53,8 @@ module _ (c : Config) (s : State) (t l : ℕ) (e : s.wanted t ≡ Some l) (h : O
 chan_number : (a b : ℕ) → ◌≡◌ {A = Option QueueName} (Some (chan_queue a)) (Some (chan_queue b)) → a ≡ b
 chan_number a b e = grind arith
 
-module _ (c : Config) (s : State) (t d x : ℕ) (g : IsGainedLast s t (c.chan_lock d) false) (f : Lawful c s) (h : Ordered c s) where
+module _ (c : Config) (s : State) (t d x : ℕ) (g : IsGainedLast s t (c.chan_lock d) false) (f : Lawful c s)
+    (h : Ordered c s) where
   abbrev asleep : ℕ → Option QueueName
   asleep = put s.blocked_on t (Some (chan_queue d))
 
@@ -63,15 +65,18 @@ module _ (c : Config) (s : State) (t d x : ℕ) (g : IsGainedLast s t (c.chan_lo
   unfolding HoldsAreOrdered HeldAreListed
   may_return k m e ne =
       let o : AreOrdered c s.edges (its ∷ g.others) = subst (AreOrdered c s.edges) g.last (h.holds_are_ordered t) in
-      let i : is_listed k (its ∷ g.others) ≡ true = ap (is_listed k) (sym g.last) ∙ f.words.held_are_listed t k ∙ listed_held (s.held t k) m e in
-      each_at c s.edges g.others (c.class (c.chan_lock d)) k (o.0 refl) (let z = rw (ne_eqb k (c.chan_lock d) ne) at i in z)
+      let i : is_listed k (its ∷ g.others) ≡ true = ap (is_listed k) (sym g.last) ∙ f.words.held_are_listed t k
+      ∙ listed_held (s.held t k) m e in
+      each_at c s.edges g.others (c.class (c.chan_lock d)) k (o.0 refl)
+      (let z = rw (ne_eqb k (c.chan_lock d) ne) at i in z)
 
   add_sleepers : SleepersAreOrdered c asleep s.held s.edges
   unfolding SleepersAreOrdered
   add_sleepers u b e = elim (cases_eq t u) [
     | inl y ↦
         let z = chan_number d b (sym (put_same s.blocked_on t (Some (chan_queue d))) ∙ ap asleep y ∙ e) in
-        subst (λ k. OthersLeadTo c s.edges (s.held u) (c.chan_lock k)) z (subst (λ v. OthersLeadTo c s.edges (s.held v) (c.chan_lock d)) y may_return)
+        subst (λ k. OthersLeadTo c s.edges (s.held u) (c.chan_lock k)) z
+        (subst (λ v. OthersLeadTo c s.edges (s.held v) (c.chan_lock d)) y may_return)
     | inr y ↦ h.sleepers_are_ordered u b (sym (put_other s.blocked_on t (Some (chan_queue d)) u y) ∙ e)
   ]
 
@@ -83,7 +88,9 @@ module _ (c : Config) (s : State) (t d x : ℕ) (g : IsGainedLast s t (c.chan_lo
 
 module _ (c : Config) (s : State) (t : ℕ) (w : Wait) (unwoken : is_woken w ≡ false) (h : Ordered c s) where
   not_woken : (u : ℕ) (q : QueueName) (cause : Cause) → t ≡ u → put s.wait t w u ≡ Woken q cause → ⊥
-  not_woken u q cause x e = let z = sym unwoken ∙ ap is_woken (sym (put_same s.wait t w) ∙ ap (put s.wait t w) x ∙ e) in cc
+  not_woken u q cause x e =
+      let z = sym unwoken ∙ ap is_woken (sym (put_same s.wait t w) ∙ ap (put s.wait t w) x ∙ e) in
+      cc
 
   word_woken : WokenAreOrdered c (put s.wait t w) s.held s.edges
   unfolding WokenAreOrdered
@@ -114,7 +121,8 @@ queue_of q Running = q
 queue_of q Queued = q
 queue_of q (Woken r cause) = r
 
-module _ (c : Config) (s : State) (t : ℕ) (m : Mark) (ms : List Mark) (g : MayMark c s t m ms) (f : Lawful c s) (h : Ordered c s) where
+module _ (c : Config) (s : State) (t : ℕ) (m : Mark) (ms : List Mark) (g : MayMark c s t m ms) (f : Lawful c s)
+    (h : Ordered c s) where
   abbrev called : ℕ
   called = m.thread
 
@@ -133,7 +141,8 @@ module _ (c : Config) (s : State) (t : ℕ) (m : Mark) (ms : List Mark) (g : May
   mark_sleepers : SleepersAreOrdered c nowhere s.held s.edges
   unfolding SleepersAreOrdered
   mark_sleepers u d e = elim (cases_eq called u) [
-    | inl x ↦ absurd (let z : None ≡ Some (chan_queue d) = sym (put_same s.blocked_on called None) ∙ ap nowhere x ∙ e in cc)
+    | inl x ↦
+        absurd (let z : None ≡ Some (chan_queue d) = sym (put_same s.blocked_on called None) ∙ ap nowhere x ∙ e in cc)
     | inr x ↦ h.sleepers_are_ordered u d (sym (put_other s.blocked_on called None u x) ∙ e)
   ]
 
@@ -163,7 +172,8 @@ halt_number k (Some (OrderRefused a b)) = k
 halt_number k (Some (SleepHalted (Lock l))) = l.0
 halt_number k (Some (SleepHalted (Chan d))) = k
 
-module _ (c : Config) (s : State) (t : ℕ) (q : QueueName) (cause : Cause) (g : MayResume c s t q cause) (h : Ordered c s) where
+module _ (c : Config) (s : State) (t : ℕ) (q : QueueName) (cause : Cause) (g : MayResume c s t q cause)
+    (h : Ordered c s) where
   abbrev back : Bool
   back = is_taking_back (s.log t)
 
@@ -196,7 +206,8 @@ module _ (c : Config) (s : State) (t : ℕ) (q : QueueName) (cause : Cause) (g :
   resume_wants : WantsAreOrdered c (put s.wanted t wants_now) s.held s.edges
   unfolding WantsAreOrdered
   resume_wants u k e = elim (cases_eq t u) [
-    | inl x ↦ subst (λ v. LeadTo c s.edges (s.held v) k) x (by_queue q cause g.woken g.released k (sym (put_same s.wanted t wants_now) ∙ ap (put s.wanted t wants_now) x ∙ e))
+    | inl x ↦ subst (λ v. LeadTo c s.edges (s.held v) k) x (by_queue q cause g.woken g.released k
+        (sym (put_same s.wanted t wants_now) ∙ ap (put s.wanted t wants_now) x ∙ e))
     | inr x ↦ h.wants_are_ordered u k (sym (put_other s.wanted t wants_now u x) ∙ e)
   ]
 
@@ -215,7 +226,8 @@ module _ (c : Config) (s : State) (t : ℕ) (q : QueueName) (cause : Cause) (g :
   resume_halts : HaltsAreOrdered c (put s.noted t notes_now) s.held s.edges
   unfolding HaltsAreOrdered
   resume_halts u k e = elim (cases_eq t u) [
-    | inl x ↦ subst (λ v. LeadTo c s.edges (s.held v) k) x (by_note q cause g.woken k (sym (put_same s.noted t notes_now) ∙ ap (put s.noted t notes_now) x ∙ e))
+    | inl x ↦ subst (λ v. LeadTo c s.edges (s.held v) k) x
+        (by_note q cause g.woken k (sym (put_same s.noted t notes_now) ∙ ap (put s.noted t notes_now) x ∙ e))
     | inr x ↦ h.halts_are_ordered u k (sym (put_other s.noted t notes_now u x) ∙ e)
   ]
 

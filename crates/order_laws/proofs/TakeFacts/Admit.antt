@@ -13,7 +13,8 @@ use Rattle.order_laws.proofs.TakeFacts.Tests.{InProgress, says_progress, progres
 
 -- 1. The lock of a held class
 
-listed_by : (c : Config) (hs : List HeldLock) (a : ℕ) → IsAmong a (map (λ h. c.class h.lock) hs) → (k : ℕ) × (is_listed k hs ≡ true) × (c.class k ≡ a)
+listed_by : (c : Config) (hs : List HeldLock) (a : ℕ) → IsAmong a (map (λ h. c.class h.lock) hs)
+    → (k : ℕ) × (is_listed k hs ≡ true) × (c.class k ≡ a)
 listed_by c [] a i = absurd i
 listed_by c (h ∷ hs) a i = elim i [
   | inl x ↦ (h.lock, rw (eq-eqb h.lock h.lock refl) refl, x)
@@ -27,11 +28,13 @@ pub record HasHeld (c : Config) (s : State) (t a : ℕ) : Type 0 where
   pub holds : s.held t lock ≡ Holds mode
   pub from : c.class lock ≡ a
 
-pub has_held : (c : Config) (s : State) (t a : ℕ) → Lawful c s → IsAmong a (held_classes c (s.held_locks t)) → HasHeld c s t a
+pub has_held : (c : Config) (s : State) (t a : ℕ) → Lawful c s → IsAmong a (held_classes c (s.held_locks t))
+    → HasHeld c s t a
 unfolding HeldAreListed
 has_held c s t a f i =
     let hs = s.held_locks t in
-    let x = subst (IsAmong a) (reverse-reverse (map (λ h. c.class h.lock) hs)) (among_reverse a (held_classes c hs) i) in
+    let x = subst (IsAmong a) (reverse-reverse (map (λ h. c.class h.lock) hs))
+    (among_reverse a (held_classes c hs) i) in
     let r = listed_by c hs a x in
     let m = is_held (s.held t r.0) (sym (f.words.held_are_listed t r.0) ∙ r.1) in
     record { lock = r.0; mode = m.0; holds = m.1; from = r.2 }
@@ -42,7 +45,8 @@ first_among es (h ∷ held) w k i = elim i [ inl x ↦ inl x.1 | inr x ↦ inr (
 
 -- 2. More edges
 
-pub reversals_on : (c : Config) (es fs : List (ℕ × ℕ)) → Grows es fs → (history : List Entry) → ReversalsHaveCause c es history → ReversalsHaveCause c fs history
+pub reversals_on : (c : Config) (es fs : List (ℕ × ℕ)) → Grows es fs → (history : List Entry)
+    → ReversalsHaveCause c es history → ReversalsHaveCause c fs history
 unfolding ReversalsHaveCause
 reversals_on c es fs g [] h = tt
 reversals_on c es fs g (e ∷ history) h = (one e.event history e.thread.0 h.0, reversals_on c es fs g history h.1)
@@ -70,7 +74,20 @@ module _ (c : Config) (s : State) (t l : ℕ) (g : MayAdmit c s t l) (f : Lawful
   goes_on : (a b : ℕ) → InProgress c s.taking s.log s.held a b → InProgress c taking s.log s.held a b
   goes_on a b p = elim (cases_eq t p.thread) [
     | inl i ↦ absurd (let z : None ≡ Some p.lock = sym g.free.takes ∙ ap s.taking i ∙ p.takes in cc)
-    | inr i ↦ record { thread = p.thread; its = p.its; lock = p.lock; other = p.other; below = p.below; mode = p.mode; takes = put_other s.taking t (Some l) p.thread i ∙ p.takes; not_back = p.not_back; holds = p.holds; apart = p.apart; from = p.from; to = p.to }
+    | inr i ↦ record {
+      thread = p.thread;
+      its = p.its;
+      lock = p.lock;
+      other = p.other;
+      below = p.below;
+      mode = p.mode;
+      takes = put_other s.taking t (Some l) p.thread i ∙ p.takes;
+      not_back = p.not_back;
+      holds = p.holds;
+      apart = p.apart;
+      from = p.from;
+      to = p.to;
+    }
   ]
 
   begins : (a b : ℕ) → IsAmong a hs → w ≡ b → InProgress c taking s.log s.held a b
@@ -78,7 +95,20 @@ module _ (c : Config) (s : State) (t l : ℕ) (g : MayAdmit c s t l) (f : Lawful
   begins a b i x =
       let r = has_held c s t a f i in
       let apart : r.lock ≡ l → ⊥ = λ j. forbids_none s.edges hs w a g.admitted i (inl (sym r.from ∙ ap c.class j)) in
-      record { thread = t; its = g.free.thread; lock = l; other = r.lock; below = h.only_locks_are_held t r.lock r.mode r.holds; mode = r.mode; takes = put_same s.taking t (Some l); not_back = g.free.awake; holds = r.holds; apart = apart; from = r.from; to = x }
+      record {
+        thread = t;
+        its = g.free.thread;
+        lock = l;
+        other = r.lock;
+        below = h.only_locks_are_held t r.lock r.mode r.holds;
+        mode = r.mode;
+        takes = put_same s.taking t (Some l);
+        not_back = g.free.awake;
+        holds = r.holds;
+        apart = apart;
+        from = r.from;
+        to = x;
+      }
 
   admit_edges : EdgesAreOfTakes c es taking s.log s.held s.history
   unfolding EdgesAreOfTakes
@@ -89,7 +119,8 @@ module _ (c : Config) (s : State) (t l : ℕ) (g : MayAdmit c s t l) (f : Lawful
         | inl x ↦ or_right noted going (progress_says c taking s.log s.held a b (begins a b x.0 x.1))
         | inr x ↦ elim (or_cases noted (in_progress c s.taking s.log s.held a b) (h.edges_are_of_takes a b x)) [
           | inl y ↦ or_left noted going y
-          | inr y ↦ or_right noted going (progress_says c taking s.log s.held a b (goes_on a b (says_progress c s.taking s.log s.held a b y)))
+          | inr y ↦ or_right noted going
+              (progress_says c taking s.log s.held a b (goes_on a b (says_progress c s.taking s.log s.held a b y)))
         ]
       ]
 
@@ -108,7 +139,8 @@ module _ (c : Config) (s : State) (t l : ℕ) (g : MayAdmit c s t l) (f : Lawful
 
   pub admits : Taken c (after_admit c s t l)
   unfolding after_admit
-  admits = assumption (h, admit_edges, admit_open, admit_refusals, reversals_on c s.edges es more s.history h.reversals_have_cause)
+  admits = assumption
+      (h, admit_edges, admit_open, admit_refusals, reversals_on c s.edges es more s.history h.reversals_have_cause)
 
 -- 3. A refusal
 
@@ -127,20 +159,24 @@ module _ (c : Config) (s : State) (t l k : ℕ) (g : MayRefuse c s t l k) (f : L
   unfolding OnlyLocksAreHeld
   named_open =
       let r = has_held c s t k f (first_among s.edges (held_classes c (s.held_locks t)) (c.class l) k g.refused) in
-      open_says c s.history t r.lock k r.mode (h.only_locks_are_held t r.lock r.mode r.holds) r.from (g.free.sections r.lock r.mode r.holds)
+      open_says c s.history t r.lock k r.mode (h.only_locks_are_held t r.lock r.mode r.holds) r.from
+      (g.free.sections r.lock r.mode r.holds)
 
   named_forbids : forbids s.edges k (c.class l) ≡ true
-  named_forbids = says_forbids s.edges (c.class l) k (first_forbids s.edges (held_classes c (s.held_locks t)) (c.class l) k g.refused)
+  named_forbids = says_forbids s.edges (c.class l) k
+      (first_forbids s.edges (held_classes c (s.held_locks t)) (c.class l) k g.refused)
 
   refuse_refusals : RefusalsHaveCause c (put s.noted t (Some (OrderRefused l k))) s.edges s.history
   unfolding RefusalsHaveCause refused_lock refused_class
   refuse_refusals u j i e = elim (cases_eq t u) [
     | inl x ↦
-        let z : Some (OrderRefused l k) ≡ Some (OrderRefused j i) = sym (put_same s.noted t (Some (OrderRefused l k))) ∙ ap (put s.noted t (Some (OrderRefused l k))) x ∙ e in
+        let z : Some (OrderRefused l k) ≡ Some (OrderRefused j i) = sym (put_same s.noted t (Some (OrderRefused l k)))
+        ∙ ap (put s.noted t (Some (OrderRefused l k))) x ∙ e in
         let a : l ≡ j = ap (refused_lock l) z in
         let b : k ≡ i = ap (refused_class k) z in (
           ap (λ v. has_open c s.history v i) (sym x) ∙ ap (has_open c s.history t) (sym b) ∙ named_open,
-          ap (λ v. forbids s.edges v (c.class j)) (sym b) ∙ ap (λ v. forbids s.edges k (c.class v)) (sym a) ∙ named_forbids,
+          ap (λ v. forbids s.edges v (c.class j)) (sym b) ∙ ap (λ v. forbids s.edges k (c.class v)) (sym a)
+              ∙ named_forbids,
         )
     | inr x ↦ h.refusals_have_cause u j i (sym (put_other s.noted t (Some (OrderRefused l k)) u x) ∙ e)
   ]

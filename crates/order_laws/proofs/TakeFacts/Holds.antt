@@ -8,22 +8,27 @@ use Rattle.std.proofs.Common.{◌≡◌, ◌⊎◌, ◌<◌, ◌∙◌}
 use Rattle.order_laws.proofs.TakeFacts.Tests.{InProgress, says_progress, progress_says}
 
 -- where each take that was in progress is noted, or still in progress
-pub carried : (c : Config) (edges : List (ℕ × ℕ)) (taking taking' : ℕ → Option ℕ) (log log' : ℕ → List Entry) (held held' : ℕ → ℕ → Hold) (es es' : List Entry)
-    → ((a b : ℕ) → InProgress c taking log held a b → IsEdge (take_edges c es') a b ⊎ InProgress c taking' log' held' a b)
-    → Grows (take_edges c es) (take_edges c es') → EdgesAreOfTakes c edges taking log held es → EdgesAreOfTakes c edges taking' log' held' es'
+pub carried : (c : Config) (edges : List (ℕ × ℕ)) (taking taking' : ℕ → Option ℕ) (log log' : ℕ → List Entry)
+    (held held' : ℕ → ℕ → Hold) (es es' : List Entry)
+    → ((a b : ℕ) → InProgress c taking log held a b
+    → IsEdge (take_edges c es') a b ⊎ InProgress c taking' log' held' a b)
+    → Grows (take_edges c es) (take_edges c es') → EdgesAreOfTakes c edges taking log held es
+    → EdgesAreOfTakes c edges taking' log' held' es'
 unfolding EdgesAreOfTakes
 carried c edges taking taking' log log' held held' es es' on more h a b i =
     elim (or_cases (is_edge (take_edges c es) a b) (in_progress c taking log held a b) (h a b i)) [
       | inl x ↦ or_left (is_edge (take_edges c es') a b) (in_progress c taking' log' held' a b) (more a b x)
       | inr x ↦ elim (on a b (says_progress c taking log held a b x)) [
         | inl y ↦ or_left (is_edge (take_edges c es') a b) (in_progress c taking' log' held' a b) y
-        | inr y ↦ or_right (is_edge (take_edges c es') a b) (in_progress c taking' log' held' a b) (progress_says c taking' log' held' a b y)
+        | inr y ↦ or_right (is_edge (take_edges c es') a b) (in_progress c taking' log' held' a b)
+            (progress_says c taking' log' held' a b y)
       ]
     ]
 
 -- 1. A gain of the lock that is taken, or by a thread that takes none
 
-module _ (c : Config) (s : State) (t l : ℕ) (mode : Mode) (lt : l < c.locks) (unheld : s.held t l ≡ NotHeld) (k : (j : ℕ) → s.taking t ≡ Some j → j ≡ l) (h : Taken c s) where
+module _ (c : Config) (s : State) (t l : ℕ) (mode : Mode) (lt : l < c.locks) (unheld : s.held t l ≡ NotHeld)
+    (k : (j : ℕ) → s.taking t ≡ Some j → j ≡ l) (h : Taken c s) where
   abbrev held : ℕ → ℕ → Hold
   held = put_at s.held t l (Holds mode)
 
@@ -48,23 +53,41 @@ module _ (c : Config) (s : State) (t l : ℕ) (mode : Mode) (lt : l < c.locks) (
 
   gain_edges : EdgesAreOfTakes c s.edges s.taking s.log held s.history
   gain_edges = carried c s.edges s.taking s.taking s.log s.log s.held held s.history s.history
-      (λ a b p. inr (record { thread = p.thread; its = p.its; lock = p.lock; other = p.other; below = p.below; mode = p.mode; takes = p.takes; not_back = p.not_back; holds = holds_yet p.thread p.other p.mode p.holds; apart = p.apart; from = p.from; to = p.to }))
+      (λ a b p. inr (record {
+        thread = p.thread;
+        its = p.its;
+        lock = p.lock;
+        other = p.other;
+        below = p.below;
+        mode = p.mode;
+        takes = p.takes;
+        not_back = p.not_back;
+        holds = holds_yet p.thread p.other p.mode p.holds;
+        apart = p.apart;
+        from = p.from;
+        to = p.to;
+      }))
       (λ a b i. i) h.edges_are_of_takes
 
   gain_open : TakersAreOpen c s.taking s.log held s.history
   unfolding TakersAreOpen
   gain_open u i e b j m f ne = elim (cases_eq t u) [
-    | inl x ↦ h.takers_are_open u i e b j m (sym (put_at_beside s.held t l (Holds mode) u j (λ y. ne (sym y ∙ sym (k i (ap s.taking x ∙ e))))) ∙ f) ne
+    | inl x ↦ h.takers_are_open u i e b j m
+        (sym (put_at_beside s.held t l (Holds mode) u j (λ y. ne (sym y ∙ sym (k i (ap s.taking x ∙ e))))) ∙ f) ne
     | inr x ↦ h.takers_are_open u i e b j m (sym (put_at_other s.held t l (Holds mode) u j x) ∙ f) ne
   ]
 
-pub gains : (c : Config) (s : State) (t l : ℕ) (mode : Mode) (by_try : Bool) → l < c.locks → s.held t l ≡ NotHeld → ((j : ℕ) → s.taking t ≡ Some j → j ≡ l) → Taken c s → Taken c (after_gain s t l mode by_try)
+pub gains : (c : Config) (s : State) (t l : ℕ) (mode : Mode) (by_try : Bool) → l < c.locks → s.held t l ≡ NotHeld
+    → ((j : ℕ) → s.taking t ≡ Some j → j ≡ l) → Taken c s → Taken c (after_gain s t l mode by_try)
 unfolding after_gain
-gains c s t l mode by_try lt u k h = assumption (h, gain_locks c s t l mode lt u k h, gain_edges c s t l mode lt u k h, gain_open c s t l mode lt u k h)
+gains c s t l mode by_try lt u k h =
+    assumption (h, gain_locks c s t l mode lt u k h, gain_edges c s t l mode lt u k h, gain_open c s t l mode lt u k h)
 
-pub claims : (c : Config) (s : State) (t l x : ℕ) (by_try : Bool) → l < c.locks → s.held t l ≡ NotHeld → ((j : ℕ) → s.taking t ≡ Some j → j ≡ l) → Taken c s → Taken c (after_claim c s t l x by_try)
+pub claims : (c : Config) (s : State) (t l x : ℕ) (by_try : Bool) → l < c.locks → s.held t l ≡ NotHeld
+    → ((j : ℕ) → s.taking t ≡ Some j → j ≡ l) → Taken c s → Taken c (after_claim c s t l x by_try)
 unfolding after_claim
-claims c s t l x by_try lt u k h = assumption (h, gain_locks c s t l Excl lt u k h, gain_edges c s t l Excl lt u k h, gain_open c s t l Excl lt u k h)
+claims c s t l x by_try lt u k h =
+    assumption (h, gain_locks c s t l Excl lt u k h, gain_edges c s t l Excl lt u k h, gain_open c s t l Excl lt u k h)
 
 -- 2. A release by a thread that takes nothing
 
@@ -75,7 +98,8 @@ module _ (c : Config) (s : State) (t l : ℕ) (n : s.taking t ≡ None) (h : Tak
   was_held : (u j : ℕ) (m : Mode) → left u j ≡ Holds m → s.held u j ≡ Holds m
   was_held u j m e = elim (cases_eq t u) [
     | inl x ↦ elim (cases_eq l j) [
-      | inl y ↦ absurd (let z : NotHeld ≡ Holds m = sym (put_at_same s.held t l NotHeld) ∙ (λ i. left (x i) (y i)) ∙ e in cc)
+      | inl y ↦
+          absurd (let z : NotHeld ≡ Holds m = sym (put_at_same s.held t l NotHeld) ∙ (λ i. left (x i) (y i)) ∙ e in cc)
       | inr y ↦ sym (put_at_beside s.held t l NotHeld u j y) ∙ e
     ]
     | inr x ↦ sym (put_at_other s.held t l NotHeld u j x) ∙ e
@@ -89,7 +113,20 @@ module _ (c : Config) (s : State) (t l : ℕ) (n : s.taking t ≡ None) (h : Tak
   left_edges = carried c s.edges s.taking s.taking s.log s.log s.held left s.history s.history
       (λ a b p. elim (cases_eq t p.thread) [
         | inl i ↦ absurd (let z : None ≡ Some p.lock = sym n ∙ ap s.taking i ∙ p.takes in cc)
-        | inr i ↦ inr (record { thread = p.thread; its = p.its; lock = p.lock; other = p.other; below = p.below; mode = p.mode; takes = p.takes; not_back = p.not_back; holds = put_at_other s.held t l NotHeld p.thread p.other i ∙ p.holds; apart = p.apart; from = p.from; to = p.to })
+        | inr i ↦ inr (record {
+          thread = p.thread;
+          its = p.its;
+          lock = p.lock;
+          other = p.other;
+          below = p.below;
+          mode = p.mode;
+          takes = p.takes;
+          not_back = p.not_back;
+          holds = put_at_other s.held t l NotHeld p.thread p.other i ∙ p.holds;
+          apart = p.apart;
+          from = p.from;
+          to = p.to;
+        })
       ])
       (λ a b i. i) h.edges_are_of_takes
 

@@ -84,10 +84,12 @@ module _ (c : Config) (s : State) (t l : ℕ) (by_try : Bool) (k : IsTakenInOrde
 
 -- 2. A resume
 
-back_takes : (c : Config) (s : State) (t : ℕ) (q : QueueName) → IsBackFrom s t q → is_taking_back (s.log t) ≡ false → taking_by c q (s.taking t) ≡ s.taking t
+back_takes : (c : Config) (s : State) (t : ℕ) (q : QueueName) → IsBackFrom s t q → is_taking_back (s.log t) ≡ false
+    → taking_by c q (s.taking t) ≡ s.taking t
 back_takes c s t q k b = grind arith
 
-refused_before : (q : QueueName) (cause : Cause) (back : Bool) (o : Option Note) (l k : ℕ) → noted_after q cause back o ≡ Some (OrderRefused l k) → o ≡ Some (OrderRefused l k)
+refused_before : (q : QueueName) (cause : Cause) (back : Bool) (o : Option Note) (l k : ℕ)
+    → noted_after q cause back o ≡ Some (OrderRefused l k) → o ≡ Some (OrderRefused l k)
 refused_before q cause back o l k e = grind arith
 
 module _ (c : Config) (s : State) (t : ℕ) (q : QueueName) (cause : Cause) (k : IsBackFrom s t q) (h : Taken c s) where
@@ -97,23 +99,39 @@ module _ (c : Config) (s : State) (t : ℕ) (q : QueueName) (cause : Cause) (k :
   -- who doesn't take a lock back takes what it took
   same_taking : (u : ℕ) → is_taking_back (s.log u) ≡ false → resumed u ≡ s.taking u
   same_taking u b = elim (cases_eq t u) [
-    | inl x ↦ ap resumed (sym x) ∙ put_same s.taking t (taking_by c q (s.taking t)) ∙ back_takes c s t q k (ap (λ v. is_taking_back (s.log v)) x ∙ b) ∙ ap s.taking x
+    | inl x ↦ ap resumed (sym x) ∙ put_same s.taking t (taking_by c q (s.taking t))
+        ∙ back_takes c s t q k (ap (λ v. is_taking_back (s.log v)) x ∙ b) ∙ ap s.taking x
     | inr x ↦ put_other s.taking t (taking_by c q (s.taking t)) u x
   ]
 
   resume_edges : EdgesAreOfTakes c s.edges resumed s.log s.held s.history
   resume_edges = carried c s.edges s.taking resumed s.log s.log s.held s.held s.history s.history
-      (λ a b p. inr (record { thread = p.thread; its = p.its; lock = p.lock; other = p.other; below = p.below; mode = p.mode; takes = same_taking p.thread p.not_back ∙ p.takes; not_back = p.not_back; holds = p.holds; apart = p.apart; from = p.from; to = p.to }))
+      (λ a b p. inr (record {
+        thread = p.thread;
+        its = p.its;
+        lock = p.lock;
+        other = p.other;
+        below = p.below;
+        mode = p.mode;
+        takes = same_taking p.thread p.not_back ∙ p.takes;
+        not_back = p.not_back;
+        holds = p.holds;
+        apart = p.apart;
+        from = p.from;
+        to = p.to;
+      }))
       (λ a b i. i) h.edges_are_of_takes
 
   resume_open : TakersAreOpen c resumed s.log s.held s.history
   unfolding TakersAreOpen
   resume_open u i e b j m f ne = h.takers_are_open u i (sym (same_taking u b) ∙ e) b j m f ne
 
-  resume_refusals : RefusalsHaveCause c (put s.noted t (noted_after q cause (is_taking_back (s.log t)) (s.noted t))) s.edges s.history
+  resume_refusals : RefusalsHaveCause c
+      (put s.noted t (noted_after q cause (is_taking_back (s.log t)) (s.noted t))) s.edges s.history
   unfolding RefusalsHaveCause
   resume_refusals u l j e = h.refusals_have_cause u l j (elim (cases_eq t u) [
-    | inl x ↦ ap s.noted (sym x) ∙ refused_before q cause (is_taking_back (s.log t)) (s.noted t) l j (sym (put_same s.noted t _) ∙ ap (put s.noted t _) x ∙ e)
+    | inl x ↦ ap s.noted (sym x) ∙ refused_before q cause (is_taking_back (s.log t)) (s.noted t) l j
+        (sym (put_same s.noted t _) ∙ ap (put s.noted t _) x ∙ e)
     | inr x ↦ sym (put_other s.noted t _ u x) ∙ e
   ])
 
@@ -134,7 +152,8 @@ ended c back e l o i = grind arith
 ends_take : (c : Config) (back : Bool) (e : Event) (l : ℕ) → EndsTake c back e l → back ≡ false → taken_by e ≡ Some l
 ends_take c back e l i b = grind arith
 
-module _ (c : Config) (s : State) (t : ℕ) (e : Event) (g : MayStamp c s t e) (k : (l : ℕ) → s.taking t ≡ Some l → EndsTake c (is_taking_back (s.log t)) e l) (h : Taken c s) where
+module _ (c : Config) (s : State) (t : ℕ) (e : Event) (g : MayStamp c s t e)
+    (k : (l : ℕ) → s.taking t ≡ Some l → EndsTake c (is_taking_back (s.log t)) e l) (h : Taken c s) where
   abbrev new : Entry
   new = entry_of s t e
 
@@ -152,19 +171,37 @@ module _ (c : Config) (s : State) (t : ℕ) (e : Event) (g : MayStamp c s t e) (
       go None i = ap (taking_after e) i ∙ none_after e
       go (Some l) i = ended c (is_taking_back (s.log t)) e l (s.taking t) (k l i)
 
-  noted_or_on : (a b : ℕ) → InProgress c s.taking s.log s.held a b → IsEdge (take_edges c (new ∷ s.history)) a b ⊎ InProgress c now log s.held a b
+  noted_or_on : (a b : ℕ) → InProgress c s.taking s.log s.held a b
+      → IsEdge (take_edges c (new ∷ s.history)) a b ⊎ InProgress c now log s.held a b
   unfolding TakersAreOpen
   noted_or_on a b p = elim (cases_eq t p.thread) [
     | inl j ↦
-        let x : taken_by e ≡ Some p.lock = ends_take c (is_taking_back (s.log t)) e p.lock (k p.lock (ap s.taking j ∙ p.takes)) (ap (λ v. is_taking_back (s.log v)) j ∙ p.not_back) in
-        let o : open_in c s.history t p.other ≡ Holds p.mode = ap (λ v. open_in c s.history v p.other) j ∙ h.takers_are_open p.thread p.lock p.takes p.not_back p.other p.mode p.holds p.apart in
+        let x : taken_by e ≡ Some p.lock = ends_take c (is_taking_back (s.log t)) e p.lock
+        (k p.lock (ap s.taking j ∙ p.takes)) (ap (λ v. is_taking_back (s.log v)) j ∙ p.not_back) in
+        let o : open_in c s.history t p.other ≡ Holds p.mode = ap (λ v. open_in c s.history v p.other) j
+        ∙ h.takers_are_open p.thread p.lock p.takes p.not_back p.other p.mode p.holds p.apart in
         let i = take_gives c new s.history p.lock p.other p.mode x p.below o in
-        inl (subst (λ v. IsEdge (take_edges c (new ∷ s.history)) v b) p.from (subst (λ v. IsEdge (take_edges c (new ∷ s.history)) (c.class p.other) v) p.to i))
-    | inr j ↦ inr (record { thread = p.thread; its = p.its; lock = p.lock; other = p.other; below = p.below; mode = p.mode; takes = put_other s.taking t (taking_after e (s.taking t)) p.thread j ∙ p.takes; not_back = ap is_taking_back (put_other s.log t (new ∷ s.log t) p.thread j) ∙ p.not_back; holds = p.holds; apart = p.apart; from = p.from; to = p.to })
+        inl (subst (λ v. IsEdge (take_edges c (new ∷ s.history)) v b) p.from
+        (subst (λ v. IsEdge (take_edges c (new ∷ s.history)) (c.class p.other) v) p.to i))
+    | inr j ↦ inr (record {
+      thread = p.thread;
+      its = p.its;
+      lock = p.lock;
+      other = p.other;
+      below = p.below;
+      mode = p.mode;
+      takes = put_other s.taking t (taking_after e (s.taking t)) p.thread j ∙ p.takes;
+      not_back = ap is_taking_back (put_other s.log t (new ∷ s.log t) p.thread j) ∙ p.not_back;
+      holds = p.holds;
+      apart = p.apart;
+      from = p.from;
+      to = p.to;
+    })
   ]
 
   stamp_edges : EdgesAreOfTakes c s.edges now log s.held (new ∷ s.history)
-  stamp_edges = carried c s.edges s.taking now s.log log s.held s.held s.history (new ∷ s.history) noted_or_on (take_stays c new s.history) h.edges_are_of_takes
+  stamp_edges = carried c s.edges s.taking now s.log log s.held s.held s.history (new ∷ s.history) noted_or_on
+      (take_stays c new s.history) h.edges_are_of_takes
 
   -- the sections of another thread
   others_open : (u j : ℕ) → (t ≡ u → ⊥) → open_in c (new ∷ s.history) u j ≡ open_in c s.history u j
@@ -175,16 +212,20 @@ module _ (c : Config) (s : State) (t : ℕ) (e : Event) (g : MayStamp c s t e) (
   unfolding TakersAreOpen
   stamp_open u i a b j m f ne = elim (cases_eq t u) [
     | inl x ↦ absurd (let q : None ≡ Some i = sym none_now ∙ ap now x ∙ a in cc)
-    | inr x ↦ others_open u j x ∙ h.takers_are_open u i (sym (put_other s.taking t (taking_after e (s.taking t)) u x) ∙ a) (ap is_taking_back (sym (put_other s.log t (new ∷ s.log t) u x)) ∙ b) j m f ne
+    | inr x ↦ others_open u j x
+        ∙ h.takers_are_open u i (sym (put_other s.taking t (taking_after e (s.taking t)) u x) ∙ a)
+        (ap is_taking_back (sym (put_other s.log t (new ∷ s.log t) u x)) ∙ b) j m f ne
   ]
 
   stamp_refusals : RefusalsHaveCause c (put s.noted t None) s.edges (new ∷ s.history)
   unfolding RefusalsHaveCause
   stamp_refusals u l j a = elim (cases_eq t u) [
-    | inl x ↦ absurd (let z : None ≡ Some (OrderRefused l j) = sym (put_same s.noted t None) ∙ ap (put s.noted t None) x ∙ a in cc)
+    | inl x ↦ absurd
+        (let z : None ≡ Some (OrderRefused l j) = sym (put_same s.noted t None) ∙ ap (put s.noted t None) x ∙ a in cc)
     | inr x ↦
         let r = h.refusals_have_cause u l j (sym (put_other s.noted t None u x) ∙ a) in
-        let same : has_open c (new ∷ s.history) u j ≡ has_open c s.history u j = λ i. any_below c.locks (λ v. eqb (c.class v) j && not (is_unheld (others_open u v x i))) in
+        let same : has_open c (new ∷ s.history) u j ≡ has_open c s.history u j = λ i. any_below c.locks
+        (λ v. eqb (c.class v) j && not (is_unheld (others_open u v x i))) in
         (same ∙ r.0, r.1)
   ]
 

@@ -4,7 +4,8 @@ use Names.{ℕ, List, [], props, Config, ReversalHasCause, State, Taken, OnlyLoc
 use Names.{RefusalsHaveCause, ReversalsHaveCause, Event, Reversed, Entry}
 use Rattle.std.proofs.Common.{◌∷◌}
 
-ReversalHasCause-prop : (c : Config) (es : List (ℕ × ℕ)) (e : Event) (history : List Entry) (t : ℕ) → IsProp (ReversalHasCause c es e history t)
+ReversalHasCause-prop : (c : Config) (es : List (ℕ × ℕ)) (e : Event) (history : List Entry) (t : ℕ)
+    → IsProp (ReversalHasCause c es e history t)
 ReversalHasCause-prop c es (Reversed l held) history t = hlevel props
 ReversalHasCause-prop c es other history t = hlevel
 

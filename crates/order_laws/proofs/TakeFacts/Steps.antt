@@ -11,7 +11,8 @@ use Rattle.order_laws.proofs.TakeFacts.Admit as admit
 use Rattle.order_laws.proofs.TakeFacts.Holds as holds
 use Rattle.order_laws.proofs.TakeFacts.Notes as notes
 
-pub keeps : (c : Config) (s : State) (step : Step) → May c s step → KeepsToOrder c s step → Lawful c s → Taken c s → Taken c (after c s step)
+pub keeps : (c : Config) (s : State) (step : Step) → May c s step → KeepsToOrder c s step → Lawful c s → Taken c s
+    → Taken c (after c s step)
 unfolding after_look after_ready after_unready after_enter after_mark after_enter_sleep after_add after_wake after_lend
     after_shift after_end_walk after_take after_give after_count_out after_count_in after_count_self_in after_count_end
     after_halt after_abort
@@ -27,7 +28,8 @@ keeps c s (Admits t l) g k f h = admit.admits c s t l g f h
 keeps c s (Refuses t l class) g k f h = admit.refuses c s t l class g f h
 keeps c s other g k f h = assumption h
 
-pub all_keep : (c : Config) (s : State) (steps : List Step) → MayAll c s steps → KeepToOrder c s steps → Lawful c s → Taken c s → Taken c (after_all c s steps)
+pub all_keep : (c : Config) (s : State) (steps : List Step) → MayAll c s steps → KeepToOrder c s steps → Lawful c s
+    → Taken c s → Taken c (after_all c s steps)
 all_keep c s [] g k f h = h
 all_keep c s (step ∷ steps) g k f h =
     all_keep c (after c s step) steps g.1 k.1 (lawful.keeps c s step g.0 f) (keeps c s step g.0 k.0 f h)

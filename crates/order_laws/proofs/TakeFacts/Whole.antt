@@ -36,16 +36,18 @@ module _ (c : Config) (edges : List (ℕ × ℕ)) where
 module _ (c : Config) (s : State) (f : Ordered c s) (h : Taken c s) (still : (t : ℕ) → s.taking t ≡ None) where
   all_noted : Grows s.edges (take_edges c s.history)
   unfolding EdgesAreOfTakes
-  all_noted a b i = elim (or_cases (is_edge (take_edges c s.history) a b) (in_progress c s.taking s.log s.held a b) (h.edges_are_of_takes a b i)) [
-    | inl x ↦ x
-    | inr x ↦
-        let p = says_progress c s.taking s.log s.held a b x in
-        absurd (let z : None ≡ Some p.lock = sym (still p.thread) ∙ p.takes in cc)
-  ]
+  all_noted a b i = elim (or_cases (is_edge (take_edges c s.history) a b) (in_progress c s.taking s.log s.held a b)
+      (h.edges_are_of_takes a b i)) [
+        | inl x ↦ x
+        | inr x ↦
+            let p = says_progress c s.taking s.log s.held a b x in
+            absurd (let z : None ≡ Some p.lock = sym (still p.thread) ∙ p.takes in cc)
+      ]
 
   pub legal : OrdersAreLegal c s.history
   unfolding HasNoCycle
   legal = record {
-    no_cycle = λ a r. f.no_cycle a (paths_grow (take_edges c s.history) s.edges (in_graph c s.edges s.history f.takes_are_in_graph) r);
+    no_cycle = λ a r. f.no_cycle a
+        (paths_grow (take_edges c s.history) s.edges (in_graph c s.edges s.history f.takes_are_in_graph) r);
     reversals_have_cause = reversals_on c s.edges (take_edges c s.history) all_noted s.history h.reversals_have_cause;
   }

@@ -88,8 +88,11 @@ module _ (es : List Entry) where
       → Each (λ w. entries_up_to fs w.thread ≡ entries_up_to es w.thread) ws → InOrder es ws → InOrder fs ws
   in_order-map fs [] e o = tt
   in_order-map fs (w ∷ ws) e o =
-      let a = e.0 in
-      (each_two (λ v. entries_up_to fs v.thread ≡ entries_up_to es v.thread) (λ v. SleptLonger es v.thread w) (λ v. SleptLonger fs v.thread w) ws (λ v x y. omega arith) e.1 o.0, in_order-map fs ws e.1 o.1)
+      let a = e.0 in (
+        each_two (λ v. entries_up_to fs v.thread ≡ entries_up_to es v.thread) (λ v. SleptLonger es v.thread w)
+            (λ v. SleptLonger fs v.thread w) ws (λ v x y. omega arith) e.1 o.0,
+        in_order-map fs ws e.1 o.1,
+      )
 
 -- 3. The best
 
@@ -107,8 +110,10 @@ best_first es w (v ∷ vs) o = go (better v (best_of vs)) _ refl (best_first es 
         → Each (NotBefore es (cond l b w)) (w ∷ v ∷ vs)
     go b true e rest = (grind (arith, nat_tests), rest)
     go b false e rest =
-        let Longer : Waiter → Type 0 = (λ x. SleptLonger es x.thread w) in
-        (grind arith, each_two (NotBefore es b) Longer (NotBefore es w) (v ∷ vs) (λ x p q. grind (arith, nat_tests)) rest o.0)
+        let Longer : Waiter → Type 0 = (λ x. SleptLonger es x.thread w) in (
+          grind arith,
+          each_two (NotBefore es b) Longer (NotBefore es w) (v ∷ vs) (λ x p q. grind (arith, nat_tests)) rest o.0,
+        )
 
 best_has : (P : Waiter → Type 0) (w : Waiter) (ws : List Waiter) → Each P (w ∷ ws) → P (better w (best_of ws))
 best_has P w [] p = p.0
@@ -124,5 +129,8 @@ wake_fair c es false [] o k = refl
 wake_fair c es false (w ∷ ws) o k =
     let b : Waiter = better w (best_of ws) in
     let kept = best_has (KeepsBase (base_in c es)) w ws k in
-    let After : Waiter → Type 0 = (λ v. goes_before c es v.thread b.thread ≡ false) in
-    (refl, each-without After b.thread (w ∷ ws) (each_two (KeepsBase (base_in c es)) (NotBefore es b) After (w ∷ ws) (λ v p n. grind (arith, nat_tests)) k (best_first es w ws o)))
+    let After : Waiter → Type 0 = (λ v. goes_before c es v.thread b.thread ≡ false) in (
+      refl,
+      each-without After b.thread (w ∷ ws) (each_two (KeepsBase (base_in c es)) (NotBefore es b) After (w ∷ ws)
+          (λ v p n. grind (arith, nat_tests)) k (best_first es w ws o)),
+    )

@@ -53,5 +53,6 @@ module _ {at_work : ℕ → Option ℕ} {c : Config} {s : State} (l : Lawful c s
 
   pub enters_sleep_queue : (mode : Mode) (x : ℕ)
       → SleepersFit at_work c (after_enter_sleep s t k mode x)
-  unfolding after_enter_sleep put_queue SleepersInOrder LatecomersAreLater SleepersKeepBase SleepersAreExclusive UnnotedIsFair
+  unfolding after_enter_sleep put_queue SleepersInOrder LatecomersAreLater SleepersKeepBase SleepersAreExclusive
+      UnnotedIsFair
   enters_sleep_queue mode x = assumption (h, slept, wants, unwoken, unhalted, there, way, later)

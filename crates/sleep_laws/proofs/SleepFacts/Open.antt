@@ -78,5 +78,6 @@ module _ {at_work : ℕ → Option ℕ} {c : Config} {s : State} (h : SleepersFi
   opens = assumption (h, named, listed, took, slept_on, there, way, later, over)
 
   pub opens_sleep_queue : SleepersFit at_work c (after_open_sleep c s t k)
-  unfolding after_open_sleep put_queue SleepersInOrder LatecomersAreLater SleepersKeepBase SleepersAreExclusive UnnotedIsFair
+  unfolding after_open_sleep put_queue SleepersInOrder LatecomersAreLater SleepersKeepBase SleepersAreExclusive
+      UnnotedIsFair
   opens_sleep_queue = assumption (h, named, listed, took, slept_on, there, way, later, over)

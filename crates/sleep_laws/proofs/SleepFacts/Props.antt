@@ -16,7 +16,8 @@ InOrder-prop : (es : List Entry) (ws : List Waiter) → IsProp (InOrder es ws)
 InOrder-prop es [] = hlevel
 InOrder-prop es (w ∷ ws) = hlevel (props, Each-prop, InOrder-prop es ws)
 
-LeavesNobodyBefore-prop : (c : Config) (es : List Entry) (all : Bool) (us : List ℕ) (ws : List Waiter) → IsProp (LeavesNobodyBefore c es all us ws)
+LeavesNobodyBefore-prop : (c : Config) (es : List Entry) (all : Bool) (us : List ℕ) (ws : List Waiter)
+    → IsProp (LeavesNobodyBefore c es all us ws)
 LeavesNobodyBefore-prop c es true us ws = hlevel props
 LeavesNobodyBefore-prop c es false [] ws = hlevel props
 LeavesNobodyBefore-prop c es false (u ∷ us) ws = hlevel (props, Each-prop)
@@ -38,4 +39,5 @@ unfolding NamedAreWoken MarksAreSignals WokenBySignal NoSleepIsHalted SleepersSl
     SleepersWantNothing SleepersAreUnwoken AsleepStandThere AsleepAreOnTheirWay SleepersInOrder LatecomersAreLater
     SleepersKeepBase SleepersAreExclusive UnnotedAreMarked UnnotedIsAtWork UnnotedIsFair AbortedSleep
     SleepersAreUnhalted PassedOverAreAborted
-SleepersFit-prop at_work c s = hlevel (props, AreSignals-prop, InOrder-prop, Each-prop, LeavesNobodyBefore-prop, wakings)
+SleepersFit-prop at_work c s =
+    hlevel (props, AreSignals-prop, InOrder-prop, Each-prop, LeavesNobodyBefore-prop, wakings)

@@ -10,6 +10,7 @@ invariant-loop-row l =
     let left = changed (told l.plan l.column) (option_map (λ text. text.items) l.last) (drop l.row-index l.rows) in
     record {
       few : l.n ≤ l.row-index;
-      pushed : l.out.items ++ items_bytes (l.n == 0) (items true (told_from (λ i. pair (cell l.plan l.column)) l.n left))
+      pushed : l.out.items
+          ++ items_bytes (l.n == 0) (items true (told_from (λ i. pair (cell l.plan l.column)) l.n left))
           ≡ l.fn.out.items ++ l.name ++ value_bytes (column_track l.plan l.column l.rows);
     }

@@ -4,4 +4,5 @@ use Rattle.chart_trace.specs.Events.{loan_lock}
 use Rattle.chart_trace.proofs.flows.loan_locks.Given as goal
 
 abbrev pub invariant-loop-sentence : goal.invariant-loop-sentence
-invariant-loop-sentence l = (turn : ℕ) → table.get nat_eq l.locks turn ≡ loan_lock (take l.sentence-index l.sentences) turn
+invariant-loop-sentence l = (turn : ℕ)
+    → table.get nat_eq l.locks turn ≡ loan_lock (take l.sentence-index l.sentences) turn

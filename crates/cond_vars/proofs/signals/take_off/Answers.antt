@@ -27,6 +27,8 @@ returns-in-Some-begin_wakeup-clause-off g c =
 
 pub loop-preserved : goal.loop-preserved
 loop-preserved g c = assumption (
-  waits_on c.args.floor.now.description (its_chain c.args.floor.now.description (chan_queue c.args.c.0)) c.args.pass.now.view c.loop.pass.view c.begin_wakeup.new.pass.view c.loop.invariant.waited c.in-None-begin_wakeup.ensures.left c.in-None-begin_wakeup.ensures.elsewhere,
+  waits_on c.args.floor.now.description (its_chain c.args.floor.now.description (chan_queue c.args.c.0))
+      c.args.pass.now.view c.loop.pass.view c.begin_wakeup.new.pass.view c.loop.invariant.waited
+      c.in-None-begin_wakeup.ensures.left c.in-None-begin_wakeup.ensures.elsewhere,
   c.begin_wakeup.ensures,
 )

@@ -12,13 +12,17 @@ returns-in-Done g c =
     c.in-Done.is c.go_on_waking.ensures.wakes in
     assumption (
       rests_done c.args.floor.now.description c.loop.pass.view c.go_on_waking.new.pass.view c.loop.invariant.rest done,
-      has_woken c.args.floor.now.description c.args.pass.now.view c.loop.pass.view c.go_on_waking.new.pass.view c.loop.invariant.since done,
+      has_woken c.args.floor.now.description c.args.pass.now.view c.loop.pass.view c.go_on_waking.new.pass.view
+          c.loop.invariant.since done,
       c.go_on_waking.ensures,
     )
 
 pub loop-preserved-in-Again : goal.loop-preserved-in-Again
 loop-preserved-in-Again g c = assumption (
-  still_waits c.args.floor.now.description c.args.pass.now.view c.loop.pass.view c.go_on_waking.new.pass.view c.loop.invariant.since (subst (λ n. GoesOnWaking c.args.floor.now.description n c.loop.pass.view c.go_on_waking.new.pass.view) c.in-Again.is c.go_on_waking.ensures.wakes),
+  still_waits c.args.floor.now.description c.args.pass.now.view c.loop.pass.view c.go_on_waking.new.pass.view
+      c.loop.invariant.since
+      (subst (λ n. GoesOnWaking c.args.floor.now.description n c.loop.pass.view c.go_on_waking.new.pass.view)
+      c.in-Again.is c.go_on_waking.ensures.wakes),
   c.go_on_waking.ensures,
 )
 
@@ -29,6 +33,9 @@ unpark-requires g c =
 
 pub loop-preserved : goal.loop-preserved
 loop-preserved g c = assumption (
-  wakes_on c.args.floor.now.description c.args.pass.now.view c.loop.pass.view c.go_on_waking.new.pass.view c.loop.invariant.since c.in-Wake.t (subst (λ n. GoesOnWaking c.args.floor.now.description n c.loop.pass.view c.go_on_waking.new.pass.view) c.in-Wake.is c.go_on_waking.ensures.wakes),
+  wakes_on c.args.floor.now.description c.args.pass.now.view c.loop.pass.view c.go_on_waking.new.pass.view
+      c.loop.invariant.since c.in-Wake.t
+      (subst (λ n. GoesOnWaking c.args.floor.now.description n c.loop.pass.view c.go_on_waking.new.pass.view)
+      c.in-Wake.is c.go_on_waking.ensures.wakes),
   c.go_on_waking.ensures,
 )

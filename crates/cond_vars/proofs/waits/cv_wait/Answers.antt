@@ -201,8 +201,15 @@ loop-preserved g c =
     c.loop.invariant.there
     c.go_on_waiting.ensures.then c.loop.invariant.since in
     assumption (
-      is_back c.args.floor.now.description c.args.c (cause_of c.in-TakeBack.aborted) c.go_on_waiting.new.pass.view went.0 c.last_held-l.result c.loop.invariant.lock c.mode_of-mode.result (its_mode g.K.Relock.releases g.K.Relock.takes_back c.args.floor.now.description c.args.c c.args.pass.now.view c.mode_of-mode.result c.last_held-l.result c.loop.invariant.lock c.loop.invariant.held c.go_on_waiting.new.pass.view c.retake.new.pass.view (cause_of c.in-TakeBack.aborted) went.1) c.retake.new.pass.view c.retake.ensures.back,
-      has_retaken g.K.Relock.releases g.K.Relock.takes_back c.args.floor.now.description c.args.c c.args.pass.now.view c.mode_of-mode.result c.last_held-l.result c.loop.invariant.lock c.loop.invariant.held c.go_on_waiting.new.pass.view c.retake.new.pass.view (cause_of c.in-TakeBack.aborted) went.1 c.requires.may c.retake.ensures.back c.retake.ensures.steps,
+      is_back c.args.floor.now.description c.args.c (cause_of c.in-TakeBack.aborted) c.go_on_waiting.new.pass.view
+          went.0 c.last_held-l.result c.loop.invariant.lock c.mode_of-mode.result (its_mode g.K.Relock.releases
+          g.K.Relock.takes_back c.args.floor.now.description c.args.c c.args.pass.now.view c.mode_of-mode.result
+          c.last_held-l.result c.loop.invariant.lock c.loop.invariant.held c.go_on_waiting.new.pass.view
+          c.retake.new.pass.view (cause_of c.in-TakeBack.aborted) went.1) c.retake.new.pass.view c.retake.ensures.back,
+      has_retaken g.K.Relock.releases g.K.Relock.takes_back c.args.floor.now.description c.args.c c.args.pass.now.view
+          c.mode_of-mode.result c.last_held-l.result c.loop.invariant.lock c.loop.invariant.held
+          c.go_on_waiting.new.pass.view c.retake.new.pass.view
+          (cause_of c.in-TakeBack.aborted) went.1 c.requires.may c.retake.ensures.back c.retake.ensures.steps,
       c.retake.ensures,
       c.loop.invariant,
     )

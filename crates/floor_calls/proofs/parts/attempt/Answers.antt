@@ -10,6 +10,7 @@ returns c =
     record {
       at =
           stands_behind told_of_try Tries part.result c.told_of_try.ensures is f part.new.pass
-          (try_begins f c.args.pass.now part.new.pass part.ensures.own c.args.l c.args.mode part.result part.ensures.begun);
+          (try_begins f c.args.pass.now part.new.pass part.ensures.own c.args.l c.args.mode part.result
+          part.ensures.begun);
       does = is_told told_of_try Tries part.result c.told_of_try.ensures is part.ensures.begun;
     }

@@ -11,4 +11,5 @@ returns-clause-at c =
 
 pub returns-clause-did : goal.returns-clause-did
 returns-clause-did c =
-    let part = c.go_on_releasing-part in is_told told Releases part.result c.told.ensures c.behind.ensures part.ensures.went
+    let part = c.go_on_releasing-part in
+    is_told told Releases part.result c.told.ensures c.behind.ensures part.ensures.went

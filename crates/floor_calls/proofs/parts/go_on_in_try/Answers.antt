@@ -11,4 +11,5 @@ returns-clause-at c =
 
 pub returns-clause-did : goal.returns-clause-did
 returns-clause-did c =
-    let part = c.go_on_trying-part in is_told told_of_try Tries part.result c.told_of_try.ensures c.behind.ensures part.ensures.went
+    let part = c.go_on_trying-part in
+    is_told told_of_try Tries part.result c.told_of_try.ensures c.behind.ensures part.ensures.went

@@ -10,6 +10,7 @@ returns c =
     record {
       at =
           stands_behind told Takes part.result c.told.ensures is f part.new.pass
-          (take_begins f c.args.pass.now part.new.pass part.ensures.own c.args.l c.args.mode part.result part.ensures.begun);
+          (take_begins f c.args.pass.now part.new.pass part.ensures.own c.args.l c.args.mode part.result
+          part.ensures.begun);
       does = is_told told Takes part.result c.told.ensures is part.ensures.begun;
     }

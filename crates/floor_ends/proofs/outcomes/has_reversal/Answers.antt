@@ -6,4 +6,5 @@ use Rattle.lock_model.specs.declared.event.Entry.{Entry}
 use Rattle.floor_ends.proofs.outcomes.has_reversal.Goals as goal
 
 pub returns : goal.returns
-returns c = any_from_yields_List (λ (e : Entry). is_reversal e.event) _ _ _ c.any.ensures.ran (YieldsList-from_slice c.args.history.now cc) (λ x b q k. search (rules, tests))
+returns c = any_from_yields_List (λ (e : Entry). is_reversal e.event) _ _ _ c.any.ensures.ran
+    (YieldsList-from_slice c.args.history.now cc) (λ x b q k. search (rules, tests))

@@ -12,8 +12,11 @@ loop-pass-preserved c =
     let steps : into_iter_items at.pass-iterator ≡ p ∷ rest = c.in-Some.ensures.steps.0 in
     record {
       mine = c.gather.ensures.mine;
-      gathered = ap (λ gs. gs ++ parts rest) c.gather.ensures.gathered ∙ append_assoc at.keeper.view.gathered (parts (p ∷ [])) (parts rest) ∙ ap (λ (ps : List (Pass Knowledge)). at.keeper.view.gathered ++ parts ps) (sym steps) ∙ at.invariant.gathered;
-      finished = All-tail (λ (q : Pass Knowledge). IsFinished c.args.floor.now q) p rest (subst (All (λ (q : Pass Knowledge). IsFinished c.args.floor.now q)) steps at.invariant.finished);
+      gathered = ap (λ gs. gs ++ parts rest) c.gather.ensures.gathered
+          ∙ append_assoc at.keeper.view.gathered (parts (p ∷ [])) (parts rest) ∙ ap
+          (λ (ps : List (Pass Knowledge)). at.keeper.view.gathered ++ parts ps) (sym steps) ∙ at.invariant.gathered;
+      finished = All-tail (λ (q : Pass Knowledge). IsFinished c.args.floor.now q) p rest
+          (subst (All (λ (q : Pass Knowledge). IsFinished c.args.floor.now q)) steps at.invariant.finished);
       long = let was = at.invariant.long in
           let gone = c.in-Some.ensures.steps.1 in
           let short = ap length steps in

@@ -17,8 +17,11 @@ returns c = go c.outcome_of.result c.outcome_of.ensures.merged c.outcome_of.ensu
   where
     go : (r : Result Outcome AllocError) → IfOk r (λ o. IsMerged c.args.closing.now.logs.items o.history)
         → IfOk r (λ o. outcome_seen o ≡ outcome_left c.args.closing.now o.history)
-        → IfOk r (λ o. (x : IsClosing (description_of c.args.plan.now c.args.chains) (threads_of c.args.plan.now) c.args.closing.now) → outcome_seen o ≡ outcome_of c.args.plan.now x.history)
+        → IfOk r (λ o.
+        (x : IsClosing (description_of c.args.plan.now c.args.chains) (threads_of c.args.plan.now) c.args.closing.now)
+        → outcome_seen o ≡ outcome_of c.args.plan.now x.history)
     go (Ok o) merged left = λ x.
         left ∙ left_same c.args.plan.now c.args.chains c.args.closing.now x o.history
-        (logs_merged (threads_of c.args.plan.now) c.args.closing.now.logs.items x.history x.logs x.legal.tickets_run o.history merged.long merged.placed)
+        (logs_merged (threads_of c.args.plan.now) c.args.closing.now.logs.items x.history x.logs x.legal.tickets_run
+        o.history merged.long merged.placed)
     go (Err e) merged left = cc

@@ -28,7 +28,8 @@ outcome_of-requires g c =
     (λ t d lt. c.work_all.ensures.done t d (omega (arith, c.work_all.auto.passes, lt))) in
     let count = ap length (written_back items changed c.in_ok-floor.passes.len same long) ∙ same
     ∙ c.in_ok-floor.ensures.count in
-    let gathered = c.gather_all.ensures.gathered ∙ ap (λ (gs : List (ℕ × Share)). gs ++ parts all) c.in_ok-floor.ensures.none_gathered in
+    let gathered = c.gather_all.ensures.gathered
+    ∙ ap (λ (gs : List (ℕ × Share)). gs ++ parts all) c.in_ok-floor.ensures.none_gathered in
     record {
       closing = is_closing plan c.args.chains c.in_ok-floor.floor c.in_ok-floor.ensures.description all count
           done c.gather_all.new.keeper.view.gathered gathered c.close-closing.result c.close-closing.ensures.closing.0;
@@ -49,7 +50,8 @@ returns-clause-run g c =
     (λ t d lt. c.work_all.ensures.done t d (omega (arith, c.work_all.auto.passes, lt))) in
     let count = ap length (written_back items changed c.in_ok-floor.passes.len same long) ∙ same
     ∙ c.in_ok-floor.ensures.count in
-    let gathered = c.gather_all.ensures.gathered ∙ ap (λ (gs : List (ℕ × Share)). gs ++ parts all) c.in_ok-floor.ensures.none_gathered in
+    let gathered = c.gather_all.ensures.gathered
+    ∙ ap (λ (gs : List (ℕ × Share)). gs ++ parts all) c.in_ok-floor.ensures.none_gathered in
     let closing = is_closing plan chains floor c.in_ok-floor.ensures.description all count done
     c.gather_all.new.keeper.view.gathered gathered c.close-closing.result c.close-closing.ensures.closing.0 in
     let legal = left_legal plan chains floor c.in_ok-floor.ensures.description all count done

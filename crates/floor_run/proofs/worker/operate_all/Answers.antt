@@ -25,7 +25,8 @@ operate-requires-clause-op g c =
     let same : operations_of c.args.plan.now c.loop-next.pass.view.thread ≡ c.operations_of-ops.result.now =
     ap (operations_of c.args.plan.now) (c.loop-next.invariant.thread ∙ sym c.thread.ensures.same)
     ∙ sym c.operations_of-ops.ensures in
-    ap (λ ops. slice_get ops c.loop-next.next) same ∙ slice_get-get_or c.operations_of-ops.result.now c.loop-next.next _ c.loop-next-test.true
+    ap (λ ops. slice_get ops c.loop-next.next) same
+    ∙ slice_get-get_or c.operations_of-ops.result.now c.loop-next.next _ c.loop-next-test.true
 
 pub give_back-requires-clause-cut : goal.give_back-requires-clause-cut
 give_back-requires-clause-cut g c =

@@ -13,4 +13,6 @@ returns c =
     let keys : List ThreadDecl → List (ℕ × ℕ) = flat_map (λ (d : ThreadDecl). keys_named d.ops) in
     let all : c.loop-thread.keys.items ≡ keys threads = c.loop-thread.invariant
     ∙ ap keys (take_all c.loop-thread.thread-index threads c.loop-thread-test.false) in
-    dedup_is same _ _ c.dedup.ensures.filtered ∙ set_in_order (keys threads) _ (subst (λ ks. IsPermutation ks c.sort_unstable.new.self.items) all c.sort_unstable.ensures.permutation) c.sort_unstable.ensures.sorted
+    dedup_is same _ _ c.dedup.ensures.filtered ∙ set_in_order (keys threads) _
+    (subst (λ ks. IsPermutation ks c.sort_unstable.new.self.items) all c.sort_unstable.ensures.permutation)
+    c.sort_unstable.ensures.sorted

@@ -15,7 +15,9 @@ returns-in-Done-clause-steps g c =
 
 pub loop-preserved : goal.loop-preserved
 loop-preserved g c = assumption (
-  again c.args.floor.now.description c.args.pass.now.view c.loop.pass.view c.end.new.pass.view c.loop.invariant.stands (subst (λ n. GoesOnEnding c.args.floor.now.description Takes n c.loop.pass.view c.end.new.pass.view) (c.in-Again-Takes.is ∙ ap (λ (a : EndAt). Again a) c.in-Again-Takes.field-0-is) c.end.ensures.went).0,
+  again c.args.floor.now.description c.args.pass.now.view c.loop.pass.view c.end.new.pass.view c.loop.invariant.stands
+      (subst (λ n. GoesOnEnding c.args.floor.now.description Takes n c.loop.pass.view c.end.new.pass.view)
+      (c.in-Again-Takes.is ∙ ap (λ (a : EndAt). Again a) c.in-Again-Takes.field-0-is) c.end.ensures.went).0,
   c.end.ensures,
 )
 

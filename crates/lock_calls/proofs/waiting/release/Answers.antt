@@ -43,7 +43,10 @@ returns-in-Done-go_on_releasing g c =
 
 pub loop-preserved-in-Again-go_on_releasing : goal.loop-preserved-in-Again-go_on_releasing
 loop-preserved-in-Again-go_on_releasing g c = assumption (
-  releases_on c.args.floor.now.description c.args.l c.args.mode c.args.pass.now.view c.loop.pass c.loop.invariant.stands c.go_on_releasing.result c.go_on_releasing.new.pass (c.go_on_releasing.ensures.went c.args.l c.args.mode c.loop.invariant.stands.at c.loop.invariant.stands.call) c.in-Again-go_on_releasing.is,
+  releases_on c.args.floor.now.description c.args.l c.args.mode c.args.pass.now.view c.loop.pass c.loop.invariant.stands
+      c.go_on_releasing.result c.go_on_releasing.new.pass
+      (c.go_on_releasing.ensures.went c.args.l c.args.mode c.loop.invariant.stands.at c.loop.invariant.stands.call)
+      c.in-Again-go_on_releasing.is,
   c.go_on_releasing.ensures,
 )
 
@@ -64,6 +67,9 @@ unpark-requires g c =
 
 pub loop-preserved : goal.loop-preserved
 loop-preserved g c = assumption (
-  releases_waking c.args.floor.now.description c.args.l c.args.mode c.args.pass.now.view c.loop.pass c.loop.invariant.stands c.go_on_releasing.result c.go_on_releasing.new.pass (c.go_on_releasing.ensures.went c.args.l c.args.mode c.loop.invariant.stands.at c.loop.invariant.stands.call) c.in-Wake.t c.in-Wake.is,
+  releases_waking c.args.floor.now.description c.args.l c.args.mode c.args.pass.now.view c.loop.pass
+      c.loop.invariant.stands c.go_on_releasing.result c.go_on_releasing.new.pass
+      (c.go_on_releasing.ensures.went c.args.l c.args.mode c.loop.invariant.stands.at c.loop.invariant.stands.call)
+      c.in-Wake.t c.in-Wake.is,
   c.go_on_releasing.ensures,
 )

@@ -17,7 +17,8 @@ returns-in-Done g c =
 
 pub loop-init : goal.loop-init
 loop-init g c = assumption (
-  stands_begun c.args.floor.now.description c.args.l c.args.mode c.begin_take.result c.args.pass.now c.begin_take.new.pass c.begin_take.ensures.begun c.in-Again.is,
+  stands_begun c.args.floor.now.description c.args.l c.args.mode c.begin_take.result c.args.pass.now
+      c.begin_take.new.pass c.begin_take.ensures.begun c.in-Again.is,
   c.begin_take.ensures,
 )
 
@@ -48,13 +49,19 @@ returns-in-Done-go_on_taking g c =
 
 pub loop-preserved-in-Again-go_on_taking : goal.loop-preserved-in-Again-go_on_taking
 loop-preserved-in-Again-go_on_taking g c = assumption (
-  stands_on c.args.floor.now.description c.args.l c.args.mode c.args.pass.now.view c.loop.pass c.loop.invariant.stands c.go_on_taking.result c.go_on_taking.new.pass (c.go_on_taking.ensures.went c.args.l c.args.mode c.loop.invariant.stands.0 c.loop.invariant.stands.1) c.in-Again-go_on_taking.is,
+  stands_on c.args.floor.now.description c.args.l c.args.mode c.args.pass.now.view c.loop.pass c.loop.invariant.stands
+      c.go_on_taking.result c.go_on_taking.new.pass
+      (c.go_on_taking.ensures.went c.args.l c.args.mode c.loop.invariant.stands.0 c.loop.invariant.stands.1)
+      c.in-Again-go_on_taking.is,
   c.go_on_taking.ensures,
 )
 
 pub loop-preserved-in-Sleep-go_on_taking : goal.loop-preserved-in-Sleep-go_on_taking
 loop-preserved-in-Sleep-go_on_taking g c = assumption (
-  stands_asleep c.args.floor.now.description c.args.l c.args.mode c.args.pass.now.view c.loop.pass c.loop.invariant.stands c.go_on_taking.result c.go_on_taking.new.pass (c.go_on_taking.ensures.went c.args.l c.args.mode c.loop.invariant.stands.0 c.loop.invariant.stands.1) c.in-Sleep-go_on_taking.is,
+  stands_asleep c.args.floor.now.description c.args.l c.args.mode c.args.pass.now.view c.loop.pass
+      c.loop.invariant.stands c.go_on_taking.result c.go_on_taking.new.pass
+      (c.go_on_taking.ensures.went c.args.l c.args.mode c.loop.invariant.stands.0 c.loop.invariant.stands.1)
+      c.in-Sleep-go_on_taking.is,
   c.go_on_taking.ensures,
 )
 
@@ -68,7 +75,10 @@ unpark-requires g c =
 
 pub loop-preserved : goal.loop-preserved
 loop-preserved g c = assumption (
-  stands_waking c.args.floor.now.description c.args.l c.args.mode c.args.pass.now.view c.loop.pass c.loop.invariant.stands c.go_on_taking.result c.go_on_taking.new.pass (c.go_on_taking.ensures.went c.args.l c.args.mode c.loop.invariant.stands.0 c.loop.invariant.stands.1) c.in-Wake.t c.in-Wake.is,
+  stands_waking c.args.floor.now.description c.args.l c.args.mode c.args.pass.now.view c.loop.pass
+      c.loop.invariant.stands c.go_on_taking.result c.go_on_taking.new.pass
+      (c.go_on_taking.ensures.went c.args.l c.args.mode c.loop.invariant.stands.0 c.loop.invariant.stands.1) c.in-Wake.t
+      c.in-Wake.is,
   c.go_on_taking.ensures,
 )
 

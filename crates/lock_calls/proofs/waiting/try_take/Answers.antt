@@ -46,6 +46,8 @@ pub loop-preserved : goal.loop-preserved
 loop-preserved g c =
     let s = c.loop.invariant.stands in
     assumption (
-      stands_on c.args.floor.now.description c.args.l c.args.mode c.args.pass.now.view c.loop.pass s c.go_on_trying.result c.go_on_trying.new.pass (c.go_on_trying.ensures.went c.args.l c.args.mode s.at s.call) c.in-Again-go_on_trying.is,
+      stands_on c.args.floor.now.description c.args.l c.args.mode c.args.pass.now.view c.loop.pass s
+          c.go_on_trying.result c.go_on_trying.new.pass
+          (c.go_on_trying.ensures.went c.args.l c.args.mode s.at s.call) c.in-Again-go_on_trying.is,
       c.go_on_trying.ensures,
     )

@@ -4,10 +4,19 @@ use Rattle.lock_model.specs.Text.{spaced}
 use Rattle.lock_history.proofs.text.push_counts.Goals as goal
 
 -- words that were added one behind the other
-added : (xs ys zs : List (List ℕ)) (o o1 o2 o3 : List ℕ) → o1 ≡ o ++ spaced xs → o2 ≡ o1 ++ spaced ys → o3 ≡ o2 ++ spaced zs
+added : (xs ys zs : List (List ℕ)) (o o1 o2 o3 : List ℕ) → o1 ≡ o ++ spaced xs → o2 ≡ o1 ++ spaced ys
+    → o3 ≡ o2 ++ spaced zs
     → o3 ≡ o ++ spaced (xs ++ (ys ++ zs))
 added xs ys zs o o1 o2 o3 e1 e2 e3 =
-    grind (arith, common_steps, e1, e2, e3, flat_map-append (λ word. 32 ∷ word) xs (ys ++ zs), flat_map-append (λ word. 32 ∷ word) ys zs)
+    grind (
+      arith,
+      common_steps,
+      e1,
+      e2,
+      e3,
+      flat_map-append (λ word. 32 ∷ word) xs (ys ++ zs),
+      flat_map-append (λ word. 32 ∷ word) ys zs,
+    )
 
 pub returns : goal.returns
 returns c =

@@ -9,7 +9,8 @@ loop-written-preserved g c =
     let text = c.args.text.now in
     let n = c.in_ok-written.field-0 in
     let fits : n ≤ length (drop c.loop-written.written text) = rw take_rest at c.in_ok-written.ensures.fits in
-    let adds : g.K.Sink.contents c.write.new.self ≡ append_known (g.K.Sink.contents c.loop-written.sink) (take n (drop c.loop-written.written text)) =
+    let adds : g.K.Sink.contents c.write.new.self
+    ≡ append_known (g.K.Sink.contents c.loop-written.sink) (take n (drop c.loop-written.written text)) =
     rw take_rest at c.in_ok-written.ensures.adds in (
       omega (arith, length-drop c.loop-written.written text),
       added_more _ _ _ text c.loop-written.written n c.loop-written.invariant.1 adds,

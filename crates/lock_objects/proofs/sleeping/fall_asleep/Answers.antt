@@ -6,4 +6,5 @@ pub returns-clause-chain : goal.returns-clause-chain
 returns-clause-chain c = search rules
 
 pub returns-clause-queues : goal.returns-clause-queues
-returns-clause-queues c k s n x own kind balanced changes shows = chain_slept s n c.args.q c.args.side x (sleeper_of c.args.rec.now) kind balanced changes shows (returns-clause-chain c x own)
+returns-clause-queues c k s n x own kind balanced changes shows = chain_slept s n c.args.q c.args.side x
+    (sleeper_of c.args.rec.now) kind balanced changes shows (returns-clause-chain c x own)

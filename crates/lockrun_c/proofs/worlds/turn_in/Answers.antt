@@ -8,5 +8,7 @@ returns-in-Ok-clause-turned c = λ z. (
   c.turn-behind.result.0,
   c.put_in.ensures,
   subst (λ (n : ℕ). HasMade c.args.t c.args.world c.turn-behind.result.0 n) (sym c.turn_number.ensures)
-      (made c.turn-behind.result.1 c.in-Ok.made c.args.world c.turn-behind.result.0 c.args.t c.in-Ok.is c.turn-behind.ensures.may c.turn-behind.ensures.plan c.turn-behind.ensures.chains c.turn-behind.ensures.answer c.turn-behind.ensures.turn),
+      (made c.turn-behind.result.1 c.in-Ok.made c.args.world c.turn-behind.result.0 c.args.t c.in-Ok.is
+      c.turn-behind.ensures.may c.turn-behind.ensures.plan c.turn-behind.ensures.chains c.turn-behind.ensures.answer
+      c.turn-behind.ensures.turn),
 )

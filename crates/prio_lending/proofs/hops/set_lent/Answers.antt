@@ -6,12 +6,14 @@ use Rattle.prio_lending.proofs.hops.set_lent.Goals as goal
 
 pub put_loan-requires-clause-absent : goal.put_loan-requires-clause-absent
 put_loan-requires-clause-absent c =
-    let lock = lock_named c.args.head.now.contents c.in-Some-Lock.l (rw c.in-Some-Lock.field-0-is at c.in-Some-Lock.ensures) in
+    let lock = lock_named c.args.head.now.contents c.in-Some-Lock.l
+    (rw c.in-Some-Lock.field-0-is at c.in-Some-Lock.ensures) in
     stands_not _ _ c.args.head.now.contents lock c.requires.node (sym c.in-Some-take_loan.ensures.home)
 
 pub set_loan-requires : goal.set_loan-requires
 set_loan-requires c =
-    let lock = lock_named c.args.head.now.contents c.in-Some-Lock.l (rw c.in-Some-Lock.field-0-is at c.in-Some-Lock.ensures) in
+    let lock = lock_named c.args.head.now.contents c.in-Some-Lock.l
+    (rw c.in-Some-Lock.field-0-is at c.in-Some-Lock.ensures) in
     stands _ _ c.args.head.now.contents lock c.requires.node (sym c.in_default-take_loan.ensures.home)
 
 pub returns-in-Some-take_loan-clause-loans : goal.returns-in-Some-take_loan-clause-loans

@@ -4,5 +4,6 @@ use Rattle.run_chart.proofs.rows.thread_in.Goals as goal
 
 pub returns : goal.returns
 returns c =
-    row_told c.args.at.now.plan.now c.args.at.now.rows.now c.requires.turn.run c.args.t.0 c.thread_rows.result.now c.thread_rows.ensures
+    row_told c.args.at.now.plan.now c.args.at.now.rows.now c.requires.turn.run c.args.t.0 c.thread_rows.result.now
+    c.thread_rows.ensures
     c.args.row (omega (arith, c.requires.row)) c.at.result c.at.ensures

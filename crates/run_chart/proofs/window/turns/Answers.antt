@@ -12,7 +12,10 @@ loop-turn-preserved c =
     let made = (c.requires.run.told.each n row c.turn_at-row.ensures).made in
     let so_far = c.loop-turn.invariant in
     record {
-      marks = turns_more mark_shown plan from n row.who.0 row.answer low made _ _ so_far.marks c.in_ok-push_mark.ensures;
-      arrows = turns_more arrows_shown plan from n row.who.0 row.answer low made _ _ so_far.arrows c.in_ok-push_arrows.ensures;
-      sentences = turns_more sentence_shown plan from n row.who.0 row.answer low made _ _ so_far.sentences c.in_ok-push_sentence.ensures;
+      marks =
+          turns_more mark_shown plan from n row.who.0 row.answer low made _ _ so_far.marks c.in_ok-push_mark.ensures;
+      arrows = turns_more arrows_shown plan from n row.who.0 row.answer low made _ _ so_far.arrows
+          c.in_ok-push_arrows.ensures;
+      sentences = turns_more sentence_shown plan from n row.who.0 row.answer low made _ _ so_far.sentences
+          c.in_ok-push_sentence.ensures;
     }

@@ -13,9 +13,11 @@ loop-i-preserved g c =
     let i = c.loop-i.i in
     let x = c.index_mut.result.now in
     let within : i < length all = omega (arith, h.number) in
-    let read = slice_get_read all (length all) i x refl within (c.index_mut.ensures.value ∙ ap (λ (k : ℕ). get_or all k x) c.from.ensures) in
+    let read = slice_get_read all (length all) i x refl within
+    (c.index_mut.ensures.value ∙ ap (λ (k : ℕ). get_or all k x) c.from.ensures) in
     one_changed _ c.args.all.now.items all i c.from.result x c.change.new.arg3 c.from.ensures read h
     (c.index_mut.result, _, sym (h.left i (omega arith)) ∙ read, refl, c.in_ok-change.ensures)
 
 pub returns-clause-each : goal.returns-clause-each
-returns-clause-each g c = all_changed _ c.args.all.now.items c.loop-i.all.items c.loop-i.i (let n = c.loop-i.invariant.number in omega arith) c.loop-i.invariant
+returns-clause-each g c = all_changed _ c.args.all.now.items c.loop-i.all.items c.loop-i.i
+    (let n = c.loop-i.invariant.number in omega arith) c.loop-i.invariant

@@ -28,10 +28,21 @@ returns c =
     let its_plan : world.plan ≡ plan = ap (λ (w : World). w.plan) c.world-world.ensures ∙ c.go_on.ensures.plan in
     let its_chains : world.chains ≡ start.chains =
     ap (λ (w : World). w.chains) c.world-world.ensures ∙ c.go_on.ensures.chains in
-    let tells : TellsColumns plan start.chains (run_in plan) (n + 1 + 1) c.match-answer.columns.threads.items c.match-answer.columns.words.items c.match-answer.columns.queues = elim c.match-answer.branch [
-      | in-Did+in_ok-note-in-Did b ↦ rw b.columns-is (let told = rw (its_plan, its_chains) at (b.in_ok-note-in-Did.ensures (run_in plan) shows (others_hold plan n c.in-Some.who.0 c.in-Some.answer by)) in told at.tells)
-      | in-Idle b ↦ rw b.columns-is (columns_stay (run_in plan) n (same_run plan n c.in-Some.who.0 c.in-Some.answer by b.in-Idle.is) plan start.chains _ _ _ at.tells)
+    let tells : TellsColumns plan start.chains (run_in plan) (n + 1 + 1) c.match-answer.columns.threads.items
+    c.match-answer.columns.words.items c.match-answer.columns.queues = elim c.match-answer.branch [
+      | in-Did+in_ok-note-in-Did b ↦ rw b.columns-is (let told = rw (its_plan, its_chains) at
+          (b.in_ok-note-in-Did.ensures (run_in plan) shows (others_hold plan n c.in-Some.who.0 c.in-Some.answer by)) in
+          told at.tells)
+      | in-Idle b ↦ rw b.columns-is (columns_stay (run_in plan) n
+          (same_run plan n c.in-Some.who.0 c.in-Some.answer by b.in-Idle.is) plan start.chains _ _ _ at.tells)
     ] in (
-      record { going = by.going; made = made; thread = gone.thread; entry = c.newest.ensures (history_in plan n) (history_in plan (n + 1)) (ap length was ∙ length-reverse (history_in plan n)) (c.history.ensures.history (run_in plan (n + 1)) shows) },
+      record {
+        going = by.going;
+        made = made;
+        thread = gone.thread;
+        entry = c.newest.ensures (history_in plan n) (history_in plan (n + 1))
+            (ap length was ∙ length-reverse (history_in plan n))
+            (c.history.ensures.history (run_in plan (n + 1)) shows);
+      },
       record { plan_is = c.go_on.ensures.plan; chains_are = c.go_on.ensures.chains; course_is = behind; tells = tells },
     )

@@ -25,13 +25,16 @@ returns c =
     let at = made.at in
     let k : run.Course = course_after plan (length c.in_ok-made.made.items) in
     let outcome : outcome_seen c.in_ok-into_outcome.field-0 ≡ scheduled_run plan chains turns =
-    c.in_ok-into_outcome.ensures k at.course_is ∙ ap (λ (p : Plan). outcome_of p c.make_run.new.course.world.chains k) at.plan_is ∙ ap (λ (m : ℕ). outcome_of plan m k) at.chains_are
-    ∙ ap (outcome_of plan chains) (whole_run plan chains turns c.in_ok-made.made.items c.make_run.new.course c.in_ok-made.columns made) in
+    c.in_ok-into_outcome.ensures k at.course_is ∙ ap (λ (p : Plan). outcome_of p c.make_run.new.course.world.chains k)
+    at.plan_is ∙ ap (λ (m : ℕ). outcome_of plan m k) at.chains_are
+    ∙ ap (outcome_of plan chains)
+    (whole_run plan chains turns c.in_ok-made.made.items c.make_run.new.course c.in_ok-made.columns made) in
     rw (c.from_vec.ensures, c.from_vec-2.ensures, c.from_vec-3.ensures) (record {
       few = made.few;
       ends = made.ends;
       each = made.each;
       columns = at.tells;
       outcome = outcome;
-      legal = subst (λ (x : text.Outcome). HasLegalHistory plan x) (sym outcome) (outcomes_are_legal plan chains turns c.requires.proper);
+      legal = subst (λ (x : text.Outcome). HasLegalHistory plan x) (sym outcome)
+          (outcomes_are_legal plan chains turns c.requires.proper);
     })

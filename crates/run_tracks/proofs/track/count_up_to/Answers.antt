@@ -10,7 +10,8 @@ returns-clause-up_to g c =
     let xs = c.args.changes.now in
     let row = c.args.row in
     let found : IsPartitionPoint (λ x. leb x.0 row ≡ true) (λ x. leb x.0 row ≡ false) xs c.partition_point.result =
-    IsPartitionPoint-from_clause (λ x. leb x.0 row) xs c.partition_point.result c.partition_point.ensures.partitioned (IsPartitionedBy-leb (λ x. x.0) xs row (rows_rise xs c.requires))
+    IsPartitionPoint-from_clause (λ x. leb x.0 row) xs c.partition_point.result c.partition_point.ensures.partitioned
+    (IsPartitionedBy-leb (λ x. x.0) xs row (rows_rise xs c.requires))
     (λ a r f k. search rules) in (
       λ k d low high. leb-true (get_or xs k d).0 row (found.0 k d low high),
       λ k d low high. leb-false (get_or xs k d).0 row (found.1 k d low high),

@@ -8,7 +8,9 @@ loop-t-preserved c =
     let ths = c.loop-t.threads in
     record {
       number = omega (arith, c.in_ok-push.ensures.len, c.loop-t.invariant.number);
-      each = rw c.in_ok-push.ensures.items (new_pushed decls ths.items c.loop-t.t c.in_ok-make.field-0 c.index-decls-t.result
-          (omega (arith, c.loop-t.invariant.number, ths.ok.0)) (slice_get_read decls (length decls) c.loop-t.t c.index-decls-t.result refl (omega (arith, c.loop-t-test.true, c.loop-t.auto.t-end)) c.index-decls-t.is)
+      each = rw c.in_ok-push.ensures.items
+          (new_pushed decls ths.items c.loop-t.t c.in_ok-make.field-0 c.index-decls-t.result
+          (omega (arith, c.loop-t.invariant.number, ths.ok.0)) (slice_get_read decls (length decls) c.loop-t.t
+          c.index-decls-t.result refl (omega (arith, c.loop-t-test.true, c.loop-t.auto.t-end)) c.index-decls-t.is)
           c.in_ok-make.ensures c.loop-t.invariant.each);
     }

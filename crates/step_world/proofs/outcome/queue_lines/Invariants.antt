@@ -8,4 +8,5 @@ invariant-loop-l l = map line_seen l.lines.items ≡ lock_lines l.chains (config
 
 -- and behind those of all locks the lines of the first channels
 abbrev pub invariant-loop-c : goal.invariant-loop-c
-invariant-loop-c l = map line_seen l.lines.items ≡ lock_lines l.chains (config_of l.plan) l.machine (length l.plan.locks) ++ channel_lines l.chains l.machine l.c
+invariant-loop-c l = map line_seen l.lines.items
+    ≡ lock_lines l.chains (config_of l.plan) l.machine (length l.plan.locks) ++ channel_lines l.chains l.machine l.c

@@ -20,7 +20,10 @@ note-requires-in-Show-clause-run c =
     )
 
 pub index-requires : goal.index-requires
-index-requires c = let q = c.requires.run in rw c.from.ensures (is_there (config_of c.args.plan.now) c.args.machine.now q.0.state c.args.t.0 q.1.shows.shows c.requires.thread)
+index-requires c =
+    let q = c.requires.run in
+    rw c.from.ensures
+    (is_there (config_of c.args.plan.now) c.args.machine.now q.0.state c.args.t.0 q.1.shows.shows c.requires.thread)
 
 pub note-requires-clause-run : goal.note-requires-clause-run
 note-requires-clause-run c =

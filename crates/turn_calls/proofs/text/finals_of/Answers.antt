@@ -14,5 +14,6 @@ loop-t-preserved c r h =
     ap numbers_of c.in_ok-push.ensures.items
     ∙ map-append (λ (p : Prio × Prio). (p.0.0, p.1.0)) c.loop-t.finals.items (pair ∷ [])
     ∙ ap (λ (ns : List (ℕ × ℕ)). ns ++ (pair.0.0, pair.1.0) ∷ []) (c.loop-t.invariant r h)
-    ∙ ap₂ (λ (b e : ℕ). map f (range_with_len 0 t) ++ (b, e) ∷ []) (c.priorities.ensures.base r h) (c.priorities.ensures.effective r h)
+    ∙ ap₂ (λ (b e : ℕ). map f (range_with_len 0 t) ++ (b, e) ∷ []) (c.priorities.ensures.base r h)
+    (c.priorities.ensures.effective r h)
     ∙ sym (map-range_with_len_more f 0 t t (omega arith))

@@ -12,5 +12,6 @@ some_reversal (e ∷ es) = ap (λ b. is_reversal e.event || b) (some_reversal es
 
 pub returns : goal.returns
 returns c =
-    any_from_yields_List (λ (e : Entry). is_reversal e.event) _ _ _ c.any.ensures.ran (YieldsList-from_slice c.args.history.now cc) (λ x b q k. search (rules, tests))
+    any_from_yields_List (λ (e : Entry). is_reversal e.event) _ _ _ c.any.ensures.ran
+    (YieldsList-from_slice c.args.history.now cc) (λ x b q k. search (rules, tests))
     ∙ some_reversal c.args.history.now

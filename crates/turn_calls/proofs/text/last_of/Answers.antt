@@ -5,7 +5,8 @@ use Rattle.turn_calls.proofs.text.last_of.Goals as goal
 
 pub returns-then-all_ended : goal.returns-then-all_ended
 returns-then-all_ended c r h =
-    whole c.args.world.now.plan r (ending_of c.whole_ending.result) (sym (c.all_ended.ensures r h) ∙ c.if-all_ended.true)
+    whole c.args.world.now.plan r (ending_of c.whole_ending.result)
+    (sym (c.all_ended.ensures r h) ∙ c.if-all_ended.true)
     (c.whole_ending.ensures r h)
 
 pub returns-then-nobody_goes_on : goal.returns-then-nobody_goes_on

@@ -13,5 +13,6 @@ returns-clause-idle c r h =
 
 pub returns-clause-ended : goal.returns-clause-ended
 returns-clause-ended c r h =
-    subst (λ (s : ThreadState). s ≡ Ended ↔ has_ended c.args.world.now.plan r c.args.t.0 ≡ true) (sym (c.state_of.ensures r h))
+    subst (λ (s : ThreadState). s ≡ Ended ↔ has_ended c.args.world.now.plan r c.args.t.0 ≡ true)
+    (sym (c.state_of.ensures r h))
     (at_end c.args.world.now.plan r c.args.t.0)

@@ -9,7 +9,8 @@ loop-at-preserved g c =
     let all = ap (heads_at g.H.Head.unlinked g.H.Head.behind) c.in-Some.is in
     let rest = heads_at-next g.H.Head.unlinked g.H.Head.behind c.next-at.result (g.H.Head.behind h) c.next-at.ensures in
     let named = c.loop-at.invariant.named in
-    let other = head_of_passed g.H.Head.name_of c.args.q (g.H.Head.unlinked h) _ (g.H.Head.behind h) _ all rest named (λ e. false≢true (c.if-is_named.ensures.1 (sym (g.met.H.Head.keeps_name h) ∙ e))) in
+    let other = head_of_passed g.H.Head.name_of c.args.q (g.H.Head.unlinked h) _ (g.H.Head.behind h) _ all rest named
+    (λ e. false≢true (c.if-is_named.ensures.1 (sym (g.met.H.Head.keeps_name h) ∙ e))) in
     record {
       same = rw other c.loop-at.invariant.same;
       named = rw rest (named_rest g.H.Head.name_of (g.H.Head.unlinked h) (g.H.Head.behind h) (rw all at named));

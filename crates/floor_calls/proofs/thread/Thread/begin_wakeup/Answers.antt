@@ -11,7 +11,8 @@ begin_wake-next-requires c =
 
 pub invariant_of-self : goal.invariant_of-self
 invariant_of-self c =
-    is_back c.deref.ensures c.self.view_is c.self.invariant (WakeUp c.args.c c.args.all) c.in-None.ensures _ c.begin_wake-next.ensures
+    is_back c.deref.ensures c.self.view_is c.self.invariant
+    (WakeUp c.args.c c.args.all) c.in-None.ensures _ c.begin_wake-next.ensures
 
 pub returns-in-None : goal.returns-in-None
 returns-in-None c =

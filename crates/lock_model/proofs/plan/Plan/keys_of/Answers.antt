@@ -17,7 +17,8 @@ loop-thread-preserved c key =
     let lt : c.loop-thread.thread-index < length threads = omega (arith, ap length c.as_slice-thread-items.ensures) in
     let before = list_any q (take c.loop-thread.thread-index threads) in
     c.in_ok-push_keys.ensures key
-    ∙ ap (λ ops. list_any (λ k. eqb k key) c.loop-thread.keys.items || list_any (op_names c.args.l.0 key) ops) c.as_slice.ensures
+    ∙ ap (λ ops. list_any (λ k. eqb k key) c.loop-thread.keys.items || list_any (op_names c.args.l.0 key) ops)
+    c.as_slice.ensures
     ∙ ap (λ b. b || q c.thread-item.result) (c.loop-thread.invariant key)
     ∙ ap (λ d. before || q d) c.thread-item.is
     ∙ ap (λ ds. before || q (get_or ds c.loop-thread.thread-index c.thread-item.result)) c.as_slice-thread-items.ensures

@@ -15,5 +15,7 @@ returns c runs h =
       of_threads = λ t thread e. let made = threads.each t thread e in search rules;
       word_each = words.number ∙ c.locks.ensures.number;
       of_words = λ l track e. let made = words.each l track e in search (rules, first_told);
-      of_queues = first_told (λ n lines. map line_seen lines ≡ queue_lines w.chains (config_of w.plan) (runs n).state) _ c.from_vec.result c.in_ok-begin.ensures (ap (map line_seen) c.from_vec.ensures ∙ c.in_ok-queues.ensures (runs 0) h);
+      of_queues = first_told (λ n lines. map line_seen lines ≡ queue_lines w.chains (config_of w.plan) (runs n).state) _
+          c.from_vec.result c.in_ok-begin.ensures
+          (ap (map line_seen) c.from_vec.ensures ∙ c.in_ok-queues.ensures (runs 0) h);
     }

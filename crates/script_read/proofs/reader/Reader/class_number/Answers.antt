@@ -13,4 +13,5 @@ or_length n k l = go (nat_lt n k) refl
     go false e = grind (arith, nat_tests)
 
 pub returns : goal.returns
-returns c = c.unwrap_or.ensures ∙ rw (c.get_index_of.ensures.index, c.len.ensures.len) (or_length _ _ (prefix_len-le-length {X = List ℕ} (λ x. not (is_same c.args.class x)) c.args.self.now.classes.keys))
+returns c = c.unwrap_or.ensures ∙ rw (c.get_index_of.ensures.index, c.len.ensures.len)
+    (or_length _ _ (prefix_len-le-length {X = List ℕ} (λ x. not (is_same c.args.class x)) c.args.self.now.classes.keys))

@@ -13,7 +13,8 @@ pub fall_asleep-requires-clause-may : goal.fall_asleep-requires-clause-may
 fall_asleep-requires-clause-may c =
     let m = c.requires.may in
     let at = read m.2.threads m.4.1.thread c.from.ensures c.index_mut.ensures.value in
-    subst (λ (r : Record). CanStand r.thread (head_of (chan_queue c.args.c.0) c.args.self.now.sleepers)) (sym c.deref_mut.ensures.value) (add_asks m.2 m.3 m.4.1 at).1
+    subst (λ (r : Record). CanStand r.thread (head_of (chan_queue c.args.c.0) c.args.self.now.sleepers))
+    (sym c.deref_mut.ensures.value) (add_asks m.2 m.3 m.4.1 at).1
 
 pub returns-clause-step : goal.returns-clause-step
 returns-clause-step c x k s h lawful g =
@@ -22,7 +23,8 @@ returns-clause-step c x k s h lawful g =
     let rec = c.deref_mut.ensures.value in
     rw c.from.ensures
     (stands_added h lawful g at
-    (subst (λ (r : Record). FallsAsleep q X r c.args.self.now.sleepers c.fall_asleep.new.chain) rec c.fall_asleep.ensures.queues)
+    (subst (λ (r : Record). FallsAsleep q X r c.args.self.now.sleepers c.fall_asleep.new.chain) rec
+    c.fall_asleep.ensures.queues)
     (subst (λ (r : Record). RecordFallsAsleep q r c.fall_asleep.new.rec) rec c.fall_asleep.ensures.its_record))
 
 pub returns-clause-progress : goal.returns-clause-progress

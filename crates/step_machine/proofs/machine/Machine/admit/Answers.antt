@@ -12,9 +12,11 @@ pub returns-clause-step : goal.returns-clause-step
 returns-clause-step c l k s same h lawful g =
     let th = c.index_mut.result.now in
     let at = read h.threads g.free.thread c.from.ensures c.index_mut.ensures.value in
-    rw c.from.ensures (admission_shown th h g at (orders_behind h.orders same c.admit.ensures.classes c.admit.ensures.edges))
+    rw c.from.ensures
+    (admission_shown th h g at (orders_behind h.orders same c.admit.ensures.classes c.admit.ensures.edges))
 
 pub returns-clause-progress : goal.returns-clause-progress
 returns-clause-progress c =
     let m = c.requires.may in
-    rw c.from.ensures (aside_stays _ _ _ (read m.2.threads m.4.2.free.thread c.from.ensures c.index_mut.ensures.value) refl)
+    rw c.from.ensures
+    (aside_stays _ _ _ (read m.2.threads m.4.2.free.thread c.from.ensures c.index_mut.ensures.value) refl)

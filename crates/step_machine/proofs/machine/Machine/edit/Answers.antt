@@ -11,8 +11,12 @@ returns-in-Some-clause-threads c =
     let th = c.index_mut-thread.result.now in
     let at = read_at _ c.from.ensures c.requires.thread c.index_mut-thread.ensures.value in
     let cut : c.if-is_reversal.thread ≡ (is_reversal c.args.event || th.cut) = elim c.if-is_reversal.branch [
-      | then-is_reversal w ↦ let e : (is_reversal c.args.event) ≡ true = sym c.is_reversal.ensures ∙ w.if-is_reversal.true in w.thread-is ∙ w.if-is_reversal.true ∙ sym (ap (λ b. b || th.cut) e)
-      | else-is_reversal w ↦ let e : (is_reversal c.args.event) ≡ false = sym c.is_reversal.ensures ∙ w.if-is_reversal.false in w.thread-is ∙ sym (ap (λ b. b || th.cut) e)
+      | then-is_reversal w ↦
+          let e : (is_reversal c.args.event) ≡ true = sym c.is_reversal.ensures ∙ w.if-is_reversal.true in
+          w.thread-is ∙ w.if-is_reversal.true ∙ sym (ap (λ b. b || th.cut) e)
+      | else-is_reversal w ↦
+          let e : (is_reversal c.args.event) ≡ false = sym c.is_reversal.ensures ∙ w.if-is_reversal.false in
+          w.thread-is ∙ sym (ap (λ b. b || th.cut) e)
     ] in
     is_noted c.args.event c.args.t.0 c.from.result ths th c.fell_asleep-thread.result c.if-is_reversal.thread
     c.set_base.new.self c.from.ensures at c.fell_asleep-thread.ensures cut
@@ -25,8 +29,12 @@ returns-in_default-clause-threads c =
     let th = c.index_mut-thread.result.now in
     let at = read_at _ c.from.ensures c.requires.thread c.index_mut-thread.ensures.value in
     let cut : c.if-is_reversal.thread ≡ (is_reversal c.args.event || th.cut) = elim c.if-is_reversal.branch [
-      | then-is_reversal w ↦ let e : (is_reversal c.args.event) ≡ true = sym c.is_reversal.ensures ∙ w.if-is_reversal.true in w.thread-is ∙ w.if-is_reversal.true ∙ sym (ap (λ b. b || th.cut) e)
-      | else-is_reversal w ↦ let e : (is_reversal c.args.event) ≡ false = sym c.is_reversal.ensures ∙ w.if-is_reversal.false in w.thread-is ∙ sym (ap (λ b. b || th.cut) e)
+      | then-is_reversal w ↦
+          let e : (is_reversal c.args.event) ≡ true = sym c.is_reversal.ensures ∙ w.if-is_reversal.true in
+          w.thread-is ∙ w.if-is_reversal.true ∙ sym (ap (λ b. b || th.cut) e)
+      | else-is_reversal w ↦
+          let e : (is_reversal c.args.event) ≡ false = sym c.is_reversal.ensures ∙ w.if-is_reversal.false in
+          w.thread-is ∙ sym (ap (λ b. b || th.cut) e)
     ] in
     is_noted c.args.event c.args.t.0 c.from.result ths th c.fell_asleep-thread.result c.if-is_reversal.thread
     th.record.value c.from.ensures at c.fell_asleep-thread.ensures cut

@@ -10,4 +10,5 @@ some_reversal (e ∷ es) = ap (λ b. is_reversal e.event || b) (some_reversal es
 pub returns : goal.returns
 returns c =
     let es = c.args.self.now.log.entries in
-    any_from_yields_List (λ (e : Entry). is_reversal e.event) _ _ _ c.any.ensures.ran (YieldsList-from_slice es cc) (λ x b q k. search (rules, tests)) ∙ some_reversal es
+    any_from_yields_List (λ (e : Entry). is_reversal e.event) _ _ _ c.any.ensures.ran (YieldsList-from_slice es cc)
+    (λ x b q k. search (rules, tests)) ∙ some_reversal es

@@ -15,4 +15,5 @@ returns-clause-steps c d s u h lawful may =
     let t = c.args.t.0 in
     let l = c.args.l.0 in
     let k = c.args.held.0 in
-    c.stamp.ensures.step d (after_refuse s t l k) (refusal_shown t l k h) (keeps d s (Refuses t l k) may.0 lawful) may.1.0
+    c.stamp.ensures.step d (after_refuse s t l k) (refusal_shown t l k h)
+    (keeps d s (Refuses t l k) may.0 lawful) may.1.0

@@ -17,13 +17,16 @@ bits_of-woken-requires c =
 pub returns-clause-step : goal.returns-clause-step
 returns-clause-step c k s h lawful g =
     let at = read h.threads g.thread c.from.ensures c.index_mut-thread.ensures.value in
-    rw c.from.ensures (woken_shown c.args.c.0 c.args.all h lawful g at c.take_off-sleepers.result c.take_off-sleepers.ensures.queues c.take_off-sleepers.ensures.marks)
+    rw c.from.ensures (woken_shown c.args.c.0 c.args.all h lawful g at c.take_off-sleepers.result
+    c.take_off-sleepers.ensures.queues c.take_off-sleepers.ensures.marks)
 
 pub returns-clause-woken : goal.returns-clause-woken
 returns-clause-woken c k s h lawful =
-    c.bits_of-woken.ensures ∙ ap bits_of_threads (woken_are c.args.c.0 c.args.all h lawful c.take_off-sleepers.result c.take_off-sleepers.ensures.marks)
+    c.bits_of-woken.ensures ∙ ap bits_of_threads
+    (woken_are c.args.c.0 c.args.all h lawful c.take_off-sleepers.result c.take_off-sleepers.ensures.marks)
 
 pub returns-clause-progress : goal.returns-clause-progress
 returns-clause-progress c =
     let m = c.requires.may in
-    rw c.from.ensures (aside_stays _ _ _ (read m.2.threads m.4.thread c.from.ensures c.index_mut-thread.ensures.value) refl)
+    rw c.from.ensures
+    (aside_stays _ _ _ (read m.2.threads m.4.thread c.from.ensures c.index_mut-thread.ensures.value) refl)

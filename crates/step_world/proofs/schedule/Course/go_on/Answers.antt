@@ -7,7 +7,8 @@ use Rattle.step_world.proofs.schedule.Course.go_on.Goals as goal
 use Rattle.step_world.proofs.schedule.Course.go_on.Goals.{After-make_turn, then-is_through, else-is_through}
 
 -- the run isn't over
-going : (c : After-make_turn) (k : run.Course) → IsCourse c.args.self.now k → is_over c.args.self.now.world.plan k ≡ false
+going : (c : After-make_turn) (k : run.Course) → IsCourse c.args.self.now k
+    → is_over c.args.self.now.world.plan k ≡ false
 going c k h = sym (c.is_over.ensures k h) ∙ c.if-is_over.false
 
 -- and somebody comes
@@ -33,13 +34,16 @@ pub returns-clause-course : goal.returns-clause-course
 returns-clause-course c k h =
     let r = ready c k h in
     let plan = c.args.self.now.world.plan in
-    subst (λ (j : run.Course). IsCourse c.make_turn.new.self j) (r.makes ∙ sym (ap (λ (b : Bool). cond b k (after_turn plan k k.coming)) (going c k h))) (c.make_turn.ensures.course r.from r.is_course)
+    subst (λ (j : run.Course). IsCourse c.make_turn.new.self j)
+    (r.makes ∙ sym (ap (λ (b : Bool). cond b k (after_turn plan k k.coming)) (going c k h)))
+    (c.make_turn.ensures.course r.from r.is_course)
 
 pub returns-clause-turn : goal.returns-clause-turn
 returns-clause-turn c k h =
     let r = ready c k h in
     let plan = c.args.self.now.world.plan in
-    c.make_turn.ensures.turn r.from r.is_course ∙ r.first ∙ sym (ap (λ (b : Bool). cond b None (first_turn plan k.run (k.coming ++ round_of plan k.run))) (going c k h))
+    c.make_turn.ensures.turn r.from r.is_course ∙ r.first
+    ∙ sym (ap (λ (b : Bool). cond b None (first_turn plan k.run (k.coming ++ round_of plan k.run))) (going c k h))
 
 pub returns-clause-over : goal.returns-clause-over
 returns-clause-over c k h = made c k h ∙ sym (going c k h)

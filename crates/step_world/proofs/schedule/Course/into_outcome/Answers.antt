@@ -21,5 +21,12 @@ returns c k h =
     let shows : Represents c.self.inside.world k.run = subst (λ (w : World). Represents w k.run) (sym world) h.shows in
     let queues = ap (map line_seen) c.from_vec.ensures ∙ c.in_ok-queues.ensures k.run shows in
     let last = c.last-last.ensures k h ∙ ap (λ (w : World). run.ending_of w.plan k) (sym world) in
-    let o : Outcome = record { history = c.of_log.result; queues = c.from_vec.result; finals = c.from_vec-2.result; tables = c.into_machine-machine.result.tables; last = c.last-last.result } in
-    subst (λ (w : World). outcome_seen o ≡ outcome_of w.plan w.chains k) world (printed c.self.inside.world k o shows history queues finals (ap (λ (n : Machine). n.tables) taken) last)
+    let o : Outcome = record {
+      history = c.of_log.result;
+      queues = c.from_vec.result;
+      finals = c.from_vec-2.result;
+      tables = c.into_machine-machine.result.tables;
+      last = c.last-last.result;
+    } in
+    subst (λ (w : World). outcome_seen o ≡ outcome_of w.plan w.chains k) world
+    (printed c.self.inside.world k o shows history queues finals (ap (λ (n : Machine). n.tables) taken) last)

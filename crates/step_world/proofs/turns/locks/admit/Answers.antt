@@ -6,9 +6,11 @@ use Rattle.step_world.proofs.ActionsOfTakes as actions
 use Rattle.step_world.proofs.turns.locks.admit.Goals as goal
 
 -- the classes that were written
-written : (plan : Plan) {hs ds : List Held} (cs : List ClassNo) {n k : ℕ} → n ≡ k → length ds ≡ k → ds ≡ hs → numbers_of (take (length ds) cs) ≡ map (λ h. lock_class plan h.l.0) ds
+written : (plan : Plan) {hs ds : List Held} (cs : List ClassNo) {n k : ℕ} → n ≡ k → length ds ≡ k → ds ≡ hs
+    → numbers_of (take (length ds) cs) ≡ map (λ h. lock_class plan h.l.0) ds
     → numbers_of (take n cs) ≡ map (λ h. lock_class plan h.l.0) hs
-written plan cs long as_long same e = ap (λ (i : ℕ). numbers_of (take i cs)) (long ∙ sym as_long) ∙ e ∙ ap (map (λ (h : Held). lock_class plan h.l.0)) same
+written plan cs long as_long same e = ap (λ (i : ℕ). numbers_of (take i cs)) (long ∙ sym as_long) ∙ e
+    ∙ ap (map (λ (h : Held). lock_class plan h.l.0)) same
 
 pub put_classes-requires : goal.put_classes-requires
 put_classes-requires c =

@@ -14,7 +14,10 @@ lend_to-requires c =
 pub end_walk-requires : goal.end_walk-requires
 end_walk-requires c =
     let q = c.requires.run in
-    record { may = may_next (ends_at_lock c.requires.proper c.requires.thread q.1 q.2 (c.in-None.ensures (config_of c.args.plan.now) q.0.state q.1.shows.shows q.1.on_track.lawful.lawful)).turning }
+    record {
+      may = may_next (ends_at_lock c.requires.proper c.requires.thread q.1 q.2
+          (c.in-None.ensures (config_of c.args.plan.now) q.0.state q.1.shows.shows q.1.on_track.lawful.lawful)).turning;
+    }
 
 pub returns-in-Some-clause-follows : goal.returns-in-Some-clause-follows
 unfolding after_lend

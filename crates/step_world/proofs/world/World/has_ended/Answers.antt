@@ -9,8 +9,10 @@ returns c =
     let plan = w.plan.now in
     let t = c.args.t.0 in
     let th = c.index.result.now in
-    let within : t < length plan.threads = subst (λ (v : World). t < length v.plan.threads) (sym c.self.view_is) c.requires in
+    let within : t
+    < length plan.threads = subst (λ (v : World). t < length v.plan.threads) (sym c.self.view_is) c.requires in
     rw (← c.self.view_is) (λ r h.
     c.has_ended.ensures
     ∙ ap (λ (ops : List Op). thread_has_ended (length ops) th) c.operations_of.ensures
-    ∙ ends_as_said plan w.machine r t th c.self.invariant.proper h within (read h.shows.shows.threads within c.from.ensures c.index.ensures))
+    ∙ ends_as_said plan w.machine r t th c.self.invariant.proper h within
+    (read h.shows.shows.threads within c.from.ensures c.index.ensures))

@@ -6,4 +6,5 @@ use Rattle.step_world.proofs.world.World.held.Goals as goal
 pub returns-clause-order : goal.returns-clause-order
 returns-clause-order c r h =
     let w = c.args.self.now in
-    in_order w.plan w.machine r c.args.t.0 c.thread.result.now h c.requires c.thread.ensures ∙ ap gained_order (sym c.deref.ensures.value)
+    in_order w.plan w.machine r c.args.t.0 c.thread.result.now h c.requires c.thread.ensures
+    ∙ ap gained_order (sym c.deref.ensures.value)

@@ -9,7 +9,8 @@ invariant_of-result c =
       proper = c.requires.proper;
       some_chains = c.requires.some_chains;
       few_chains = c.requires.few_chains;
-      run = (start_run (config_of plan), at_begin plan c.in_ok-machine.machine c.requires.proper c.in_ok-machine.ensures);
+      run =
+          (start_run (config_of plan), at_begin plan c.in_ok-machine.machine c.requires.proper c.in_ok-machine.ensures);
     }
 
 pub returns-clause-begins : goal.returns-clause-begins

@@ -12,5 +12,7 @@ queue_lines-requires-clause-short c =
 pub returns : goal.returns
 returns c =
     let w = c.self.inside in
-    rw (← c.self.view_is) (lines_told c.queue_lines.result (record { plan = w.plan.now; chains = w.chains; machine = w.machine }) (lines_of w.chains (config_of w.plan.now) w.machine) c.queue_lines.ensures
+    rw (← c.self.view_is)
+    (lines_told c.queue_lines.result (record { plan = w.plan.now; chains = w.chains; machine = w.machine })
+    (lines_of w.chains (config_of w.plan.now) w.machine) c.queue_lines.ensures
     (λ r h. lines_are w.plan.now w.chains w.machine r h.shows))

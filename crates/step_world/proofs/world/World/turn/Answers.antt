@@ -19,32 +19,38 @@ invariant_of-world c =
       few_chains = i.few_chains;
       run = (
         run_behind w.plan.now i.run.0 c.args.t.0,
-        behind_turn w.plan.now w.machine c.turn.new.machine c.turn.result c.args.t.0 i.proper (within c) c.turn.ensures.follows i.run.0 i.run.1,
+        behind_turn w.plan.now w.machine c.turn.new.machine c.turn.result c.args.t.0 i.proper
+            (within c) c.turn.ensures.follows i.run.0 i.run.1,
       );
     }
 
 pub returns-clause-turn : goal.returns-clause-turn
 returns-clause-turn c =
     let w = c.world.inside in
-    rw (← c.world.view_is) (behind_turn w.plan.now w.machine c.turn.new.machine c.turn.result c.args.t.0 c.world.invariant.proper (within c) c.turn.ensures.follows)
+    rw (← c.world.view_is) (behind_turn w.plan.now w.machine c.turn.new.machine c.turn.result c.args.t.0
+    c.world.invariant.proper (within c) c.turn.ensures.follows)
 
 -- what is said of the action's answer is said of the turn's
 pub returns-clause-idle : goal.returns-clause-idle
 returns-clause-idle c =
     let w = c.world.inside in
-    rw (← c.world.view_is) (λ r h. subst (λ (a : Turn). a ≡ Idle ↔ IsSleeping w.plan.now r c.args.t.0) (sym (c.turn.ensures.follows r h tt).0) (idle.idle_exactly w.plan.now r c.args.t.0 c.world.invariant.proper h.on_track))
+    rw (← c.world.view_is)
+    (λ r h. subst (λ (a : Turn). a ≡ Idle ↔ IsSleeping w.plan.now r c.args.t.0) (sym (c.turn.ensures.follows r h tt).0)
+    (idle.idle_exactly w.plan.now r c.args.t.0 c.world.invariant.proper h.on_track))
 
 pub returns-clause-ended : goal.returns-clause-ended
 returns-clause-ended c =
     let w = c.world.inside in
-    rw (← c.world.view_is) (λ r h. subst (λ (a : Turn). a ≡ Ended ↔ has_ended w.plan.now r c.args.t.0 ≡ true) (sym (c.turn.ensures.follows r h tt).0) (idle.ended_exactly w.plan.now r c.args.t.0))
+    rw (← c.world.view_is) (λ r h. subst (λ (a : Turn). a ≡ Ended ↔ has_ended w.plan.now r c.args.t.0 ≡ true)
+    (sym (c.turn.ensures.follows r h tt).0) (idle.ended_exactly w.plan.now r c.args.t.0))
 
 pub returns-clause-lawful : goal.returns-clause-lawful
 returns-clause-lawful c =
     let w = c.world.inside in
     let i = c.world.invariant in
     let r : Run = run_behind w.plan.now i.run.0 c.args.t.0 in
-    let shows = behind_turn w.plan.now w.machine c.turn.new.machine c.turn.result c.args.t.0 i.proper (within c) c.turn.ensures.follows i.run.0 i.run.1 in
+    let shows = behind_turn w.plan.now w.machine c.turn.new.machine c.turn.result c.args.t.0 i.proper
+    (within c) c.turn.ensures.follows i.run.0 i.run.1 in
     (r, shows, shows.on_track.lawful)
 
 pub returns-clause-ordered : goal.returns-clause-ordered
@@ -54,4 +60,5 @@ pub returns-clause-no_cycle : goal.returns-clause-no_cycle
 returns-clause-no_cycle c r h cycle = no_cycle (config_of c.world.inside.plan.now) r.state h.on_track.ordered cycle
 
 pub returns-clause-best : goal.returns-clause-best
-returns-clause-best c r h still no_cycle t lt = effective_best (config_of c.world.inside.plan.now) r.state h.on_track.lawful.lawful still t lt no_cycle
+returns-clause-best c r h still no_cycle t lt =
+    effective_best (config_of c.world.inside.plan.now) r.state h.on_track.lawful.lawful still t lt no_cycle
