@@ -27,7 +27,7 @@ pub const HELP: &[&str] = &[
 ];
 
 /// The version, which is the date of the newest change in `CHANGELOG.md`.
-pub const VERSION: &str = "2026.12.01";
+pub const VERSION: &str = "2026.12.02";
 
 // An option: its name, what its text may be, and what that is called.
 macro_rules! option {
