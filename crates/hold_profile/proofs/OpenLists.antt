@@ -95,10 +95,6 @@ sections_below c n (e ∷ es) h = go (begins c e.event) (sections_below c n es r
         All-cons (IsBelow n) _ (sections_of c es)
         (record { begin = All-head P e es h; end = find_in P (ends_section c e.thread.0 l) es rest }) k
 
-    go : (o : Option ℕ) → All Q (sections_of c es) → All Q (section_before c e es o (sections_of c es))
-    go None k = k
-    go (Some l) k = All-cons Q _ (sections_of c es) (All-head (λ (x : Entry). x.thread.0 < n) e es h) k
-
 -- 3. The sections of a lock
 
 -- whether an event begins a section of the lock

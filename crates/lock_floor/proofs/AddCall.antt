@@ -7,7 +7,7 @@ use Rattle.std.proofs.Common.{◌≡◌, ◌∷◌}
 use Rattle.std.specs.Prelude.{IsSome}
 use Rattle.lock_floor.proofs.AddStep.{AddedTo}
 use Rattle.lock_floor.proofs.BothChanged.{Worked}
-use Rattle.lock_floor.proofs.LieDownCall.{before_work, lain_down}
+use Rattle.lock_floor.proofs.LieDownCall.{lain_down}
 use Rattle.lock_floor.proofs.Tied.{tied_on}
 
 module _ (floor : Description) (me behind : Me Slot Knowledge) (d : ℕ) (told : AddedTo floor d me behind)

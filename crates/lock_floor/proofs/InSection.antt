@@ -7,7 +7,7 @@ use Names.{bound_to, taking_from, ThreadRec, Turnstile, config_in, Description, 
 use Names.{SleepQueues, Graph, is_off_queues, Knowledge, seeing, IsOfKind, Takes, IsGoing, IsAtRest, looked, sought}
 use Names.{took, its_chain, chain_place, readied, both_out}
 use Rattle.std.proofs.Common.{◌≡◌, ◌⊎◌, ◌∷◌, ◌∙◌}
-use Rattle.lock_floor.proofs.MayWait.{IsNoSleeper, round_bound, turnstiles_taken}
+use Rattle.lock_floor.proofs.MayWait.{IsNoSleeper, turnstiles_taken}
 use Rattle.lock_floor.proofs.OwnRecords.{own_turnstile}
 
 -- 1. What stays from the begin of a round to its end

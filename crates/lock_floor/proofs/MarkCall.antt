@@ -9,7 +9,7 @@ use Rattle.lock_objects.specs.Marked.{IsFirst}
 use Rattle.lock_objects.specs.declared.marked.Woken.{Woken}
 use Rattle.lock_floor.proofs.MarkStep.{MarkedFirst, mark_allowed}
 use Rattle.lock_floor.proofs.Tied.{tied_then}
-use Rattle.lock_floor.proofs.Marked.{first_thread, first_cause, first_away, first_record, others_marked}
+use Rattle.lock_floor.proofs.Marked.{first_thread, first_cause, first_record, others_marked}
 
 module _ (floor : Description) (me : Me Slot Knowledge) (w : Woken) (old new : Marked) (slot u : ℕ)
     (need : MayMark floor me.0) (are : AreMarked floor old me.0.share.doing.marked) (first : IsFirst w old new)

@@ -43,23 +43,6 @@ pub may_run_again : (floor : Description) (v : Knowledge) (q : QueueName) → v.
     → MayRunAgain floor v
 may_run_again floor v q stands empty no_walk stamped at left = grind arith
 
-    not_running : s.wait v.thread ≡ Running → ⊥
-    not_running runs = elim posed [
-      | inl z ↦ let y : Queued ≡ Running = sym z.0 ∙ runs in cc
-      | inr z ↦ let y : Woken q z.0 ≡ Running = sym z.1 ∙ runs in cc
-    ]
-
-    -- the queue that its record names is that one
-    there : {r : QueueName} → s.blocked_on v.thread ≡ Some r → q ≡ r
-    there {r} on = elim posed [
-      | inl z ↦ same_Some q r (sym z.1 ∙ on)
-      | inr z ↦ absurd (let y : Woken q z.0 ≡ Queued = sym z.1
-          ∙ standing_queued s (config_in floor) f.sound.facts.lawful v.thread r on in cc)
-    ]
-
-    released : (r : QueueName) → q ≡ r → HasReleased (config_in floor) s v.thread r
-    released r is = subst (HasReleased (config_in floor) s v.thread) is (has_released floor v s f q left)
-
 -- a thread that isn't on its way to a queue, goes on and has nothing out may take a record
 pub may_take_record : (floor : Description) (v : Knowledge) (u : ℕ) → IsOffTheWay v.pose → v.out ≡ [] → IsGoing v
     → u < length floor.threads

@@ -7,7 +7,7 @@ use Names.{out_asleep, IsTied, chain_place, arith}
 use Rattle.std.proofs.Common.{◌≡◌, ◌∷◌, ◌∙◌}
 use Rattle.std.specs.Prelude.{IsSome}
 use Rattle.lock_floor.proofs.BothChanged.{Worked}
-use Rattle.lock_floor.proofs.LieDownCall.{before_work, lain_down}
+use Rattle.lock_floor.proofs.LieDownCall.{lain_down}
 use Rattle.lock_floor.proofs.SleepEnterStep.{EntersWord, ToldEntered}
 use Rattle.lock_floor.proofs.Tied.{tied_on}
 

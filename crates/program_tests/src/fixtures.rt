@@ -1,4 +1,5 @@
 //! Calls of programs, with their ends in memory, runs of plans, and the scripts that several subjects run.
+ghost use Rattle.std.specs.Prelude.{◌≤◌};
 ghost use Rattle.lock_model.specs.Operations.{IsProper};
 
 use crate::briefs::{bytes_of, words_of};
@@ -50,12 +51,15 @@ impl Ends {
         alloc: Global,
         line: &str,
         script: &[&str],
-        (read, source_fails): (usize, u32),
-        (written, sink_fails): (usize, u32),
-    ) -> Result<Ends, AllocError> {
+        reads: (usize, u32),
+        writes: (usize, u32),
+    ) -> Result<Ends, AllocError>
+        requires reads { 1 ≤ reads.0 }
+        requires writes { 1 ≤ writes.0 }
+    {
         let words = words_of(alloc, line)?;
-        let source = source(alloc, script, read, source_fails)?;
-        let sink = sink(alloc, 2_000_000, written, sink_fails)?;
+        let source = source(alloc, script, reads.0, reads.1)?;
+        let sink = sink(alloc, 2_000_000, writes.0, writes.1)?;
         Ok(Ends {
             words,
             source,
@@ -102,12 +106,9 @@ impl Ends {
     }
 }
 
-fn source(
-    alloc: Global,
-    script: &[&str],
-    piece: usize,
-    fails: u32,
-) -> Result<MemSource, AllocError> {
+fn source(alloc: Global, script: &[&str], piece: usize, fails: u32) -> Result<MemSource, AllocError>
+    requires { 1 ≤ piece }
+{
     let bytes = bytes_of(alloc, script)?;
     Ok(MemSource::new(bytes, piece, vec![in alloc; fails]?))
 }
@@ -118,7 +119,9 @@ pub(crate) fn sink(
     room: usize,
     piece: usize,
     fails: u32,
-) -> Result<MemSink, AllocError> {
+) -> Result<MemSink, AllocError>
+    requires { 1 ≤ piece }
+{
     MemSink::new(alloc, room, piece, vec![in alloc; fails]?)
 }
 

@@ -18,8 +18,8 @@
 //!
 //! Calls of programs:
 //! - `texts`: of `lockrun`, at ends that fail, and with threads that meet.
-//! - `bad_days`: of `lockrun`, where each call of an end fails in turn, and of scripts that break off, or are as long as
-//!   may be.
+//! - `bad_days`: of `lockrun` if each call of an end fails in turn, and of scripts that break off or are as long as may
+//!   be.
 //! - `pictures`: of `lockchart`, and what a renderer is given.
 //! - `schedules`: of `lockplan`, the schedules that policies make, and words that are no form.
 //!

@@ -22,29 +22,11 @@ use Rattle.tick_sleep.specs.declared.queue.TickQueue.TheInside.{Inside}
 use Rattle.tick_sleep.specs.declared.who.Who.{Who}
 use Rattle.tick_sleep.specs.declared.who.Who.TheVariants.{Best, All, Thread}
 use Rattle.tick_sleep.proofs.Once.{is_of-same, sleeps-last, once_last, gone-without, others-without}
-use Rattle.tick_sleep.proofs.Expiry.{none_due_last, none_due_without, none_due_filter}
+use Rattle.tick_sleep.proofs.Expiry.{none_due_without, none_due_filter}
 use Rattle.tick_sleep.proofs.Keyed.{on_key-last, on_key-without, on_key-off, on_key-others, sleeps-off, counts_on, on_counts}
 use Rattle.tick_sleep.proofs.Rolling.{its_thread, found_own}
 
 module _ (q : Inside) (sound : IsSound q) where
-
-      home : (u : ℕ) → u < length q.prios.items
-          → cond (eqb s.t.0 u) false (is_home u q.table) ≡ not (sleeps u (q.roll ++ s ∷ []))
-      home u l = elim (cases_eq s.t.0 u) [
-        | inl e ↦ let here : is_of u s ≡ true = eq-eqb s.t.0 u e in
-            rw (eq-eqb s.t.0 u e, sleeps-last u q.roll s, here) (or_true (sleeps u q.roll))
-        | inr ne ↦ let there : is_of u s ≡ false = ne_eqb s.t.0 u ne in
-            rw (ne_eqb s.t.0 u ne, sleeps-last u q.roll s, there, sound.at_home u l) (or_false (sleeps u q.roll))
-      ]
-        where
-          or_true : (b : Bool) → false ≡ not (b || true)
-          or_true true = refl
-          or_true false = refl
-
-          or_false : (b : Bool) → not b ≡ not (b || false)
-          or_false true = refl
-          or_false false = refl
-
   -- one thread wakes up
   module _ (once : IsOnce q.roll) (s : TickSleeper) (found : find (is_of s.t.0) q.roll ≡ Some s) (who : Who)
       (table : Table) (wakes : Wakes q.table table s.key who)
