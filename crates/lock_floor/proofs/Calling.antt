@@ -28,8 +28,6 @@ pub record IsCalling (floor : Description) (v : Knowledge) : Type 0 where
 pub calls : (floor : Description) (v : Knowledge) → IsAtRest floor v → IsCalling floor v
 calls floor v r = assumption r
 
-module _ (floor : Description) (seen : List Step) (v : Knowledge) (k : IsCalling floor v) where
-
 -- 2. The gain of the lock that is being taken, and its entry
 
 module _ (floor : Description) (v : Knowledge) (l : LockNo) (mode : Mode) (k : IsCalling floor v)

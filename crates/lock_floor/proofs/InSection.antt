@@ -24,8 +24,6 @@ pub record IsAcquiring (floor : Description) (l : ℕ) (r : Round) (v : Knowledg
   pub sections : (k : ℕ) → open_in (config_in floor) v.share.log v.thread k ≡ hold_in v.share.held k
 
 module _ (floor : Description) (l : ℕ) where
-  module _ (r : Round) (seen : List Step) (v : Knowledge) (h : IsAcquiring floor l r v) where
-
   -- 2. What is out
 
   pub chain_out : (old new : Knowledge)
